@@ -17,8 +17,8 @@ use Rattle.asn1_der.specs.Der.{IsDer, IsDerEncoding}
 use Rattle.asn1_der.specs.Steps.{AreDer}
 use Rattle.asn1_der.proofs.Encodings.{der_whole}
 use Rattle.simple_asn1.specs.Canonical.{all_canonical, canonical, shortest_encoding}
-use Rattle.simple_asn1.proofs.Placed.{contents_le, shortest_encodes}
-use Rattle.simple_asn1.proofs.Strict.{canonical_encoding}
+use Rattle.simple_asn1.proofs.Placed.{length-le_shortest_encoding, Encoding-shortest_encoding}
+use Rattle.simple_asn1.proofs.Strict.{IsEncoding-canonical}
 use Rattle.asn1_laws.specs.Spellings.{HasNoOtherSpelling, is_written_otherwise}
 use Rattle.asn1_laws.proofs.Encodings.{AreOctets-first, AreOctets-second, AreOctets-contents, length-contents-lt, IsRightAlone-group, IsRightAlone-leaf, AreDer-first}
 use Rattle.asn1_laws.proofs.Kept.{LeafContents-plain, is_written_otherwise-leaf_contents}
@@ -151,8 +151,8 @@ shortest_encoding-same_contents :
     Encoding x c j m v h →
     x ≡ shortest_encoding d k n w → v ≡ w
 shortest_encoding-same_contents x c d j k m n v w h small F e =
-    let size : length w < 2 ^ 64 = omega (arith, small, ap length e, contents_le d k n w) in
-    (encoding_alone x (shortest_encoding d k n w) c d j k m n v w h _ [] [] F (shortest_encodes d k n w size)
+    let size : length w < 2 ^ 64 = omega (arith, small, ap length e, length-le_shortest_encoding d k n w) in
+    (encoding_alone x (shortest_encoding d k n w) c d j k m n v w h _ [] [] F (Encoding-shortest_encoding d k n w size)
     (ap (λ z. z ++ []) e)).contents
 
 -- the first of canonical octets
@@ -166,7 +166,8 @@ all_canonical-fronts :
     x ≡ all_canonical (more_trees b bs) → Fronts first rest b bs
 all_canonical-fronts o x first rest b bs small s w e =
     let F = IsEncoding-block first (IsBlock-encodes o first b s) in
-    let G = canonical_encoding b (omega (arith, small, ap length e, length-append (canonical b) (all_canonical bs))) in
+    let G =
+    IsEncoding-canonical b (omega (arith, small, ap length e, length-append (canonical b) (all_canonical bs))) in
     let same = encoding_alone first (canonical b) F.class G.class F.constructed G.constructed F.tag G.tag F.contents
     G.contents F.header G.header
     rest (all_canonical bs) F.encoding G.encoding (sym w ∙ e) in

@@ -11,8 +11,8 @@ use Rattle.asn1_der.specs.Der.{AreDerEncodings, IsDer, IsDerEncoding, IsShortest
 use Rattle.asn1_der.specs.Steps.{AreDer, IsWhole}
 use Rattle.asn1_der.proofs.Encodings.{der_whole, whole_der}
 use Rattle.simple_asn1.specs.Canonical.{all_canonical, canonical, shortest_encoding}
-use Rattle.simple_asn1.proofs.Placed.{canonical_some, contents_le, header_size, shortest_encodes}
-use Rattle.simple_asn1.proofs.Strict.{canonical_encoding}
+use Rattle.simple_asn1.proofs.Placed.{length-canonical_some, length-le_shortest_encoding, header_size, Encoding-shortest_encoding}
+use Rattle.simple_asn1.proofs.Strict.{IsEncoding-canonical}
 use Rattle.asn1_laws.specs.DerTrees.{AreDerTrees, IsDerTree, each_canonical}
 use Rattle.asn1_laws.proofs.Encodings.{IsRightAlone-leaf, AreDer-first}
 use Rattle.asn1_laws.proofs.WrittenLeaves.{is_der_leaf-leaf_contents, HasDerContents-leaf_contents}
@@ -72,13 +72,13 @@ IsWhole-shortest_encoding : (c : ASN1Class) (k : Bool) (n : ℕ) (v : List ℕ) 
     → IsWhole (shortest_encoding c k n v) c k n v
 IsWhole-shortest_encoding c k n v small d =
     der_whole (shortest_encoding c k n v) c k n v (header_size c k n v) small
-    (shortest_encodes c k n v (omega (arith, small, contents_le c k n v))) d
+    (Encoding-shortest_encoding c k n v (omega (arith, small, length-le_shortest_encoding c k n v))) d
 
 -- the first that is written, and the others
 AreDer-canonical_first : (b : Tree ℕ) (rest whole : List ℕ) → whole ≡ canonical b ++ rest → length whole < 2 ^ 64 →
     AreDer whole → IsDerEncoding (canonical b) × AreDer rest
 AreDer-canonical_first b rest whole e small d =
-    let G = canonical_encoding b (omega (arith, small, ap length e, length-append (canonical b) rest)) in
+    let G = IsEncoding-canonical b (omega (arith, small, ap length e, length-append (canonical b) rest)) in
     let s = AreDer-first whole (canonical b) rest G.class G.constructed G.tag G.contents G.header G.encoding e small
     d in
     (s.der, s.more)
@@ -92,17 +92,20 @@ mutual
       is_der_leaf-leaf_contents l f (IsRightAlone-leaf l false (leaf_contents l) w.alone.1).1
   IsDerTree-canonical (group o Sequence bs) small f d =
       let w = IsWhole-shortest_encoding Universal true 16 (all_canonical bs) small d in
-      AreDerTrees-all_canonical bs (omega (arith, small, contents_le Universal true 16 (all_canonical bs))) f
+      AreDerTrees-all_canonical bs
+      (omega (arith, small, length-le_shortest_encoding Universal true 16 (all_canonical bs))) f
       (w.items refl)
   IsDerTree-canonical (group o Set bs) small f d =
       let w = IsWhole-shortest_encoding Universal true 17 (all_canonical bs) small d in
       let t =
-      AreDerTrees-all_canonical bs (omega (arith, small, contents_le Universal true 17 (all_canonical bs))) f
+      AreDerTrees-all_canonical bs
+      (omega (arith, small, length-le_shortest_encoding Universal true 17 (all_canonical bs))) f
       (w.items refl) in
       (t, w.alone.1.1 refl (each_canonical bs) (AreDerEncodings-all_canonical bs f t))
   IsDerTree-canonical (explicit c o n b) small f d =
       let w = IsWhole-shortest_encoding c true n (canonical b) small d in
-      let inner : length (canonical b) < 2 ^ 64 = omega (arith, small, contents_le c true n (canonical b)) in
+      let inner : length (canonical b) < 2 ^ 64 =
+      omega (arith, small, length-le_shortest_encoding c true n (canonical b)) in
       IsDerTree-canonical b inner f.1
       (AreDer-canonical_first b [] (canonical b) (sym (append-nil (canonical b))) inner (w.items refl)).0
   IsDerTree-canonical (unknown c k o n v) small f d =
@@ -127,7 +130,7 @@ IsDer-canonical b small f = (
   λ d. IsDerTree-canonical b small f
       (AreDer-canonical_first b [] (canonical b) (sym (append-nil (canonical b))) small (d.items, d.encodings)).0,
   λ t. record {
-    some = canonical_some b;
+    some = length-canonical_some b;
     items = canonical b ∷ [];
     encodings = more_encodings (sym (append-nil (canonical b))) (IsDerEncoding-canonical b f t) no_encodings;
   },
@@ -144,4 +147,5 @@ IsDer-all_canonical bs some small f = (
   where
     octets : (bs : Trees ℕ) → bs ≢ no_trees → 0 < length (all_canonical bs)
     octets no_trees some = absurd (some refl)
-    octets (more_trees b bs) some = omega (arith, canonical_some b, length-append (canonical b) (all_canonical bs))
+    octets (more_trees b bs) some =
+        omega (arith, length-canonical_some b, length-append (canonical b) (all_canonical bs))

@@ -1,10 +1,10 @@
 -- A document is canonical where each of its blocks, at whatever depth, has the shortest header and, as a leaf, the
 -- contents octets that are written.
-use Rattle.std.proofs.Common.{◌≡◌, ◌≢◌, ℕ, suc, ◌+◌, ◌-◌, ◌<◌, ◌≤◌, ◌^◌, Bool, true, false, List, [], ◌∷◌, ◌++◌, ◌⊎◌, inl, inr, length, take, drop, get_or, refl, sym, ap, ap₂, ◌∙◌, subst, arith, length-append, append_assoc, append-nil, drop-drop}
+use Rattle.std.proofs.Common.{◌≡◌, ◌≢◌, ℕ, suc, ◌+◌, ◌-◌, ◌<◌, ◌≤◌, ◌^◌, Bool, true, false, List, [], ◌∷◌, ◌++◌, ◌⊎◌, inl, inr, length, take, drop, get_or, refl, sym, ap, ap₂, ◌∙◌, subst, arith, length-append, append_assoc, append-nil}
 use Rattle.std.specs.Prelude.{All}
 use Rattle.std.specs.List.{slice_range}
 use Rattle.std.proofs.lemmas.Bool.{cases_lt, cond_below}
-use Rattle.std.proofs.lemmas.List.{drop_at, get_or-drop, length-drop, take_at}
+use Rattle.std.proofs.lemmas.List.{get_or-drop, length-drop, take_at}
 use Rattle.std.proofs.lemmas.List.Elements.{All-drop}
 use Rattle.std.specs.Int.Digits.{digits_of}
 use Rattle.asn1_numbers.specs.Base128.{shortest_base128}
@@ -27,17 +27,18 @@ use Rattle.asn1_outline.specs.Entries.{AreEntriesOf, HasHeaderAt, no_entry}
 use Rattle.asn1_outline.specs.Structure.{AreNodes, IsNode, Node, Nodes, more_nodes, no_node, no_nodes, node, node_in_order, node_tree, nodes_depths, nodes_in_order, nodes_trees}
 use Rattle.asn1_outline.specs.declared.entry.Entry.{Entry}
 use Rattle.asn1_outline.proofs.Entries.{length-entries, IsEntry-get_or}
-use Rattle.asn1_outline.proofs.Standing.{drop-contents, length-contents_le}
+use Rattle.asn1_outline.proofs.Standing.{drop-contents, length-contents_le, drop-first, drop-rest}
+use Rattle.asn1_outline.proofs.Values.{slice_range-at_offset}
 use Rattle.simple_asn1.specs.Canonical.{all_canonical, canonical, shortest_encoding}
 use Rattle.simple_asn1.specs.Inner.InEntries.{HasCanonicalAt, HasShortestAt, IsCanonicalEncoding}
 use Rattle.simple_asn1.specs.Inner.InPlace.{AreCanonicalContents}
-use Rattle.simple_asn1.proofs.InPlace.{shortest_front}
+use Rattle.simple_asn1.proofs.InPlace.{BeginsShortest-of_size}
 
 -- octets that encode a tree where a canonical encoding stands are canonical
-here :
+IsCanonicalEncoding-at_offset :
     (x y rest : List ℕ) (o : ℕ) (c : ASN1Class) (k : Bool) (n : ℕ) (v : List ℕ) (h : ℕ) → drop o x ≡ y ++ rest →
     Encoding y c k n v h → HasCanonicalAt x o → IsCanonicalEncoding y c k n v
-here x y rest o c k n v h s e there =
+IsCanonicalEncoding-at_offset x y rest o c k n v h s e there =
     let same = encoding_alone there.octets y there.class c there.constructed k there.tag n there.contents v there.header
     h
     there.at_offset.rest rest there.encoding e (sym there.at_offset.at_offset ∙ s) in
@@ -53,112 +54,106 @@ abbrev AllStand : List ℕ → List Node → Type 0
 AllStand x [] = Unit {0}
 AllStand x (n ∷ ns) = HasCanonicalAt x (tree_offset (node_tree n)) × AllStand x ns
 
-parted : (x : List ℕ) (ns ms : List Node) → AllStand x (ns ++ ms) → AllStand x ns × AllStand x ms
-parted x [] ms all = (tt, all)
-parted x (n ∷ ns) ms all =
-    let rest = parted x ns ms all.1 in
+-- where all nodes of two lists are canonical, those of each are
+AllStand-split : (x : List ℕ) (ns ms : List Node) → AllStand x (ns ++ ms) → AllStand x ns × AllStand x ms
+AllStand-split x [] ms all = (tt, all)
+AllStand-split x (n ∷ ns) ms all =
+    let rest = AllStand-split x ns ms all.1 in
     ((all.0, rest.0), rest.1)
 
-each_stands :
+-- where each node is canonical, all are
+AllStand-each :
     (x : List ℕ) (ns : List Node) →
     ((k : ℕ) → k < length ns → HasCanonicalAt x (tree_offset (node_tree (get_or ns k no_node)))) → AllStand x ns
-each_stands x [] f = tt
-each_stands x (n ∷ ns) f = (f 0 (omega arith), each_stands x ns (λ k h. f (suc k) (omega (arith, h))))
+AllStand-each x [] f = tt
+AllStand-each x (n ∷ ns) f = (f 0 (omega arith), AllStand-each x ns (λ k h. f (suc k) (omega (arith, h))))
 
--- the first of octets in the document, and the rest
-first_in : (x : List ℕ) (place : ℕ) (v first after rest : List ℕ) → drop place x ≡ v ++ rest → v ≡ first ++ after
-    → drop place x ≡ first ++ (after ++ rest)
-first_in x place v first after rest s e = s ∙ ap (λ z. z ++ rest) e ∙ append_assoc first after rest
-
-rest_in : (x : List ℕ) (place : ℕ) (v first after rest : List ℕ) → drop place x ≡ v ++ rest → v ≡ first ++ after
-    → drop (place + length first) x ≡ after ++ rest
-rest_in x place v first after rest s e =
-    let size = length first in
-    let two : drop size (drop place x) ≡ drop (place + size) x =
-    drop-drop size place x ∙ ap (λ z. drop z x) (omega arith) in
-    sym two ∙ ap (drop size) (first_in x place v first after rest s e) ∙ drop_at first (after ++ rest) size refl
-
--- a canonical encoding with other names of its fields
-renamed : (c : ASN1Class) (j k : Bool) (n : ℕ) (v w y : List ℕ) → y ≡ shortest_encoding c j n v → j ≡ k → v ≡ w
+-- a canonical encoding, by equal fields
+shortest_encoding-equal : (c : ASN1Class) (j k : Bool) (n : ℕ) (v w y : List ℕ) → y ≡ shortest_encoding c j n v →
+    j ≡ k → v ≡ w
     → y ≡ shortest_encoding c k n w
-renamed c j k n v w y e p q = e ∙ ap (λ z. shortest_encoding c z n v) p ∙ ap (λ z. shortest_encoding c k n z) q
+shortest_encoding-equal c j k n v w y e p q =
+    e ∙ ap (λ z. shortest_encoding c z n v) p ∙ ap (λ z. shortest_encoding c k n z) q
 
 mutual
-  node_canonical :
+  -- the octets of a node are its canonical octets where all nodes in it are canonical
+  canonical-node_tree :
       (x : List ℕ) (n : Node) (y rest : List ℕ) → drop (tree_offset (node_tree n)) x ≡ y ++ rest →
       Encodes (tree_offset (node_tree n)) y (node_tree n) → IsNode x n → AllStand x (node_in_order n) →
       y ≡ canonical (node_tree n)
-  node_canonical x (node (leaf o l) ns) y rest s e is all =
-      let is_canonical = here x y rest o Universal e.1 (leaf_tag l) e.2 e.3 s e.4 all.0 in
-      renamed Universal e.1 false (leaf_tag l) e.2 (leaf_contents l) y is_canonical.shortest
-      (is_canonical.primitive refl l refl) (is_canonical.leaf refl l refl e.5)
-  node_canonical x (node (group o g items) ns) y rest s e is all =
-      let is_canonical = here x y rest o Universal e.1 (group_tag g) e.2 e.3 s e.4 all.0 in
-      let stands = drop-contents x y rest Universal e.1 (group_tag g) e.2 o e.3 s e.4 in
-      let held = subst (λ z. EncodesAll (o + e.3) e.2 z) (sym is.0) e.5 in
-      let inside = nodes_canonical x ns (o + e.3) e.2 rest stands held is.1 all.1 in
-      renamed Universal e.1 true (group_tag g) e.2 (all_canonical items) y is_canonical.shortest
+  canonical-node_tree x (node (leaf o l) ns) y rest s (_, bit, contents, header, F, means) is all =
+      let is_canonical =
+      IsCanonicalEncoding-at_offset x y rest o Universal bit (leaf_tag l) contents header s F all.0 in
+      shortest_encoding-equal Universal bit false (leaf_tag l) contents (leaf_contents l) y is_canonical.shortest
+      (is_canonical.primitive refl l refl) (is_canonical.leaf refl l refl means)
+  canonical-node_tree x (node (group o g items) ns) y rest s (_, bit, contents, header, F, encoded) is all =
+      let is_canonical =
+      IsCanonicalEncoding-at_offset x y rest o Universal bit (group_tag g) contents header s F all.0 in
+      let stands = drop-contents x y rest Universal bit (group_tag g) contents o header s F in
+      let held = subst (λ z. EncodesAll (o + header) contents z) (sym is.0) encoded in
+      let inside = all_canonical-nodes_trees x ns (o + header) contents rest stands held is.1 all.1 in
+      shortest_encoding-equal Universal bit true (group_tag g) contents (all_canonical items) y is_canonical.shortest
       (is_canonical.group refl g refl) (inside ∙ ap all_canonical is.0)
-  node_canonical x (node (explicit c o n b) ns) y rest s e is all =
-      let is_canonical = here x y rest o c true n e.2 e.3 s e.4 all.0 in
-      let stands = drop-contents x y rest c true n e.2 o e.3 s e.4 in
-      let held = subst (λ z. EncodesAll (o + e.3) e.2 z) (sym is.0) (EncodesAll-single (o + e.3) e.2 b e.5) in
-      let inside = nodes_canonical x ns (o + e.3) e.2 rest stands held is.1 all.1 in
-      renamed c true true n e.2 (canonical b) y is_canonical.shortest refl
+  canonical-node_tree x (node (explicit c o n b) ns) y rest s (_, _, contents, header, F, item) is all =
+      let is_canonical = IsCanonicalEncoding-at_offset x y rest o c true n contents header s F all.0 in
+      let stands = drop-contents x y rest c true n contents o header s F in
+      let held =
+      subst (λ z. EncodesAll (o + header) contents z) (sym is.0) (EncodesAll-single (o + header) contents b item) in
+      let inside = all_canonical-nodes_trees x ns (o + header) contents rest stands held is.1 all.1 in
+      shortest_encoding-equal c true true n contents (canonical b) y is_canonical.shortest refl
       (inside ∙ ap all_canonical is.0 ∙ append-nil (canonical b))
-  node_canonical x (node (unknown c k o n v) ns) y rest s e is all = (here x y rest o c k n v e.1 s e.2 all.0).shortest
+  canonical-node_tree x (node (unknown c k o n v) ns) y rest s (_, header, F, _) is all =
+      (IsCanonicalEncoding-at_offset x y rest o c k n v header s F all.0).shortest
 
-  nodes_canonical :
+  -- the octets of nodes are their canonical octets where all nodes in them are canonical
+  all_canonical-nodes_trees :
       (x : List ℕ) (ns : Nodes) (place : ℕ) (v rest : List ℕ) → drop place x ≡ v ++ rest →
       EncodesAll place v (nodes_trees ns) →
       AreNodes x ns → AllStand x (nodes_in_order ns) → v ≡ all_canonical (nodes_trees ns)
-  nodes_canonical x no_nodes place v rest s e are all = e
-  nodes_canonical x (more_nodes n ns) place v rest s e are all =
-      let both = parted x (node_in_order n) (nodes_in_order ns) all in
+  all_canonical-nodes_trees x no_nodes place v rest s e are all = e
+  all_canonical-nodes_trees x (more_nodes n ns) place v rest s e are all =
+      let both = AllStand-split x (node_in_order n) (nodes_in_order ns) all in
       let at = tree_offset-encodes place e.first (node_tree n) e.item in
-      let front = first_in x place v e.first e.rest rest s e.whole in
-      let first = node_canonical x n e.first (e.rest ++ rest)
+      let front = drop-first x place v e.first e.rest rest s e.whole in
+      let first = canonical-node_tree x n e.first (e.rest ++ rest)
       (subst (λ z. drop z x ≡ e.first ++ (e.rest ++ rest)) (sym at) front)
       (subst (λ z. Encodes z e.first (node_tree n)) (sym at) e.item) are.0 both.0 in
-      let behind = rest_in x place v e.first e.rest rest s e.whole in
-      let later = nodes_canonical x ns (place + length e.first) e.rest rest behind e.items are.1 both.1 in
+      let behind = drop-rest x place v e.first e.rest rest s e.whole in
+      let later = all_canonical-nodes_trees x ns (place + length e.first) e.rest rest behind e.items are.1 both.1 in
       e.whole ∙ ap₂ (λ a b. a ++ b) first later
 
 -- the octets of a document all of whose entries are found to be canonical
-pub entries_canonical :
+pub all_canonical-entries :
     (x : List ℕ) (bs cs : Trees ℕ) (rs : List Entry) → AreEntriesOf x bs rs →
     ((k : ℕ) → k < length rs → HasCanonicalAt x (get_or rs k no_entry).offset) → IsDocument x cs → IsDocument x bs →
     x ≡ all_canonical cs
-entries_canonical x bs cs rs are all d e =
+all_canonical-entries x bs cs rs are all d e =
     let ns = are.nodes in
     let order = nodes_in_order ns in
     let many = length-entries x 0 order (nodes_depths 0 ns) rs are.entries in
-    let each = each_stands x order (λ k h.
+    let each = AllStand-each x order (λ k h.
     let own = IsEntry-get_or x 0 order (nodes_depths 0 ns) rs are.entries k h in
     subst (HasCanonicalAt x) own.offset (all k (omega (arith, h, many)))) in
     let own : EncodesAll 0 x (nodes_trees ns) = subst (λ z. EncodesAll 0 x z) (sym are.trees) e.blocks in
-    nodes_canonical x ns 0 x [] (sym (append-nil x)) own are.structure each
+    all_canonical-nodes_trees x ns 0 x [] (sym (append-nil x)) own are.structure each
     ∙ ap all_canonical (are.trees ∙ EncodesAll-unique 0 x bs cs e.blocks d.blocks)
 
 -- each entry has the header at its offset
-pub header_of :
+pub HasHeaderAt-get_or :
     (x : List ℕ) (bs : Trees ℕ) (rs : List Entry) → AreEntriesOf x bs rs → (k : ℕ) → k < length rs →
     HasHeaderAt x (get_or rs k no_entry)
-header_of x bs rs are k h =
+HasHeaderAt-get_or x bs rs are k h =
     let order = nodes_in_order are.nodes in
     let depths = nodes_depths 0 are.nodes in
     (IsEntry-get_or x 0 order depths rs are.entries k
     (omega (arith, h, length-entries x 0 order depths rs are.entries))).header
 
--- the slice where octets stand
-slice_at : (x v rest : List ℕ) (s e : ℕ) → drop s x ≡ v ++ rest → length v ≡ e - s → slice_range x s e ≡ v
-slice_at x v rest s e st l = ap (take (e - s)) st ∙ take_at v rest (e - s) l
-
 -- the octets of an encoding that stands in the document
 module _ (x y v : List ℕ) (r : Entry) (n : ℕ) (at : EncodingAt x r.offset y) (size : r.contents ≡ length v)
     (e : Encoding y r.class r.constructed n v r.header) where
-  whole_size : length y ≡ r.header + r.contents
-  whole_size = omega (
+  -- an encoding is as long as its entry's header and contents octets
+  length-encoding : length y ≡ r.header + r.contents
+  length-encoding = omega (
     arith,
     e.size,
     size,
@@ -168,19 +163,23 @@ module _ (x y v : List ℕ) (r : Entry) (n : ℕ) (at : EncodingAt x r.offset y)
   )
 
   -- the octets of an entry lie in the document
-  pub lies_within : r.offset + r.header + r.contents ≤ length x
-  lies_within =
+  pub end-within : r.offset + r.header + r.contents ≤ length x
+  end-within =
       let some = encoding_some y r.class r.constructed n v r.header e in
-      omega (arith, whole_size, some, ap length at.at_offset, length-append y at.rest, length-drop r.offset x)
+      omega (arith, length-encoding, some, ap length at.at_offset, length-append y at.rest, length-drop r.offset x)
 
-  pub two_octets : 2 ≤ r.header
-  two_octets = omega (arith, whole_size, size, length-contents_le y r.class r.constructed n v r.header e)
+  -- the header of an entry has two octets at least
+  pub header-two_le : 2 ≤ r.header
+  header-two_le = omega (arith, length-encoding, size, length-contents_le y r.class r.constructed n v r.header e)
 
   -- the contents octets of the entry stand behind its header
-  pub contents_there : slice_range x (r.offset + r.header) (r.offset + r.header + r.contents) ≡ v
-  contents_there =
+  pub slice_range-contents : slice_range x (r.offset + r.header) (r.offset + r.header + r.contents) ≡ v
+  slice_range-contents =
       let after = drop-contents x y at.rest r.class r.constructed n v r.offset r.header at.at_offset e in
-      slice_at x v at.rest (r.offset + r.header) (r.offset + r.header + r.contents) after (omega (arith, size))
+      slice_range-at_offset x v at.rest (r.offset + r.header) (r.offset + r.header + r.contents) after (omega (
+        arith,
+        size,
+      ))
 
   -- the header stands at the front
   abbrev header_of_fields : Header
@@ -193,8 +192,9 @@ module _ (x y v : List ℕ) (r : Entry) (n : ℕ) (at : EncodingAt x r.offset y)
     is_indefinite = false;
   }
 
-  at_front : IsAtFront (drop r.offset x) header_of_fields
-  at_front =
+  -- the header of an entry stands at the front of the octets from its offset on
+  IsAtFront-fields : IsAtFront (drop r.offset x) header_of_fields
+  IsAtFront-fields =
       let i = e.identifier in
       let l = e.len in
       let head : length (i ++ l) ≡ r.header = omega (arith, e.size, length-append i l) in
@@ -210,17 +210,17 @@ module _ (x y v : List ℕ) (r : Entry) (n : ℕ) (at : EncodingAt x r.offset y)
       }
 
   -- a header of no more octets than the shortest
-  pub shortest_octets :
+  pub shortest_encoding-of_size :
       All (λ b. b < 256) x → n < 31 → (r.contents ≡ 0 → get_or x (r.offset + r.header - 1) 0 ≢ 128) →
       r.header ≡ 1 + length (shortest_length r.contents) → y ≡ shortest_encoding r.class r.constructed n v
-  unfolding at_front
-  shortest_octets all low other same =
+  unfolding IsAtFront-fields
+  shortest_encoding-of_size all low other same =
       let i = e.identifier in
       let l = e.len in
       let one : length (shortest_identifier r.class r.constructed n) ≡ 1 =
       ap length (sym (cond_below n 31 (leading_octet r.class r.constructed n ∷ [])
       (leading_octet r.class r.constructed 31 ∷ shortest_base128 n) low)) in
-      let place : r.offset + (r.header - 1) ≡ r.offset + r.header - 1 = omega (arith, two_octets) in
+      let place : r.offset + (r.header - 1) ≡ r.offset + r.header - 1 = omega (arith, header-two_le) in
       let last : get_or (drop r.offset x) (r.header - 1) 0 ≡ get_or x (r.offset + r.header - 1) 0 =
       get_or-drop r.offset x (r.header - 1) 0 ∙ ap (λ z. get_or x z 0) place in
       let not : length v ≡ 0 →
@@ -229,18 +229,19 @@ module _ (x y v : List ℕ) (r : Entry) (n : ℕ) (at : EncodingAt x r.offset y)
       ≡ r.header =
       omega (arith, one, same, ap (λ z. length (shortest_length z)) size) in
       let begins =
-      shortest_front (drop r.offset x) header_of_fields (All-drop (λ b. b < 256) r.offset x all) at_front not count in
+      BeginsShortest-of_size (drop r.offset x) header_of_fields
+      (All-drop (λ b. b < 256) r.offset x all) IsAtFront-fields not count in
       let si = shortest_identifier r.class r.constructed n in
       let sl = shortest_length (length v) in
-      e.whole ∙ sym (append_assoc i l v) ∙ ap (λ z. z ++ v) (sym at_front.front_is ∙ begins.shortest)
+      e.whole ∙ sym (append_assoc i l v) ∙ ap (λ z. z ++ v) (sym IsAtFront-fields.front_is ∙ begins.shortest)
       ∙ append_assoc si sl v
 
 -- an entry whose header has no more octets than the shortest has the shortest
-pub shortest_at :
+pub HasShortestAt-of_size :
     (x : List ℕ) (r : Entry) → All (λ b. b < 256) x → HasHeaderAt x r → r.tag < 31 →
     (r.contents ≡ 0 → get_or x (r.offset + r.header - 1) 0 ≢ 128) → r.header ≡ 1 + length (shortest_length r.contents) →
     HasShortestAt x r
-shortest_at x r all (y, at, h) low other same =
+HasShortestAt-of_size x r all (y, at, h) low other same =
     let tag : h.tag ≡ r.tag = elim (cases_lt h.tag (2 ^ 64)) [
       | inl lt ↦ sym (h.tag_field.0 lt)
       | inr ge ↦ absurd (omega (arith, h.tag_field.1 ge, low))
@@ -253,21 +254,22 @@ shortest_at x r all (y, at, h) low other same =
       contents = h.contents;
       size = h.contents_field;
       encoding = e;
-      shortest = shortest_octets x y h.contents r r.tag at h.contents_field e all low other same;
+      shortest = shortest_encoding-of_size x y h.contents r r.tag at h.contents_field e all low other same;
     }
 
--- what an entry says of its place
-pub entry_within : (x : List ℕ) (r : Entry) → HasHeaderAt x r → r.offset + r.header + r.contents ≤ length x
-entry_within x r (y, at, h) = lies_within x y h.contents r h.tag at h.contents_field h.encoding
+-- the encoding of an entry lies in the octets
+pub HasHeaderAt-within : (x : List ℕ) (r : Entry) → HasHeaderAt x r → r.offset + r.header + r.contents ≤ length x
+HasHeaderAt-within x r (y, at, h) = end-within x y h.contents r h.tag at h.contents_field h.encoding
 
-pub entry_header : (x : List ℕ) (r : Entry) → HasHeaderAt x r → 2 ≤ r.header
-entry_header x r (y, at, h) = two_octets x y h.contents r h.tag at h.contents_field h.encoding
+-- an entry's header has two octets at least
+pub HasHeaderAt-two_le : (x : List ℕ) (r : Entry) → HasHeaderAt x r → 2 ≤ r.header
+HasHeaderAt-two_le x r (y, at, h) = header-two_le x y h.contents r h.tag at h.contents_field h.encoding
 
--- a canonical SEQUENCE or SET, leaf, and encoding of another class
-canonical_at : (x : List ℕ) (r : Entry) → (s : HasShortestAt x r) →
+-- a canonical encoding with the shortest header stands at an entry's offset
+HasCanonicalAt-shortest : (x : List ℕ) (r : Entry) → (s : HasShortestAt x r) →
     IsCanonicalEncoding s.octets r.class r.constructed r.tag s.contents
     → HasCanonicalAt x r.offset
-canonical_at x r s is = record {
+HasCanonicalAt-shortest x r s is = record {
   octets = s.octets;
   at_offset = s.at_offset;
   class = r.class;
@@ -279,9 +281,11 @@ canonical_at x r s is = record {
   canonical = is;
 }
 
-pub group_at : (x : List ℕ) (r : Entry) → HasShortestAt x r → (r.tag ≡ 16) ⊎ (r.tag ≡ 17) → r.constructed ≡ true →
+-- a SEQUENCE or SET with the shortest header is canonical
+pub HasCanonicalAt-group : (x : List ℕ) (r : Entry) → HasShortestAt x r → (r.tag ≡ 16) ⊎ (r.tag ≡ 17) →
+    r.constructed ≡ true →
     HasCanonicalAt x r.offset
-group_at x r s is constructed = canonical_at x r s (record {
+HasCanonicalAt-group x r s is constructed = HasCanonicalAt-shortest x r s (record {
   shortest = s.shortest;
   group = λ u g t. constructed;
   primitive = λ u l t. absurd (of l t);
@@ -294,22 +298,26 @@ group_at x r s is constructed = canonical_at x r s (record {
       | inr set ↦ leaf_tag-not_group_tag l Set (sym t ∙ set)
     ]
 
-pub leaf_at :
+-- a leaf with the shortest header and canonical contents octets is canonical
+pub HasCanonicalAt-leaf :
     (x w : List ℕ) (r : Entry) → HasShortestAt x r → r.constructed ≡ false →
     w ≡ slice_range x (r.offset + r.header) (r.offset + r.header + r.contents) →
     AreCanonicalContents Universal false r.tag w → HasCanonicalAt x r.offset
-leaf_at x w r s primitive is keeps =
-    let there : w ≡ s.contents = is ∙ contents_there x s.octets s.contents r r.tag s.at_offset s.size s.encoding in
+HasCanonicalAt-leaf x w r s primitive is keeps =
+    let there : w ≡ s.contents =
+    is ∙ slice_range-contents x s.octets s.contents r r.tag s.at_offset s.size s.encoding in
     let own = subst (AreCanonicalContents Universal false r.tag) there keeps in
-    canonical_at x r s (record {
+    HasCanonicalAt-shortest x r s (record {
       shortest = s.shortest;
       group = λ u g t. absurd (own.no_group refl g t);
       primitive = λ u l t. primitive;
       leaf = λ u l t m. own.leaf refl l t m;
     })
 
-pub other_at : (x : List ℕ) (r : Entry) → HasShortestAt x r → r.class ≢ Universal → HasCanonicalAt x r.offset
-other_at x r s other = canonical_at x r s (record {
+-- an encoding of another class with the shortest header is canonical
+pub HasCanonicalAt-other_class : (x : List ℕ) (r : Entry) → HasShortestAt x r → r.class ≢ Universal →
+    HasCanonicalAt x r.offset
+HasCanonicalAt-other_class x r s other = HasCanonicalAt-shortest x r s (record {
   shortest = s.shortest;
   group = λ u g t. absurd (other u);
   primitive = λ u l t. absurd (other u);
@@ -317,7 +325,7 @@ other_at x r s other = canonical_at x r s (record {
 })
 
 -- a length below 128 has one octet
-pub one_length_octet : (n : ℕ) → n < 128 → length (shortest_length n) ≡ 1
-one_length_octet n small =
+pub length-short_length : (n : ℕ) → n < 128 → length (shortest_length n) ≡ 1
+length-short_length n small =
     let ds = digits_of 256 n in
     ap length (sym (cond_below n 128 (n ∷ []) ((128 + length ds) ∷ ds) small))

@@ -26,19 +26,17 @@ use Rattle.asn1_blocks.proofs.Faults.{IsEncoding-block}
 use Rattle.asn1_blocks.proofs.Leaves.{is_known_tag-group_tag, is_known_tag-leaf_tag, leaf_tag-not_group_tag}
 use Rattle.asn1_headers.proofs.Shortest.{shortest_identifier_is, shortest_identifier_le, shortest_identifier_only, shortest_length_is, shortest_length_le, shortest_length_only}
 use Rattle.asn1_blocks.proofs.Slices.{EncodesAll-joined}
-use Rattle.simple_asn1.proofs.Strict.{canonical_encoding}
+use Rattle.simple_asn1.proofs.Strict.{IsEncoding-canonical}
+use Rattle.simple_asn1.proofs.WriteSteps.{append-regrouped}
 
-regroup : (i s c x : List ℕ) → i ++ (s ++ (c ++ x)) ≡ (i ++ (s ++ c)) ++ x
-regroup i s c x = sym (append_assoc i (s ++ c) x ∙ ap (λ z. i ++ z) (append_assoc s c x))
-
-joined_canonical : (xs ys : Trees ℕ) → all_canonical (joined xs ys) ≡ all_canonical xs ++ all_canonical ys
-joined_canonical no_trees ys = refl
-joined_canonical (more_trees b xs) ys =
-    ap (λ z. canonical b ++ z) (joined_canonical xs ys)
+all_canonical-joined : (xs ys : Trees ℕ) → all_canonical (joined xs ys) ≡ all_canonical xs ++ all_canonical ys
+all_canonical-joined no_trees ys = refl
+all_canonical-joined (more_trees b xs) ys =
+    ap (λ z. canonical b ++ z) (all_canonical-joined xs ys)
     ∙ sym (append_assoc (canonical b) (all_canonical xs) (all_canonical ys))
 
 -- an encoding whose header is canonical, and what stands there in place of its contents octets
-record Front (s contents own r rest : List ℕ) (c d : ASN1Class) (j k : Bool) (n p m : ℕ) : Type 0 where
+record HasCanonicalFront (s contents own r rest : List ℕ) (c d : ASN1Class) (j k : Bool) (n p m : ℕ) : Type 0 where
   pub encoding : s ≡ shortest_encoding d k p contents
   pub whole : contents ++ r ≡ own ++ rest
   pub size : length contents ≡ m
@@ -47,15 +45,15 @@ record Front (s contents own r rest : List ℕ) (c d : ASN1Class) (j k : Bool) (
   pub tag : n ≡ p
 
 -- the encoding at the front of octets that begin with a canonical header
-front :
+HasCanonicalFront-header :
     (x s r contents own rest : List ℕ) (c d : ASN1Class) (j k : Bool) (n p h m : ℕ) →
     x ≡ s ++ r → Encoding s c j n contents h → m < 2 ^ 64 →
     x ≡ shortest_identifier d k p ++ (shortest_length m ++ (own ++ rest)) →
-    Front s contents own r rest c d j k n p m
-front x s r contents own rest c d j k n p h m w F small e =
+    HasCanonicalFront s contents own r rest c d j k n p m
+HasCanonicalFront-header x s r contents own rest c d j k n p h m w F small e =
     let e1 : F.identifier ++ (F.len ++ (contents ++ r)) ≡ shortest_identifier d k p
     ++ (shortest_length m ++ (own ++ rest)) =
-    regroup F.identifier F.len contents r ∙ (ap (λ z. z ++ r) (sym F.whole) ∙ (sym w ∙ e)) in
+    append-regrouped F.identifier F.len contents r ∙ (ap (λ z. z ++ r) (sym F.whole) ∙ (sym w ∙ e)) in
     let t = identifier_alone F.identifier (shortest_identifier d k p) (F.len ++ (contents ++ r))
     (shortest_length m ++ (own ++ rest)) c d j k n p
     F.identifier_octets (shortest_identifier_is d k p) e1 in
@@ -73,11 +71,11 @@ front x s r contents own rest c d j k n p h m w F small e =
     }
 
 -- octets of trees at the front of canonical octets of these are no others
-all_front :
+all_canonical-front :
     (o : ℕ) (y z w : List ℕ) (bs : Trees ℕ) → length (y ++ z) < 2 ^ 64 → EncodesAll o y bs →
     y ++ z ≡ all_canonical bs ++ w → (y ≡ all_canonical bs) × (z ≡ w)
-all_front o y z w no_trees small s e = (s, ap (λ q. q ++ z) (sym s) ∙ e)
-all_front o y z w (more_trees b bs) small s e =
+all_canonical-front o y z w no_trees small s e = (s, ap (λ q. q ++ z) (sym s) ∙ e)
+all_canonical-front o y z w (more_trees b bs) small s e =
     let d : s.first ++ (s.rest ++ z) ≡ canonical b ++ (all_canonical bs ++ w) =
     sym (append_assoc s.first s.rest z) ∙ (ap (λ q. q ++ z) (sym s.whole) ∙
     (e ∙ append_assoc (canonical b) (all_canonical bs) w)) in
@@ -86,15 +84,15 @@ all_front o y z w (more_trees b bs) small s e =
     let m : length s.first + length (s.rest ++ z) ≡ length (canonical b) + length (all_canonical bs ++ w) =
     sym (length-append s.first (s.rest ++ z)) ∙ (ap length d ∙ length-append (canonical b) (all_canonical bs ++ w)) in
     let F = IsEncoding-block s.first (IsBlock-encodes o s.first b s.item) in
-    let G = canonical_encoding b (omega (arith, small, n, m)) in
+    let G = IsEncoding-canonical b (omega (arith, small, n, m)) in
     let h = encoding_alone _ _ _ _ _ _ _ _ _ _ _ _ (s.rest ++ z) (all_canonical bs ++ w) F.encoding G.encoding d in
-    let r = all_front (o + length s.first) s.rest z w bs (omega (arith, small, n)) s.items h.rest in
+    let r = all_canonical-front (o + length s.first) s.rest z w bs (omega (arith, small, n)) s.items h.rest in
     (s.whole ∙ (ap (λ q. q ++ s.rest) h.octets ∙ ap (λ q. canonical b ++ q) r.0), r.1)
 
 -- no octets are no trees
-pub none_canonical : (x : List ℕ) → length x ≡ 0 → AreCanonical x
-none_canonical x none o no_trees s = s
-none_canonical x none o (more_trees b bs) s =
+pub AreCanonical-empty : (x : List ℕ) → length x ≡ 0 → AreCanonical x
+AreCanonical-empty x none o no_trees s = s
+AreCanonical-empty x none o (more_trees b bs) s =
     absurd (omega (
       arith,
       none,
@@ -104,22 +102,24 @@ none_canonical x none o (more_trees b bs) s =
     ))
 
 -- encodings of the same fields and contents octets are the same
-same_encoding : (c d : ASN1Class) (j k : Bool) (m n : ℕ) (v w : List ℕ) → c ≡ d → j ≡ k → m ≡ n → v ≡ w
+shortest_encoding-same_fields : (c d : ASN1Class) (j k : Bool) (m n : ℕ) (v w : List ℕ) → c ≡ d → j ≡ k → m ≡ n → v ≡ w
     → shortest_encoding c j m v ≡ shortest_encoding d k n w
-same_encoding c d j k m n v w p q r s = ap (λ z. shortest_encoding z j m v) p ∙ (ap (λ z. shortest_encoding d z m v) q
+shortest_encoding-same_fields c d j k m n v w p q r s =
+    ap (λ z. shortest_encoding z j m v) p ∙ (ap (λ z. shortest_encoding d z m v) q
     ∙ (ap (λ z. shortest_encoding d k z v) r ∙ ap (λ z. shortest_encoding d k n z) s))
 
 -- a canonical encoding, and canonical octets after it
-both : (o : ℕ) (x s r rest written : List ℕ) (bs : Trees ℕ) → x ≡ s ++ r → EncodesAll o r bs → s ≡ written → r ≡ rest →
+all_canonical-first_and_rest : (o : ℕ) (x s r rest written : List ℕ) (bs : Trees ℕ) → x ≡ s ++ r → EncodesAll o r bs →
+    s ≡ written → r ≡ rest →
     AreCanonical rest
     → x ≡ written ++ all_canonical bs
-both o x s r rest written bs w t here then after =
+all_canonical-first_and_rest o x s r rest written bs w t here then after =
     w ∙ (ap (λ z. z ++ r) here ∙ ap (λ z. written ++ z) (then ∙ after o bs (subst (λ z. EncodesAll o z bs) then t)))
 
 -- contents octets fit in a slice where those around them do
-own_small : (x own rest : List ℕ) (c : ASN1Class) (k : Bool) (n : ℕ) → length x < 2 ^ 64
+length-contents_lt : (x own rest : List ℕ) (c : ASN1Class) (k : Bool) (n : ℕ) → length x < 2 ^ 64
     → x ≡ shortest_identifier c k n ++ (shortest_length (length own) ++ (own ++ rest)) → length own < 2 ^ 64
-own_small x own rest c k n few e =
+length-contents_lt x own rest c k n few e =
     let i = shortest_identifier c k n in
     let l = shortest_length (length own) in
     omega (
@@ -132,74 +132,91 @@ own_small x own rest c k n few e =
     )
 
 -- past an encoding that is no SEQUENCE or SET
-past : (x own rest : List ℕ) (c : ASN1Class) (k : Bool) (n : ℕ) → length x < 2 ^ 64 → AreCanonicalContents c k n own
+AreCanonical-past : (x own rest : List ℕ) (c : ASN1Class) (k : Bool) (n : ℕ) → length x < 2 ^ 64 →
+    AreCanonicalContents c k n own
     → x ≡ shortest_identifier c k n ++ (shortest_length (length own) ++ (own ++ rest)) → AreCanonical rest →
     AreCanonical x
-past x own rest c k n few keeps e after o no_trees s = s
-past x own rest c k n few keeps e after o (more_trees (leaf p l) bs) s =
-    let one = s.item in
-    let f = front x s.first s.rest one.2 own rest Universal c one.1 k (leaf_tag l) n one.3 (length own) s.whole one.4
-    (own_small x own rest c k n few e) e in
-    let q = same_split one.2 own s.rest rest f.size f.whole in
-    let written = keeps.leaf (sym f.class) l (sym f.tag) (subst (LeafContents l) q.0 one.5) in
-    let here = f.encoding ∙ same_encoding c Universal k false n (leaf_tag l) one.2 (leaf_contents l) (sym f.class)
+AreCanonical-past x own rest c k n few keeps e after o no_trees s = s
+AreCanonical-past x own rest c k n few keeps e after o (more_trees (leaf p l) bs) s =
+    let (_, bit, contents, header, F, means) = s.item in
+    let f =
+    HasCanonicalFront-header x s.first s.rest contents own rest Universal c bit k (leaf_tag l) n header
+    (length own) s.whole F
+    (length-contents_lt x own rest c k n few e) e in
+    let q = same_split contents own s.rest rest f.size f.whole in
+    let written = keeps.leaf (sym f.class) l (sym f.tag) (subst (LeafContents l) q.0 means) in
+    let here =
+    f.encoding ∙ shortest_encoding-same_fields c Universal k false n (leaf_tag l) contents (leaf_contents l)
+    (sym f.class)
     (keeps.primitive (sym f.class) l (sym f.tag)) (sym f.tag) (q.0 ∙ written) in
-    both (o + length s.first) x s.first s.rest rest (canonical (leaf p l)) bs s.whole s.items here q.1 after
-past x own rest c k n few keeps e after o (more_trees (group p g held) bs) s =
-    let one = s.item in
-    let f = front x s.first s.rest one.2 own rest Universal c one.1 k (group_tag g) n one.3 (length own) s.whole one.4
-    (own_small x own rest c k n few e) e in
+    all_canonical-first_and_rest (o + length s.first) x s.first s.rest rest
+    (canonical (leaf p l)) bs s.whole s.items here q.1 after
+AreCanonical-past x own rest c k n few keeps e after o (more_trees (group p g held) bs) s =
+    let (_, bit, contents, header, F, _) = s.item in
+    let f =
+    HasCanonicalFront-header x s.first s.rest contents own rest Universal c bit k (group_tag g) n header
+    (length own) s.whole F
+    (length-contents_lt x own rest c k n few e) e in
     absurd (keeps.no_group (sym f.class) g (sym f.tag))
-past x own rest c k n few keeps e after o (more_trees (explicit d p m b) bs) s =
-    let one = s.item in
-    let f = front x s.first s.rest one.2 own rest d c true k m n one.3 (length own) s.whole one.4
-    (own_small x own rest c k n few e) e in
-    let q = same_split one.2 own s.rest rest f.size f.whole in
-    let within = keeps.within (λ u. one.1 (f.class ∙ u)) (sym f.constructed) in
-    let place = o + one.3 in
+AreCanonical-past x own rest c k n few keeps e after o (more_trees (explicit d p m b) bs) s =
+    let (_, other, contents, header, F, encoded) = s.item in
+    let f = HasCanonicalFront-header x s.first s.rest contents own rest d c true k m n header (length own) s.whole F
+    (length-contents_lt x own rest c k n few e) e in
+    let q = same_split contents own s.rest rest f.size f.whole in
+    let within = keeps.within (λ u. other (f.class ∙ u)) (sym f.constructed) in
+    let place = o + header in
     let item : EncodesAll place own (more_trees b no_trees) =
-    EncodesAll-single place own b (subst (λ z. Encodes place z b) q.0 one.5) in
+    EncodesAll-single place own b (subst (λ z. Encodes place z b) q.0 encoded) in
     let written : own ≡ canonical b = within place (more_trees b no_trees) item ∙ append-nil (canonical b) in
     let here = f.encoding
-    ∙ same_encoding c d k true n m one.2 (canonical b) (sym f.class) (sym f.constructed) (sym f.tag)
+    ∙ shortest_encoding-same_fields c d k true n m contents (canonical b) (sym f.class) (sym f.constructed) (sym f.tag)
     (q.0 ∙ written) in
-    both (o + length s.first) x s.first s.rest rest (canonical (explicit d p m b)) bs s.whole s.items here q.1 after
-past x own rest c k n few keeps e after o (more_trees (unknown d j p m v) bs) s =
-    let one = s.item in
-    let f = front x s.first s.rest v own rest d c j k m n one.1 (length own) s.whole one.2
-    (own_small x own rest c k n few e) e in
+    all_canonical-first_and_rest (o + length s.first) x s.first s.rest rest
+    (canonical (explicit d p m b)) bs s.whole s.items here q.1 after
+AreCanonical-past x own rest c k n few keeps e after o (more_trees (unknown d j p m v) bs) s =
+    let (_, header, F, _) = s.item in
+    let f = HasCanonicalFront-header x s.first s.rest v own rest d c j k m n header (length own) s.whole F
+    (length-contents_lt x own rest c k n few e) e in
     let q = same_split v own s.rest rest f.size f.whole in
-    let here = f.encoding ∙ same_encoding c d k j n m v v (sym f.class) (sym f.constructed) (sym f.tag) refl in
-    both (o + length s.first) x s.first s.rest rest (canonical (unknown d j p m v)) bs s.whole s.items here q.1 after
+    let here =
+    f.encoding ∙ shortest_encoding-same_fields c d k j n m v v (sym f.class) (sym f.constructed) (sym f.tag) refl in
+    all_canonical-first_and_rest (o + length s.first) x s.first s.rest rest
+    (canonical (unknown d j p m v)) bs s.whole s.items here q.1 after
 
 -- into a SEQUENCE or SET
-into : (x rest : List ℕ) (g : GroupKind) (m : ℕ) → length x < 2 ^ 64 → m < 2 ^ 64
+AreCanonical-into_group : (x rest : List ℕ) (g : GroupKind) (m : ℕ) → length x < 2 ^ 64 → m < 2 ^ 64
     → x ≡ shortest_identifier Universal true (group_tag g) ++ (shortest_length m ++ rest) → AreCanonical rest →
     AreCanonical x
-into x rest g m few small e after o no_trees s = s
-into x rest g m few small e after o (more_trees (leaf p l) bs) s =
-    let one = s.item in
-    let f = front x s.first s.rest one.2 [] rest Universal Universal one.1 true (leaf_tag l) (group_tag g) one.3 m
-    s.whole one.4
+AreCanonical-into_group x rest g m few small e after o no_trees s = s
+AreCanonical-into_group x rest g m few small e after o (more_trees (leaf p l) bs) s =
+    let (_, bit, contents, header, F, _) = s.item in
+    let f =
+    HasCanonicalFront-header x s.first s.rest contents [] rest Universal Universal bit true (leaf_tag l)
+    (group_tag g) header m
+    s.whole F
     small e in
     absurd (leaf_tag-not_group_tag l g f.tag)
-into x rest g m few small e after o (more_trees (explicit d p n b) bs) s =
-    let one = s.item in
-    let f = front x s.first s.rest one.2 [] rest d Universal true true n (group_tag g) one.3 m s.whole one.4 small e in
-    absurd (one.1 f.class)
-into x rest g m few small e after o (more_trees (unknown d j p n v) bs) s =
-    let one = s.item in
-    let f = front x s.first s.rest v [] rest d Universal j true n (group_tag g) one.1 m s.whole one.2 small e in
-    absurd (elim one.3 [ inl u ↦ u.1.1 g f.tag | inr u ↦ u.0 f.class ])
-into x rest g m few small e after o (more_trees (group p h held) bs) s =
-    let one = s.item in
-    let contents = one.2 in
+AreCanonical-into_group x rest g m few small e after o (more_trees (explicit d p n b) bs) s =
+    let (_, other, contents, header, F, _) = s.item in
+    let f =
+    HasCanonicalFront-header x s.first s.rest contents [] rest d Universal true true n
+    (group_tag g) header m s.whole F small e in
+    absurd (other f.class)
+AreCanonical-into_group x rest g m few small e after o (more_trees (unknown d j p n v) bs) s =
+    let (_, header, F, stays) = s.item in
+    let f =
+    HasCanonicalFront-header x s.first s.rest v [] rest d Universal j true n
+    (group_tag g) header m s.whole F small e in
+    absurd (elim stays [ inl (_, no_rule) ↦ no_rule.1 g f.tag | inr (class, _) ↦ class f.class ])
+AreCanonical-into_group x rest g m few small e after o (more_trees (group p h held) bs) s =
+    let (_, bit, contents, header, F, items) = s.item in
     let r = s.rest in
-    let place = o + one.3 in
-    let f = front x s.first r contents [] rest Universal Universal one.1 true (group_tag h) (group_tag g) one.3 m
-    s.whole one.4
+    let place = o + header in
+    let f =
+    HasCanonicalFront-header x s.first r contents [] rest Universal Universal bit true (group_tag h)
+    (group_tag g) header m
+    s.whole F
     small e in
-    let F = one.4 in
     let size : o + length s.first ≡ place + length contents = omega (
       arith,
       F.size,
@@ -210,19 +227,20 @@ into x rest g m few small e after o (more_trees (group p h held) bs) s =
     let fits : length (contents ++ r) < 2 ^ 64 =
     omega (arith, few, size, ap length s.whole, length-append s.first r, length-append contents r) in
     let all : EncodesAll place (contents ++ r) (joined held bs) =
-    EncodesAll-joined place contents r held bs one.5 (subst (λ z. EncodesAll z r bs) size s.items) in
+    EncodesAll-joined place contents r held bs items (subst (λ z. EncodesAll z r bs) size s.items) in
     let written = f.whole
     ∙ (after place (joined held bs) (subst (λ z. EncodesAll place z (joined held bs)) f.whole all)
-    ∙ joined_canonical held bs) in
-    let v = all_front place contents r (all_canonical bs) held fits one.5 written in
+    ∙ all_canonical-joined held bs) in
+    let v = all_canonical-front place contents r (all_canonical bs) held fits items written in
     let here = f.encoding
-    ∙ same_encoding Universal Universal true true (group_tag g) (group_tag h) contents (all_canonical held) refl
+    ∙ shortest_encoding-same_fields Universal Universal true true (group_tag g) (group_tag h) contents
+    (all_canonical held) refl
     refl (sym f.tag) v.0 in
     s.whole ∙ (ap (λ z. z ++ r) here ∙ ap (λ z. canonical (group p h held) ++ z) v.1)
 
 -- length octets are some
-length_some : (n : ℕ) → 0 < length (shortest_length n)
-length_some n =
+length-shortest_length_some : (n : ℕ) → 0 < length (shortest_length n)
+length-shortest_length_some n =
     let ds = digits_of 256 n in
     let long = (128 + length ds) ∷ ds in
     elim (cases_lt n 128) [
@@ -231,16 +249,16 @@ length_some n =
     ]
 
 -- a header takes two octets or more
-fewer : (x own rest : List ℕ) (c : ASN1Class) (k : Bool) (n m : ℕ) →
+length-two_octets_fewer : (x own rest : List ℕ) (c : ASN1Class) (k : Bool) (n m : ℕ) →
     x ≡ shortest_identifier c k n ++ (shortest_length m ++ (own ++ rest))
     → length own + length rest + 2 ≤ length x
-fewer x own rest c k n m e =
+length-two_octets_fewer x own rest c k n m e =
     let i = shortest_identifier c k n in
     let l = shortest_length m in
     omega (
       arith,
       identifier_some i c k n (shortest_identifier_is c k n),
-      length_some m,
+      length-shortest_length_some m,
       ap length e,
       length-append i (l ++ (own ++ rest)),
       length-append l (own ++ rest),
@@ -248,10 +266,11 @@ fewer x own rest c k n m e =
     )
 
 -- contents octets of a tag without a rule
-pub unruled : (c : ASN1Class) (k : Bool) (n : ℕ) (own : List ℕ) → (c ≡ Universal → is_known_tag n ≡ false) →
+pub AreCanonicalContents-no_rule : (c : ASN1Class) (k : Bool) (n : ℕ) (own : List ℕ) →
+    (c ≡ Universal → is_known_tag n ≡ false) →
     (c ≢ Universal → k ≡ true → ⊥)
     → AreCanonicalContents c k n own
-unruled c k n own plain closed = record {
+AreCanonicalContents-no_rule c k n own plain closed = record {
   no_group = λ u g e. false≢true (sym (plain u) ∙ ap is_known_tag e ∙ is_known_tag-group_tag g);
   primitive = λ u l e. absurd (false≢true (sym (plain u) ∙ ap is_known_tag e ∙ is_known_tag-leaf_tag l));
   leaf = λ u l e p. absurd (false≢true (sym (plain u) ∙ ap is_known_tag e ∙ is_known_tag-leaf_tag l));
@@ -259,41 +278,41 @@ unruled c k n own plain closed = record {
 }
 
 -- what an encoding leaves that holds no octets to be gone over
-leaves : (x own rest : List ℕ) (c : ASN1Class) (k : Bool) (n : ℕ) → length x < 2 ^ 64
+LeavesBoth-past : (x own rest : List ℕ) (c : ASN1Class) (k : Bool) (n : ℕ) → length x < 2 ^ 64
     → x ≡ shortest_identifier c k n ++ (shortest_length (length own) ++ (own ++ rest)) →
     AreCanonicalContents c k n own → LeavesBoth x [] rest
-leaves x own rest c k n few e keeps = record {
-  canonical = λ none after. past x own rest c k n few keeps e after;
-  fewer = omega (arith, fewer x own rest c k n (length own) e);
+LeavesBoth-past x own rest c k n few e keeps = record {
+  canonical = λ none after. AreCanonical-past x own rest c k n few keeps e after;
+  fewer = omega (arith, length-two_octets_fewer x own rest c k n (length own) e);
 }
 
 -- an encoding of another class than Universal leaves its contents octets
-leaves_within : (x own rest : List ℕ) (c : ASN1Class) (k : Bool) (n : ℕ) → length x < 2 ^ 64
+LeavesBoth-within : (x own rest : List ℕ) (c : ASN1Class) (k : Bool) (n : ℕ) → length x < 2 ^ 64
     → x ≡ shortest_identifier c k n ++ (shortest_length (length own) ++ (own ++ rest)) → c ≢ Universal →
     LeavesBoth x own rest
-leaves_within x own rest c k n few e other = record {
-  canonical = λ inside after. past x own rest c k n few (record {
+LeavesBoth-within x own rest c k n few e other = record {
+  canonical = λ inside after. AreCanonical-past x own rest c k n few (record {
     no_group = λ u. absurd (other u);
     primitive = λ u. absurd (other u);
     leaf = λ u. absurd (other u);
     within = λ not k. inside;
   }) e after;
-  fewer = fewer x own rest c k n (length own) e;
+  fewer = length-two_octets_fewer x own rest c k n (length own) e;
 }
 
 -- a SEQUENCE or SET leaves all octets after its header
-leaves_group : (x rest : List ℕ) (g : GroupKind) (m : ℕ) → length x < 2 ^ 64 → m < 2 ^ 64
+LeavesBoth-into_group : (x rest : List ℕ) (g : GroupKind) (m : ℕ) → length x < 2 ^ 64 → m < 2 ^ 64
     → x ≡ shortest_identifier Universal true (group_tag g) ++ (shortest_length m ++ rest) → LeavesBoth x [] rest
-leaves_group x rest g m few small e = record {
-  canonical = λ none after. into x rest g m few small e after;
-  fewer = fewer x [] rest Universal true (group_tag g) m e;
+LeavesBoth-into_group x rest g m few small e = record {
+  canonical = λ none after. AreCanonical-into_group x rest g m few small e after;
+  fewer = length-two_octets_fewer x [] rest Universal true (group_tag g) m e;
 }
 
 -- the last octet of a header whose length octets are 80 alone
-last_octet : (x i l : List ℕ) (size : ℕ) → size ≤ length x → take size x ≡ i ++ l → l ≡ 128 ∷ [] →
+get_or-last_of_header : (x i l : List ℕ) (size : ℕ) → size ≤ length x → take size x ≡ i ++ l → l ≡ 128 ∷ [] →
     get_or x (size - 1) 0 ≡ 128
-last_octet x i l size within front one =
-    let f : take size x ≡ i ++ 128 ∷ [] = front ∙ ap (λ z. i ++ z) one in
+get_or-last_of_header x i l size within HasCanonicalFront-header one =
+    let f : take size x ≡ i ++ 128 ∷ [] = HasCanonicalFront-header ∙ ap (λ z. i ++ z) one in
     let n = length-take-le size x within in
     let m : length (take size x) ≡ length i + 1 = ap length f ∙ length-append i (128 ∷ []) in
     ap (λ z. get_or z (size - 1) 0) (sym (take-append-drop size x))
@@ -302,53 +321,56 @@ last_octet x i l size within front one =
     ∙ get_or_push i 128 0 (size - 1) (omega (arith, n, m))
 
 -- length octets 80 announce none
-announces_none : (l : List ℕ) (n : ℕ) → IsLength l n → l ≡ 128 ∷ [] → n ≡ 0
-announces_none l n is one =
+IsLength-80 : (l : List ℕ) (n : ℕ) → IsLength l n → l ≡ 128 ∷ [] → n ≡ 0
+IsLength-80 l n is one =
     elim (subst (λ z. IsLength z n) one is) [ inl q ↦ absurd (omega (arith, q.0)) | inr q ↦ q.2 ]
 
 -- the octets of a header, all of them octets
-record Parts (i l : List ℕ) : Type 0 where
+record AreHeaderOctets (i l : List ℕ) : Type 0 where
   pub identifier : All (λ b. b < 256) i
   pub len : All (λ b. b < 256) l
 
-parts : (x i l : List ℕ) (size : ℕ) → All (λ b. b < 256) x → take size x ≡ i ++ l → Parts i l
-parts x i l size all whole =
-    let front : All (λ b. b < 256) (i ++ l) = subst (All (λ b. b < 256)) whole (All-take (λ b. b < 256) size x all) in
+-- the octets of a header at the front of octets are octets
+AreHeaderOctets-front : (x i l : List ℕ) (size : ℕ) → All (λ b. b < 256) x → take size x ≡ i ++ l → AreHeaderOctets i l
+AreHeaderOctets-front x i l size all whole =
+    let octets : All (λ b. b < 256) (i ++ l) = subst (All (λ b. b < 256)) whole (All-take (λ b. b < 256) size x all) in
     record {
       identifier = subst (All (λ b. b < 256)) (take-append_seam i l)
-          (All-take (λ b. b < 256) (length i) (i ++ l) front);
-      len = subst (All (λ b. b < 256)) (drop-append_seam i l) (All-drop (λ b. b < 256) (length i) (i ++ l) front);
+          (All-take (λ b. b < 256) (length i) (i ++ l) octets);
+      len = subst (All (λ b. b < 256)) (drop-append_seam i l) (All-drop (λ b. b < 256) (length i) (i ++ l) octets);
     }
 
-header_size : (x i l : List ℕ) (size : ℕ) → size ≤ length x → take size x ≡ i ++ l → size ≡ length i + length l
-header_size x i l size within whole = sym (length-take-le size x within) ∙ (ap length whole ∙ length-append i l)
+-- a header has the octets of its identifier and its length
+length-header_parts : (x i l : List ℕ) (size : ℕ) → size ≤ length x → take size x ≡ i ++ l → size ≡ length i + length l
+length-header_parts x i l size within whole = sym (length-take-le size x within) ∙ (ap length whole ∙ length-append i l)
 
 -- the shortest octets of its fields are no more
-pub shortest_fits : (x : List ℕ) (h : Header) → All (λ b. b < 256) x → IsAtFront x h
+pub length-shortest_header_le : (x : List ℕ) (h : Header) → All (λ b. b < 256) x → IsAtFront x h
     → length (shortest_identifier h.class h.constructed h.tag) + length (shortest_length h.announced) ≤ h.size
-shortest_fits x h all f =
-    let p = parts x f.identifier f.len h.size all f.front_is in
+length-shortest_header_le x h all f =
+    let p = AreHeaderOctets-front x f.identifier f.len h.size all f.front_is in
     omega (
       arith,
-      header_size x f.identifier f.len h.size f.within f.front_is,
+      length-header_parts x f.identifier f.len h.size f.within f.front_is,
       shortest_identifier_le f.identifier h.class h.constructed h.tag f.fields,
       shortest_length_le f.len h.announced p.len f.length_octets,
     )
 
 -- a header with no more octets than these
-pub shortest_front : (x : List ℕ) (h : Header) → All (λ b. b < 256) x → IsAtFront x h →
+pub BeginsShortest-of_size : (x : List ℕ) (h : Header) → All (λ b. b < 256) x → IsAtFront x h →
     (h.announced ≡ 0 → get_or x (h.size - 1) 0 ≢ 128)
     → length (shortest_identifier h.class h.constructed h.tag) + length (shortest_length h.announced) ≡ h.size →
     BeginsShortest x h
-shortest_front x h all f other same =
+BeginsShortest-of_size x h all f other same =
     let i = f.identifier in
     let l = f.len in
-    let p = parts x i l h.size all f.front_is in
-    let size = header_size x i l h.size f.within f.front_is in
+    let p = AreHeaderOctets-front x i l h.size all f.front_is in
+    let size = length-header_parts x i l h.size f.within f.front_is in
     let a = shortest_identifier_le i h.class h.constructed h.tag f.fields in
     let b = shortest_length_le l h.announced p.len f.length_octets in
     let not : l ≢ 128 ∷ [] = λ one.
-    other (announces_none l h.announced f.length_octets one) (last_octet x i l h.size f.within f.front_is one) in
+    other (IsLength-80 l h.announced f.length_octets one)
+    (get_or-last_of_header x i l h.size f.within f.front_is one) in
     record {
       within = f.within;
       shortest = f.front_is ∙ ap₂ (λ s t. s ++ t)
@@ -357,83 +379,95 @@ shortest_front x h all f other same =
           (shortest_length_only l h.announced p.len not f.length_octets (omega (arith, size, a, b, same)));
     }
 
--- what follows it
-pub shortest_whole : (x rest : List ℕ) (h : Header) → BeginsShortest x h → rest ≡ drop h.size x
+-- octets that begin with a shortest header, by that header and what follows it
+pub append-shortest_header : (x rest : List ℕ) (h : Header) → BeginsShortest x h → rest ≡ drop h.size x
     → x ≡ shortest_identifier h.class h.constructed h.tag ++ (shortest_length h.announced ++ rest)
-shortest_whole x rest h f behind =
+append-shortest_header x rest h f behind =
     let i = shortest_identifier h.class h.constructed h.tag in
     let l = shortest_length h.announced in
     sym (take-append-drop h.size x)
     ∙ (ap (λ z. z ++ drop h.size x) f.shortest ∙ (ap (λ z. (i ++ l) ++ z) (sym behind) ∙ append_assoc i l rest))
 
--- an encoding of it, whose contents octets are there
-pub own_whole : (x rest own after : List ℕ) (h : Header) → BeginsShortest x h → rest ≡ drop h.size x →
+-- octets that begin with a shortest header and its contents octets, by that encoding and what follows it
+pub append-shortest_encoding : (x rest own after : List ℕ) (h : Header) → BeginsShortest x h → rest ≡ drop h.size x →
     rest ≡ own ++ after → length own ≡ h.announced
     → x ≡ shortest_identifier h.class h.constructed h.tag ++ (shortest_length (length own) ++ (own ++ after))
-own_whole x rest own after h f behind whole size =
+append-shortest_encoding x rest own after h f behind whole size =
     let i = shortest_identifier h.class h.constructed h.tag in
-    shortest_whole x rest h f behind
+    append-shortest_header x rest h f behind
     ∙ (ap (λ z. i ++ (shortest_length h.announced ++ z)) whole
     ∙ ap (λ z. i ++ (shortest_length z ++ (own ++ after))) (sym size))
 
 -- a SEQUENCE or SET leaves all octets after it
-pub past_group : (x rest : List ℕ) (h : Header) → length x < 2 ^ 64 → h.announced < 2 ^ 64 → BeginsShortest x h →
+pub LeavesBoth-group : (x rest : List ℕ) (h : Header) → length x < 2 ^ 64 → h.announced < 2 ^ 64 → BeginsShortest x h →
     rest ≡ drop h.size x
     → IsOfGroup h → LeavesBoth x [] rest
-past_group x rest h few small f behind is = elim is.2 [ inl tag ↦ of Sequence tag | inr tag ↦ of Set tag ]
+LeavesBoth-group x rest h few small f behind is = elim is.2 [ inl tag ↦ of Sequence tag | inr tag ↦ of Set tag ]
   where
     of : (g : GroupKind) → h.tag ≡ group_tag g → LeavesBoth x [] rest
-    of g tag = leaves_group x rest g h.announced few small (shortest_whole x rest h f behind ∙ (
+    of g tag = LeavesBoth-into_group x rest g h.announced few small (append-shortest_header x rest h f behind ∙ (
         ap (λ z. shortest_identifier z h.constructed h.tag ++ (shortest_length h.announced ++ rest)) is.0
         ∙ (ap (λ z. shortest_identifier Universal z h.tag ++ (shortest_length h.announced ++ rest)) is.1
         ∙ ap (λ z. shortest_identifier Universal true z ++ (shortest_length h.announced ++ rest)) tag)
         ))
 
 -- an encoding of class Universal whose contents octets are canonical leaves those after it
-pub past_universal : (x rest own after : List ℕ) (h : Header) → length x < 2 ^ 64 → BeginsShortest x h →
+pub LeavesBoth-universal : (x rest own after : List ℕ) (h : Header) → length x < 2 ^ 64 → BeginsShortest x h →
     rest ≡ drop h.size x → rest ≡ own ++ after
     → length own ≡ h.announced → h.class ≡ Universal → AreCanonicalContents Universal h.constructed h.tag own →
     LeavesBoth x [] after
-past_universal x rest own after h few f behind whole size class keeps =
-    leaves x own after h.class h.constructed h.tag few (own_whole x rest own after h f behind whole size)
+LeavesBoth-universal x rest own after h few f behind whole size class keeps =
+    LeavesBoth-past x own after h.class h.constructed h.tag few
+    (append-shortest_encoding x rest own after h f behind whole size)
     (subst (λ z. AreCanonicalContents z h.constructed h.tag own) (sym class) keeps)
 
 -- a constructed encoding of another class than Universal leaves its contents octets
-pub past_constructed : (x rest own after : List ℕ) (h : Header) → length x < 2 ^ 64 → BeginsShortest x h →
+pub LeavesBoth-constructed : (x rest own after : List ℕ) (h : Header) → length x < 2 ^ 64 → BeginsShortest x h →
     rest ≡ drop h.size x → rest ≡ own ++ after
     → length own ≡ h.announced → h.class ≢ Universal → LeavesBoth x own after
-past_constructed x rest own after h few f behind whole size other =
-    leaves_within x own after h.class h.constructed h.tag few (own_whole x rest own after h f behind whole size) other
+LeavesBoth-constructed x rest own after h few f behind whole size other =
+    LeavesBoth-within x own after h.class h.constructed h.tag few
+    (append-shortest_encoding x rest own after h f behind whole size) other
 
-pub past_primitive : (x rest own after : List ℕ) (h : Header) → length x < 2 ^ 64 → BeginsShortest x h →
+-- a primitive encoding of another class than Universal leaves the octets after it
+pub LeavesBoth-primitive : (x rest own after : List ℕ) (h : Header) → length x < 2 ^ 64 → BeginsShortest x h →
     rest ≡ drop h.size x → rest ≡ own ++ after
     → length own ≡ h.announced → h.class ≢ Universal → h.constructed ≡ false → LeavesBoth x [] after
-past_primitive x rest own after h few f behind whole size other primitive =
-    leaves x own after h.class h.constructed h.tag few (own_whole x rest own after h f behind whole size)
-    (unruled h.class h.constructed h.tag own (λ u. absurd (other u)) (λ not k. false≢true (sym primitive ∙ k)))
+LeavesBoth-primitive x rest own after h few f behind whole size other primitive =
+    LeavesBoth-past x own after h.class h.constructed h.tag few
+    (append-shortest_encoding x rest own after h f behind whole size)
+    (AreCanonicalContents-no_rule h.class h.constructed h.tag own (λ u. absurd (other u))
+    (λ not k. false≢true (sym primitive ∙ k)))
 
 -- octets that begin with a header of class Universal in two octets
-short_whole : (x rest : List ℕ) (k : Bool) (b n m : ℕ) → n < 31 → b ≡ leading_octet Universal k n → m < 128 →
+append-short_header : (x rest : List ℕ) (k : Bool) (b n m : ℕ) → n < 31 → b ≡ leading_octet Universal k n → m < 128 →
     x ≡ b ∷ m ∷ rest
     → x ≡ shortest_identifier Universal k n ++ (shortest_length m ++ rest)
-short_whole x rest k b n m low is short e =
+append-short_header x rest k b n m low is short e =
     let ds = digits_of 256 m in
     e ∙ (ap (λ z. z ∷ m ∷ rest) is ∙ ap₂ (λ s t. s ++ (t ++ rest))
     (cond_below n 31 (leading_octet Universal k n ∷ []) (leading_octet Universal k 31 ∷ shortest_base128 n) low)
     (cond_below m 128 (m ∷ []) ((128 + length ds) ∷ ds) short))
 
-pub short_group : (x rest : List ℕ) (b m : ℕ) → length x < 2 ^ 64 → m < 128 → (b ≡ 48) ⊎ (b ≡ 49) → x ≡ b ∷ m ∷ rest →
+-- a SEQUENCE or SET with a header of two octets leaves all octets after it
+pub LeavesBoth-short_group : (x rest : List ℕ) (b m : ℕ) → length x < 2 ^ 64 → m < 128 → (b ≡ 48) ⊎ (b ≡ 49) →
+    x ≡ b ∷ m ∷ rest →
     LeavesBoth x [] rest
-short_group x rest b m few short is e = elim is [
-  | inl at ↦ leaves_group x rest Sequence m few (omega arith) (short_whole x rest true b 16 m (omega arith) at short e)
-  | inr at ↦ leaves_group x rest Set m few (omega arith) (short_whole x rest true b 17 m (omega arith) at short e)
+LeavesBoth-short_group x rest b m few short is e = elim is [
+  | inl at ↦
+      LeavesBoth-into_group x rest Sequence m few (omega arith)
+      (append-short_header x rest true b 16 m (omega arith) at short e)
+  | inr at ↦
+      LeavesBoth-into_group x rest Set m few (omega arith)
+      (append-short_header x rest true b 17 m (omega arith) at short e)
 ]
 
-pub short_leaf : (x own after : List ℕ) (b m : ℕ) → length x < 2 ^ 64 → b < 31 → m < 128 → length own ≡ m →
+-- a canonical leaf with a header of two octets leaves those after it
+pub LeavesBoth-short_leaf : (x own after : List ℕ) (b m : ℕ) → length x < 2 ^ 64 → b < 31 → m < 128 → length own ≡ m →
     x ≡ b ∷ m ∷ (own ++ after)
     → AreCanonicalContents Universal false b own → LeavesBoth x [] after
-short_leaf x own after b m few low short size e keeps =
-    leaves x own after Universal false b few
-    (short_whole x (own ++ after) false b b m low (omega arith) short e
+LeavesBoth-short_leaf x own after b m few low short size e keeps =
+    LeavesBoth-past x own after Universal false b few
+    (append-short_header x (own ++ after) false b b m low (omega arith) short e
     ∙ ap (λ z. shortest_identifier Universal false b ++ (shortest_length z ++ (own ++ after))) (sym size))
     keeps

@@ -7,9 +7,10 @@ use Rattle.simple_asn1.specs.PointTrees.{point_tree}
 use Rattle.asn1_blocks.specs.Tree.{Tree, group, shape, shapes}
 use Rattle.asn1_blocks.specs.View.{views}
 
-pub no_point : (t : Tree ℕ) (p : Point) (items : List ASN1Block) → length items ≢ 2 →
+-- a SEQUENCE without two items is no point
+pub point_tree-not_two_items : (t : Tree ℕ) (p : Point) (items : List ASN1Block) → length items ≢ 2 →
     shape t ≡ group tt Sequence (shapes (views items)) → shape t ≢ point_tree p
-no_point t p [] h e f = let g = sym e ∙ f in cc
-no_point t p (a ∷ []) h e f = let g = sym e ∙ f in cc
-no_point t p (a ∷ b ∷ []) h e f = h refl
-no_point t p (a ∷ b ∷ c ∷ items) h e f = let g = sym e ∙ f in cc
+point_tree-not_two_items t p [] h e f = let g = sym e ∙ f in cc
+point_tree-not_two_items t p (a ∷ []) h e f = let g = sym e ∙ f in cc
+point_tree-not_two_items t p (a ∷ b ∷ []) h e f = h refl
+point_tree-not_two_items t p (a ∷ b ∷ c ∷ items) h e f = let g = sym e ∙ f in cc

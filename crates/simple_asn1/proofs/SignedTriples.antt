@@ -21,39 +21,40 @@ use Rattle.asn1_blocks.specs.Tree.{Tree, Trees, leaf, group, bit_string, object_
 use Rattle.asn1_blocks.specs.View.{tree_offset, view, views}
 
 -- a SEQUENCE of any other number of items is none
-pub no_triple : (t : Tree ℕ) (p : SignedParts) (o : ℕ) (items : List ASN1Block) → length items ≢ 3 →
+pub signed_tree-not_three_items : (t : Tree ℕ) (p : SignedParts) (o : ℕ) (items : List ASN1Block) → length items ≢ 3 →
     t ≡ group o Sequence (views items) → t ≢ signed_tree p
-no_triple t p o [] h e f = let g = sym e ∙ f in cc
-no_triple t p o (a ∷ []) h e f = let g = sym e ∙ f in cc
-no_triple t p o (a ∷ b ∷ []) h e f = let g = sym e ∙ f in cc
-no_triple t p o (a ∷ b ∷ c ∷ []) h e f = h refl
-no_triple t p o (a ∷ b ∷ c ∷ d ∷ items) h e f = let g = sym e ∙ f in cc
+signed_tree-not_three_items t p o [] h e f = let g = sym e ∙ f in cc
+signed_tree-not_three_items t p o (a ∷ []) h e f = let g = sym e ∙ f in cc
+signed_tree-not_three_items t p o (a ∷ b ∷ []) h e f = let g = sym e ∙ f in cc
+signed_tree-not_three_items t p o (a ∷ b ∷ c ∷ []) h e f = h refl
+signed_tree-not_three_items t p o (a ∷ b ∷ c ∷ d ∷ items) h e f = let g = sym e ∙ f in cc
 
 -- a SEQUENCE without a BIT STRING at its end is no triple
-pub no_signature : (t : Tree ℕ) (p : SignedParts) (o : ℕ) (items : List ASN1Block) (z : ASN1Block) → length items ≡ 3 →
+pub signed_tree-no_signature : (t : Tree ℕ) (p : SignedParts) (o : ℕ) (items : List ASN1Block) (z : ASN1Block) →
+    length items ≡ 3 →
     z ≡ get_or items 2 z → t ≡ group o Sequence (views items) →
     ((a n : ℕ) (v : List ℕ) → view z ≢ leaf a (bit_string n v)) → t ≢ signed_tree p
-no_signature t p o [] z h i e other f = cc
-no_signature t p o (a ∷ []) z h i e other f = cc
-no_signature t p o (a ∷ b ∷ []) z h i e other f = cc
-no_signature t p o (a ∷ b ∷ c ∷ []) z h i e other f =
+signed_tree-no_signature t p o [] z h i e other f = cc
+signed_tree-no_signature t p o (a ∷ []) z h i e other f = cc
+signed_tree-no_signature t p o (a ∷ b ∷ []) z h i e other f = cc
+signed_tree-no_signature t p o (a ∷ b ∷ c ∷ []) z h i e other f =
     let g = sym e ∙ f in
     let last : view c ≡ leaf p.signature_offset (bit_string p.bits p.signature) = cc in
     other p.signature_offset p.bits p.signature (ap view i ∙ last)
-no_signature t p o (a ∷ b ∷ c ∷ d ∷ items) z h i e other f = let g = sym e ∙ f in cc
+signed_tree-no_signature t p o (a ∷ b ∷ c ∷ d ∷ items) z h i e other f = let g = sym e ∙ f in cc
 
 -- the parts of three items
-pub parts_of_three :
+pub signed_tree-three_items :
     (t : Tree ℕ) (o : ℕ) (items : List ASN1Block) (x y z : ASN1Block) (algorithm : List ℕ) (n : ℕ) (v : List ℕ) →
     length items ≡ 3 →
     x ≡ get_or items 0 x → y ≡ get_or items 1 y → z ≡ get_or items 2 z → t ≡ group o Sequence (views items) →
     IsAlgorithm (view y) algorithm → view z ≡ leaf (tree_offset (view z)) (bit_string n v) →
     (p : SignedParts) × (t ≡ signed_tree p) × (view x ≡ p.content) × (tree_offset (view y) ≡ p.algorithm_offset)
     × (algorithm ≡ p.algorithm) × (n ≡ p.bits) × (v ≡ p.signature)
-parts_of_three t o [] x y z algorithm n v h i j k e a b = cc
-parts_of_three t o (l ∷ []) x y z algorithm n v h i j k e a b = cc
-parts_of_three t o (l ∷ m ∷ []) x y z algorithm n v h i j k e a b = cc
-parts_of_three t o (q ∷ r ∷ s ∷ []) x y z algorithm n v h i j k e (u, w, rest, a) b = (
+signed_tree-three_items t o [] x y z algorithm n v h i j k e a b = cc
+signed_tree-three_items t o (l ∷ []) x y z algorithm n v h i j k e a b = cc
+signed_tree-three_items t o (l ∷ m ∷ []) x y z algorithm n v h i j k e a b = cc
+signed_tree-three_items t o (q ∷ r ∷ s ∷ []) x y z algorithm n v h i j k e (u, w, rest, a) b = (
   record {
     offset = o;
     content = view x;
@@ -76,31 +77,34 @@ parts_of_three t o (q ∷ r ∷ s ∷ []) x y z algorithm n v h i j k e (u, w, r
   refl,
   refl,
 )
-parts_of_three t o (l ∷ m ∷ s ∷ d ∷ items) x y z algorithm n v h i j k e a b = cc
+signed_tree-three_items t o (l ∷ m ∷ s ∷ d ∷ items) x y z algorithm n v h i j k e a b = cc
 
-has_content : (octets : List ℕ) (p : SignedParts) (rest : Trees ℕ) (content : List ℕ) →
+-- what was signed has the octets up to the algorithm
+HasOctets-content : (octets : List ℕ) (p : SignedParts) (rest : Trees ℕ) (content : List ℕ) →
     content ≡ slice_range octets (tree_offset p.content) p.algorithm_offset →
     HasOctets octets (signed_trees p rest) p.content content
-has_content octets p rest content e =
+HasOctets-content octets p rest content e =
     record { end = p.algorithm_offset; place = in_first (in_group (in_first itself)); octets_are = e }
 
-has_algorithm : (octets : List ℕ) (p : SignedParts) (rest : Trees ℕ) →
+-- the algorithm has the octets up to the signature
+HasOctets-algorithm : (octets : List ℕ) (p : SignedParts) (rest : Trees ℕ) →
     HasOctets octets (signed_trees p rest) (algorithm_tree p) (slice_range octets p.algorithm_offset p.signature_offset)
-has_algorithm octets p rest =
+HasOctets-algorithm octets p rest =
     record { end = p.signature_offset; place = in_first (in_group (in_later (in_first itself))); octets_are = refl }
 
 -- in a document the offsets of a triple stand in their order
-begins : BlockAlone → (octets : List ℕ) (p : SignedParts) (rest : Trees ℕ) (bs : Trees ℕ) → IsDocument octets bs →
+BeginWithSigned-document : BlockAlone → (octets : List ℕ) (p : SignedParts) (rest : Trees ℕ) (bs : Trees ℕ) →
+    IsDocument octets bs →
     bs ≡ signed_trees p rest → BeginWithSigned bs octets p rest
-begins law octets p rest bs d e =
+BeginWithSigned-document law octets p rest bs d e =
     let t = subst (IsDocument octets) e d in
     let o = tree_offset p.content in
     let alone = law.alone octets (signed_trees p rest) p.content (slice_range octets o p.algorithm_offset) t
-    (has_content octets p rest _ refl) in
+    (HasOctets-content octets p rest _ refl) in
     let cut : length (slice_range octets o p.algorithm_offset) ≡ min (p.algorithm_offset - o) (length (drop o octets)) =
     length-take (p.algorithm_offset - o) (drop o octets) in
     let (before, behind, whole, at) =
-    law.position octets (signed_trees p rest) (algorithm_tree p) _ t (has_algorithm octets p rest) in
+    law.position octets (signed_trees p rest) (algorithm_tree p) _ t (HasOctets-algorithm octets p rest) in
     let some = alone.some in
     let all : length octets
     ≡ length before + length (slice_range octets p.algorithm_offset p.signature_offset ++ behind) =
@@ -112,10 +116,10 @@ begins law octets p rest bs d e =
     }
 
 -- trees have one triple: what is read of one is read of the other
-same_fields : (octets : List ℕ) (t : SignedTriple) (p q : SignedParts) (xs ys : Trees ℕ) →
+HasFields-same_trees : (octets : List ℕ) (t : SignedTriple) (p q : SignedParts) (xs ys : Trees ℕ) →
     signed_trees p xs ≡ signed_trees q ys →
     HasFields octets q t → HasFields octets p t
-same_fields octets t p q xs ys e h =
+HasFields-same_trees octets t p q xs ys e h =
     let content : p.content ≡ q.content = cc in
     let end : p.algorithm_offset ≡ q.algorithm_offset = cc in
     let algorithm : p.algorithm ≡ q.algorithm = cc in
@@ -136,66 +140,78 @@ IsRead octets t = Decodes (λ bs r. ReadsSigned bs octets r) octets t
 abbrev pub IsRefused : List ℕ → TripleErr → Type 0
 IsRefused octets e = DecodeFails (λ bs r. ReadsSigned bs octets r) (λ f e. e ≡ Codec f) octets e
 
-fields_of : Unambiguous → (octets : List ℕ) (t : SignedTriple) → IsRead octets t → (p : SignedParts) →
+-- a triple that was read has the fields of the triple that the octets are
+HasFields-read : Unambiguous → (octets : List ℕ) (t : SignedTriple) → IsRead octets t → (p : SignedParts) →
     IsSigned octets p → HasFields octets p t
-fields_of law octets t is p (xs, e) =
+HasFields-read law octets t is p (xs, e) =
     let (q, begin, fields) = is.is_read in
-    same_fields octets t p q xs is.rest
+    HasFields-same_trees octets t p q xs is.rest
     (law.one_document octets (signed_trees p xs) is.trees e is.document ∙ begin.trees) fields
 
-only_memory : Unambiguous → BlockAlone → (octets : List ℕ) → FitInSlice octets → (e : TripleErr) → IsRefused octets e →
+-- a triple is refused for want of memory alone
+IsRefused-out_of_memory : Unambiguous → BlockAlone → (octets : List ℕ) → FitInSlice octets → (e : TripleErr) →
+    IsRefused octets e →
     (p : SignedParts) → IsSigned octets p →
     e ≡ Codec OutOfMemory
-only_memory law parts octets small e (inl (bs, d, inl g)) p s = g
-only_memory law parts octets small e (inl (bs, d, inr (g, other))) p (xs, s) =
-    absurd (other p xs (begins parts octets p xs bs d (law.one_document octets bs (signed_trees p xs) d s)))
-only_memory law parts octets small e (inr (f, inl m, g)) p s = g ∙ ap Codec m
-only_memory law parts octets small e (inr (f, inr at, g)) p (xs, s) =
+IsRefused-out_of_memory law parts octets small e (inl (bs, d, inl g)) p s = g
+IsRefused-out_of_memory law parts octets small e (inl (bs, d, inr (g, other))) p (xs, s) =
+    absurd
+    (other p xs (BeginWithSigned-document parts octets p xs bs d (law.one_document octets bs (signed_trees p xs) d s)))
+IsRefused-out_of_memory law parts octets small e (inr (f, inl m, g)) p s = g ∙ ap Codec m
+IsRefused-out_of_memory law parts octets small e (inr (f, inr at, g)) p (xs, s) =
     absurd (law.not_both octets (signed_trees p xs) (fault_of f) small s at)
 
-another_shape : BlockAlone → (octets : List ℕ) → IsRefused octets Shape → IsOfAnotherShape octets
-another_shape law octets (inl (bs, d, inl e)) = cc
-another_shape law octets (inl (bs, d, inr (e, other))) =
-    (bs, d, λ p rest e. other p rest (begins law octets p rest bs d e))
-another_shape law octets (inr (f, _, e)) = cc
+-- octets that are refused for their shape are a document of another one
+IsOfAnotherShape-refused : BlockAlone → (octets : List ℕ) → IsRefused octets Shape → IsOfAnotherShape octets
+IsOfAnotherShape-refused law octets (inl (bs, d, inl e)) = cc
+IsOfAnotherShape-refused law octets (inl (bs, d, inr (e, other))) =
+    (bs, d, λ p rest e. other p rest (BeginWithSigned-document law octets p rest bs d e))
+IsOfAnotherShape-refused law octets (inr (f, _, e)) = cc
 
-pub kept_content : Unambiguous → (octets : List ℕ) (r : Result SignedTriple TripleErr) → IfOk r (IsRead octets) →
+-- a triple that was read has the octets of what was signed
+pub HasOctets-read_content : Unambiguous → (octets : List ℕ) (r : Result SignedTriple TripleErr) →
+    IfOk r (IsRead octets) →
     IfOk r (λ t. (p : SignedParts) (rest : Trees ℕ) → IsDocument octets (signed_trees p rest) →
     HasOctets octets (signed_trees p rest) p.content t.content.items)
-kept_content law octets (Ok t) is =
-    λ p rest d. has_content octets p rest t.content.items (fields_of law octets t is p (rest, d)).content
-kept_content law octets (Err e) is = tt
+HasOctets-read_content law octets (Ok t) is =
+    λ p rest d. HasOctets-content octets p rest t.content.items (HasFields-read law octets t is p (rest, d)).content
+HasOctets-read_content law octets (Err e) is = tt
 
-pub content_alone : Unambiguous → BlockAlone → (octets : List ℕ) (r : Result SignedTriple TripleErr) →
+-- what was signed is a document by itself
+pub IsDocument-rebased_content : Unambiguous → BlockAlone → (octets : List ℕ) (r : Result SignedTriple TripleErr) →
     IfOk r (IsRead octets) →
     IfOk r (λ t. (p : SignedParts) → IsSigned octets p →
     IsDocument t.content.items (more_trees (rebased p.content) no_trees))
-content_alone law parts octets (Ok t) is = λ p s.
+IsDocument-rebased_content law parts octets (Ok t) is = λ p s.
     parts.alone octets (signed_trees p s.0) p.content t.content.items s.1
-    (has_content octets p s.0 t.content.items (fields_of law octets t is p s).content)
-content_alone law parts octets (Err e) is = tt
+    (HasOctets-content octets p s.0 t.content.items (HasFields-read law octets t is p s).content)
+IsDocument-rebased_content law parts octets (Err e) is = tt
 
-pub shape_is_another : BlockAlone → (octets : List ℕ) (r : Result SignedTriple TripleErr) → IfErr r (IsRefused octets) →
+-- an error of shape says that the octets are a document of another one
+pub IfErr-another_shape : BlockAlone → (octets : List ℕ) (r : Result SignedTriple TripleErr) →
+    IfErr r (IsRefused octets) →
     IfErr r (λ e. e ≡ Shape → IsOfAnotherShape octets)
-shape_is_another law octets (Ok t) is = tt
-shape_is_another law octets (Err e) is = λ s. another_shape law octets (subst (IsRefused octets) s is)
+IfErr-another_shape law octets (Ok t) is = tt
+IfErr-another_shape law octets (Err e) is = λ s. IsOfAnotherShape-refused law octets (subst (IsRefused octets) s is)
 
-pub accepted : Unambiguous → BlockAlone → (octets : List ℕ) → FitInSlice octets → (r : Result SignedTriple TripleErr) →
+-- a triple is read with its fields, or memory runs out
+pub MatchResult-signed : Unambiguous → BlockAlone → (octets : List ℕ) → FitInSlice octets →
+    (r : Result SignedTriple TripleErr) →
     IfOk r (IsRead octets) →
     IfErr r (IsRefused octets) → (p : SignedParts) → IsSigned octets p →
     MatchResult r (HasFields octets p) (λ e. e ≡ Codec OutOfMemory)
-accepted law parts octets small (Ok t) is _ p s = fields_of law octets t is p s
-accepted law parts octets small (Err e) _ is p s = only_memory law parts octets small e is p s
+MatchResult-signed law parts octets small (Ok t) is _ p s = HasFields-read law octets t is p s
+MatchResult-signed law parts octets small (Err e) _ is p s = IsRefused-out_of_memory law parts octets small e is p s
 
 -- a document of another shape is refused for it
-pub another_refused : Unambiguous → (octets : List ℕ) → FitInSlice octets → (r : Result SignedTriple TripleErr) →
+pub IsErrAnd-another_shape : Unambiguous → (octets : List ℕ) → FitInSlice octets → (r : Result SignedTriple TripleErr) →
     IfOk r (IsRead octets) →
     IfErr r (IsRefused octets) → IsOfAnotherShape octets → IsErrAnd r (λ e. (e ≡ Shape) ⊎ (e ≡ Codec OutOfMemory))
-another_refused law octets small (Ok t) is _ (bs, d, other) =
+IsErrAnd-another_shape law octets small (Ok t) is _ (bs, d, other) =
     let (q, begin, fields) = is.is_read in
     absurd (other q is.rest (law.one_document octets bs is.trees d is.document ∙ begin.trees))
-another_refused law octets small (Err e) _ (inl (xs, x, inl memory)) s = inr memory
-another_refused law octets small (Err e) _ (inl (xs, x, inr (shape, none))) s = inl shape
-another_refused law octets small (Err e) _ (inr (f, inl memory, from)) s = inr (from ∙ ap Codec memory)
-another_refused law octets small (Err e) _ (inr (f, inr at, from)) (bs, d, other) =
+IsErrAnd-another_shape law octets small (Err e) _ (inl (xs, x, inl memory)) s = inr memory
+IsErrAnd-another_shape law octets small (Err e) _ (inl (xs, x, inr (shape, none))) s = inl shape
+IsErrAnd-another_shape law octets small (Err e) _ (inr (f, inl memory, from)) s = inr (from ∙ ap Codec memory)
+IsErrAnd-another_shape law octets small (Err e) _ (inr (f, inr at, from)) (bs, d, other) =
     absurd (law.not_both octets bs (fault_of f) small d at)

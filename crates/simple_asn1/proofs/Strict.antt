@@ -24,45 +24,47 @@ use Rattle.asn1_blocks.proofs.OneReading.{IsBlock-encodes, EncodesAll-unique}
 use Rattle.asn1_blocks.specs.Places.{IsEncoding}
 use Rattle.asn1_blocks.proofs.Faults.{IsEncoding-block}
 use Rattle.asn1_blocks.proofs.FaultsAlone.{FirstFault-unique}
-use Rattle.simple_asn1.proofs.Totality.{document_or_fault}
+use Rattle.simple_asn1.proofs.Totality.{IsDocument-or_fault}
 use Rattle.asn1_blocks.proofs.Readings.{IsDocument-no_fault}
 use Rattle.asn1_leaves.proofs.SliceSplit.{drop-slice_range}
 use Rattle.asn1_blocks.proofs.Slices.{tree_offset-encodes, end_before-encodes, slice_range-middle}
-use Rattle.simple_asn1.proofs.WriteSteps.{none_of_both}
-use Rattle.simple_asn1.proofs.Placed.{contents_le, header_size, shortest_encodes}
-use Rattle.simple_asn1.proofs.Shapes.{canonical_shapes}
+use Rattle.simple_asn1.proofs.WriteSteps.{first_of-none_of_both}
+use Rattle.simple_asn1.proofs.Placed.{length-le_shortest_encoding, header_size, Encoding-shortest_encoding}
+use Rattle.simple_asn1.proofs.Shapes.{all_canonical-shapes}
 
 -- what is written of a tree is an encoding
-written_encoding :
+IsEncoding-shortest_encoding :
     (c : ASN1Class) (k : Bool) (n : ℕ) (contents : List ℕ) → length (shortest_encoding c k n contents) < 2 ^ 64 →
     IsEncoding (shortest_encoding c k n contents)
-written_encoding c k n contents h = record {
+IsEncoding-shortest_encoding c k n contents h = record {
   class = c;
   constructed = k;
   tag = n;
   contents = contents;
   header = header_size c k n contents;
-  encoding = shortest_encodes c k n contents (omega (arith, h, contents_le c k n contents));
+  encoding = Encoding-shortest_encoding c k n contents (omega (arith, h, length-le_shortest_encoding c k n contents));
 }
 
-pub canonical_encoding : (b : Tree ℕ) → length (canonical b) < 2 ^ 64 → IsEncoding (canonical b)
-canonical_encoding (leaf o l) h = written_encoding Universal false (leaf_tag l) (leaf_contents l) h
-canonical_encoding (group o g bs) h = written_encoding Universal true (group_tag g) (all_canonical bs) h
-canonical_encoding (explicit c o n b) h = written_encoding c true n (canonical b) h
-canonical_encoding (unknown c k o n v) h = written_encoding c k n v h
+-- the canonical octets of a tree are an encoding
+pub IsEncoding-canonical : (b : Tree ℕ) → length (canonical b) < 2 ^ 64 → IsEncoding (canonical b)
+IsEncoding-canonical (leaf o l) h = IsEncoding-shortest_encoding Universal false (leaf_tag l) (leaf_contents l) h
+IsEncoding-canonical (group o g bs) h = IsEncoding-shortest_encoding Universal true (group_tag g) (all_canonical bs) h
+IsEncoding-canonical (explicit c o n b) h = IsEncoding-shortest_encoding c true n (canonical b) h
+IsEncoding-canonical (unknown c k o n v) h = IsEncoding-shortest_encoding c k n v h
 
 -- after u stand the octets of the first of trees, and then the rest
-record Here (i u : List ℕ) (b : Tree ℕ) (bs : Trees ℕ) (first rest : List ℕ) : Type 0 where
+record IsFirstAt (i u : List ℕ) (b : Tree ℕ) (bs : Trees ℕ) (first rest : List ℕ) : Type 0 where
   pub octets : top_octets i b bs ≡ first
   pub at : tree_offset b ≡ length u
   pub end : end_before bs (length i) ≡ length u + length first
   pub whole : i ≡ (u ++ first) ++ rest
   pub after : EncodesAll (length (u ++ first)) rest bs
 
-octets_here :
+-- where the octets of the first of trees stand
+IsFirstAt-first :
     (i u x : List ℕ) (b : Tree ℕ) (bs : Trees ℕ) → i ≡ u ++ x → (s : EncodesAll (length u) x (more_trees b bs)) →
-    Here i u b bs s.first s.rest
-octets_here i u x b bs w s =
+    IsFirstAt i u b bs s.first s.rest
+IsFirstAt-first i u x b bs w s =
     let n = ap length w ∙ length-append u x in
     let m = ap length s.whole ∙ length-append s.first s.rest in
     let o = tree_offset-encodes (length u) s.first b s.item in
@@ -78,7 +80,7 @@ octets_here i u x b bs w s =
     }
 
 -- one step over the octets of a document, from a place on
-pub record Step (i : List ℕ) (o : ℕ) (b : Tree ℕ) (bs : Trees ℕ) (e : ℕ) : Type 0 where
+pub record ComparesFirst (i : List ℕ) (o : ℕ) (b : Tree ℕ) (bs : Trees ℕ) (e : ℕ) : Type 0 where
   pub from : o ≤ e
   pub to : e ≤ length i
   pub at : tree_offset b ≡ o
@@ -89,16 +91,17 @@ pub record Step (i : List ℕ) (o : ℕ) (b : Tree ℕ) (bs : Trees ℕ) (e : �
       FirstNotCanonical i (more_trees b bs) n
   pub first_here : slice_range i o e ≢ canonical b → FirstNotCanonical i (more_trees b bs) o
 
-pub step :
+-- comparing the first of trees decides for it, or goes on behind it
+pub ComparesFirst-at :
     (i : List ℕ) (o : ℕ) (b : Tree ℕ) (bs : Trees ℕ) (e : ℕ) → o ≤ length i → e ≡ end_before bs (length i) →
-    EncodesAll o (drop o i) (more_trees b bs) → Step i o b bs e
-step i o b bs e h d s =
+    EncodesAll o (drop o i) (more_trees b bs) → ComparesFirst i o b bs e
+ComparesFirst-at i o b bs e h d s =
     let u = take o i in
     let l : length u ≡ o = length-take-le o i h in
     let w : i ≡ u ++ drop o i = sym (take-append-drop o i) in
     let t : EncodesAll (length u) (drop o i) (more_trees b bs) =
     subst (λ z. EncodesAll z (drop o i) (more_trees b bs)) (sym l) s in
-    let p = octets_here i u (drop o i) b bs w t in
+    let p = IsFirstAt-first i u (drop o i) b bs w t in
     let n : e ≡ o + length t.first = omega (arith, d, p.end, l) in
     let k : length (u ++ t.first) ≡ e = omega (arith, n, l, length-append u t.first) in
     let at : tree_offset b ≡ o = p.at ∙ l in
@@ -120,138 +123,153 @@ step i o b bs e h d s =
     }
 
 -- the block at a place, and those after it
-pub views_from :
+pub views-drop :
     (bs : List ASN1Block) (i : ℕ) (b : ASN1Block) → i < length bs → b ≡ get_or bs i b →
     views (drop i bs) ≡ more_trees (view b) (views (drop (i + 1) bs))
-views_from bs i b h e = ap views (drop_more bs i b h) ∙ ap (λ z. more_trees (view z) (views (drop (i + 1) bs))) (sym e)
+views-drop bs i b h e = ap views (drop_more bs i b h) ∙ ap (λ z. more_trees (view z) (views (drop (i + 1) bs))) (sym e)
 
 -- where those from a place on can be written, the one at the place can be, and those after it
-pub writable_from :
+pub first_write_fault-drop :
     (bs : List ASN1Block) (i : ℕ) (b : ASN1Block) → i < length bs → b ≡ get_or bs i b →
     first_write_fault (views (drop i bs)) ≡ None →
     (write_fault (view b) ≡ None) × (first_write_fault (views (drop (i + 1) bs)) ≡ None)
-writable_from bs i b h e f =
-    none_of_both (write_fault (view b)) (first_write_fault (views (drop (i + 1) bs)))
-    (sym (ap first_write_fault (views_from bs i b h e)) ∙ f)
+first_write_fault-drop bs i b h e f =
+    first_of-none_of_both (write_fault (view b)) (first_write_fault (views (drop (i + 1) bs)))
+    (sym (ap first_write_fault (views-drop bs i b h e)) ∙ f)
 
 -- octets that are compared with as many are the same exactly if the comparison says so
-pub compared_whole : (a b : Comparison) (xs : List ℕ) → compared a xs b → length xs ≡ length a.rest.now → IsTrue a.same
+pub compared-whole : (a b : Comparison) (xs : List ℕ) → compared a xs b → length xs ≡ length a.rest.now → IsTrue a.same
     → IsTrue b.same ↔ (a.rest.now ≡ xs)
-compared_whole a b xs (front, whole, size, same) n s =
+compared-whole a b xs (front, whole, size, same) n s =
     let all : a.rest.now ≡ front =
     (same_split a.rest.now front [] b.rest.now (omega (arith, n, size)) (append-nil a.rest.now ∙ whole)).0 in
     (λ h. all ∙ (same.0 h).1, λ e. same.1 (s, sym all ∙ e))
 
 -- what is written of trees is, of each, where it stands
-written_stand : (bs : Trees ℕ) (i u x : List ℕ) → i ≡ u ++ x → length x < 2 ^ 64 → EncodesAll (length u) x bs
+EachIsCanonical-written : (bs : Trees ℕ) (i u x : List ℕ) → i ≡ u ++ x → length x < 2 ^ 64 → EncodesAll (length u) x bs
     → x ≡ all_canonical bs → EachIsCanonical i bs
-written_stand no_trees i u x w small s e = tt
-written_stand (more_trees b bs) i u x w small s e =
-    let p = octets_here i u x b bs w s in
+EachIsCanonical-written no_trees i u x w small s e = tt
+EachIsCanonical-written (more_trees b bs) i u x w small s e =
+    let p = IsFirstAt-first i u x b bs w s in
     let l = ap length e ∙ length-append (canonical b) (all_canonical bs) in
     let F = IsEncoding-block s.first (IsBlock-encodes (length u) s.first b s.item) in
-    let G = canonical_encoding b (omega (arith, small, l)) in
+    let G = IsEncoding-canonical b (omega (arith, small, l)) in
     let h = encoding_alone _ _ _ _ _ _ _ _ _ _ _ _ s.rest (all_canonical bs) F.encoding G.encoding (sym s.whole ∙ e)
     in (
       p.octets ∙ h.octets,
-      written_stand bs i (u ++ s.first) s.rest p.whole
+      EachIsCanonical-written bs i (u ++ s.first) s.rest p.whole
           (omega (arith, small, ap length s.whole, length-append s.first s.rest))
           p.after h.rest,
     )
 
 -- a document each of whose blocks stands in its canonical octets is what is written of it
-stand_written : (bs : Trees ℕ) (i u x : List ℕ) → i ≡ u ++ x → EncodesAll (length u) x bs → EachIsCanonical i bs →
+all_canonical-each_canonical : (bs : Trees ℕ) (i u x : List ℕ) → i ≡ u ++ x → EncodesAll (length u) x bs →
+    EachIsCanonical i bs →
     x ≡ all_canonical bs
-stand_written no_trees i u x w s c = s
-stand_written (more_trees b bs) i u x w s c =
-    let p = octets_here i u x b bs w s in
+all_canonical-each_canonical no_trees i u x w s c = s
+all_canonical-each_canonical (more_trees b bs) i u x w s c =
+    let p = IsFirstAt-first i u x b bs w s in
     s.whole ∙ (ap (λ z. z ++ s.rest) (sym p.octets ∙ c.0)
-    ∙ ap (λ z. canonical b ++ z) (stand_written bs i (u ++ s.first) s.rest p.whole p.after c.1))
+    ∙ ap (λ z. canonical b ++ z) (all_canonical-each_canonical bs i (u ++ s.first) s.rest p.whole p.after c.1))
 
 -- each stands so, or one is the first that does not
-stand_or_first : (i : List ℕ) (bs : Trees ℕ) → EachIsCanonical i bs ⊎ ((n : ℕ) × FirstNotCanonical i bs n)
-stand_or_first i no_trees = inl tt
-stand_or_first i (more_trees b bs) = elim (Known-octets (top_octets i b bs) (canonical b)) [
+EachIsCanonical-or_first : (i : List ℕ) (bs : Trees ℕ) → EachIsCanonical i bs ⊎ ((n : ℕ) × FirstNotCanonical i bs n)
+EachIsCanonical-or_first i no_trees = inl tt
+EachIsCanonical-or_first i (more_trees b bs) = elim (Known-octets (top_octets i b bs) (canonical b)) [
   | inr ne ↦ inr (tree_offset b, inl (ne, refl))
-  | inl e ↦ elim (stand_or_first i bs) [ inl s ↦ inl (e, s) | inr f ↦ inr (f.0, inr (e, f.1)) ]
+  | inl e ↦ elim (EachIsCanonical-or_first i bs) [ inl s ↦ inl (e, s) | inr f ↦ inr (f.0, inr (e, f.1)) ]
 ]
 
 -- no octets are canonical in each block and have a first block that is not
-stand_no_first : (i : List ℕ) (bs : Trees ℕ) (n : ℕ) → EachIsCanonical i bs → FirstNotCanonical i bs n → ⊥
-stand_no_first i no_trees n s f = f
-stand_no_first i (more_trees b bs) n s (inl f) = f.0 s.0
-stand_no_first i (more_trees b bs) n s (inr f) = stand_no_first i bs n s.1 f.1
+EachIsCanonical-no_first : (i : List ℕ) (bs : Trees ℕ) (n : ℕ) → EachIsCanonical i bs → FirstNotCanonical i bs n → ⊥
+EachIsCanonical-no_first i no_trees n s f = f
+EachIsCanonical-no_first i (more_trees b bs) n s (inl f) = f.0 s.0
+EachIsCanonical-no_first i (more_trees b bs) n s (inr f) = EachIsCanonical-no_first i bs n s.1 f.1
 
 -- there is one first
-first_alone : (i : List ℕ) (bs : Trees ℕ) (m n : ℕ) → FirstNotCanonical i bs m → FirstNotCanonical i bs n → m ≡ n
-first_alone i no_trees m n p q = absurd p
-first_alone i (more_trees b bs) m n (inl p) (inl q) = p.1 ∙ sym q.1
-first_alone i (more_trees b bs) m n (inl p) (inr q) = absurd (p.0 q.0)
-first_alone i (more_trees b bs) m n (inr p) (inl q) = absurd (q.0 p.0)
-first_alone i (more_trees b bs) m n (inr p) (inr q) = first_alone i bs m n p.1 q.1
+FirstNotCanonical-unique : (i : List ℕ) (bs : Trees ℕ) (m n : ℕ) → FirstNotCanonical i bs m → FirstNotCanonical i bs n →
+    m ≡ n
+FirstNotCanonical-unique i no_trees m n p q = absurd p
+FirstNotCanonical-unique i (more_trees b bs) m n (inl p) (inl q) = p.1 ∙ sym q.1
+FirstNotCanonical-unique i (more_trees b bs) m n (inl p) (inr q) = absurd (p.0 q.0)
+FirstNotCanonical-unique i (more_trees b bs) m n (inr p) (inl q) = absurd (q.0 p.0)
+FirstNotCanonical-unique i (more_trees b bs) m n (inr p) (inr q) = FirstNotCanonical-unique i bs m n p.1 q.1
 
-pub stand_exactly : (i : List ℕ) (bs : Trees ℕ) → length i < 2 ^ 64 → IsDocument i bs →
+-- a document is canonical exactly if each of its blocks is
+pub EachIsCanonical-iff_canonical : (i : List ℕ) (bs : Trees ℕ) → length i < 2 ^ 64 → IsDocument i bs →
     (i ≡ all_canonical bs) ↔ EachIsCanonical i bs
-stand_exactly i bs small d =
-    (λ e. written_stand bs i [] i refl small d.blocks e, λ s. stand_written bs i [] i refl d.blocks s)
+EachIsCanonical-iff_canonical i bs small d = (
+  λ e. EachIsCanonical-written bs i [] i refl small d.blocks e,
+  λ s. all_canonical-each_canonical bs i [] i refl
+      d.blocks s,
+)
 
 -- a canonical document has no tree that is not canonical
-canonical_no_first : (i : List ℕ) (bs cs : Trees ℕ) (n : ℕ) → length i < 2 ^ 64 → CanonicalDocument i bs →
+CanonicalDocument-no_first : (i : List ℕ) (bs cs : Trees ℕ) (n : ℕ) → length i < 2 ^ 64 → CanonicalDocument i bs →
     IsDocument i cs
     → FirstNotCanonical i cs n → ⊥
-canonical_no_first i bs cs n small d a f =
+CanonicalDocument-no_first i bs cs n small d a f =
     let same : cs ≡ bs = EncodesAll-unique 0 i cs bs a.blocks d.0.blocks in
-    stand_no_first i bs n ((stand_exactly i bs small d.0).0 d.1) (subst (λ z. FirstNotCanonical i z n) same f)
+    EachIsCanonical-no_first i bs n ((EachIsCanonical-iff_canonical i bs small d.0).0 d.1)
+    (subst (λ z. FirstNotCanonical i z n) same f)
 
-pub strict_either : (i : List ℕ) → length i < 2 ^ 64 →
+-- octets are a canonical document or have a strict fault
+pub CanonicalDocument-or_fault : (i : List ℕ) → length i < 2 ^ 64 →
     ((bs : Trees ℕ) × CanonicalDocument i bs) ⊎ ((e : DecodeFault) × StrictFault i e)
-strict_either i small = elim (document_or_fault i small) [
+CanonicalDocument-or_fault i small = elim (IsDocument-or_fault i small) [
   | inr f ↦ inr (f.0, inl f.1)
-  | inl d ↦ elim (stand_or_first i d.0) [
-    | inl s ↦ inl (d.0, (d.1, (stand_exactly i d.0 small d.1).1 s))
+  | inl d ↦ elim (EachIsCanonical-or_first i d.0) [
+    | inl s ↦ inl (d.0, (d.1, (EachIsCanonical-iff_canonical i d.0 small d.1).1 s))
     | inr f ↦ inr (not_canonical f.0, inr (f.0, (d.0, d.1, f.1), refl))
   ]
 ]
 
-pub strict_not_both : (i : List ℕ) (bs : Trees ℕ) (e : DecodeFault) → length i < 2 ^ 64 → CanonicalDocument i bs →
+-- a canonical document has no strict fault
+pub CanonicalDocument-no_fault : (i : List ℕ) (bs : Trees ℕ) (e : DecodeFault) → length i < 2 ^ 64 →
+    CanonicalDocument i bs →
     StrictFault i e → ⊥
-strict_not_both i bs e small d (inl f) = IsDocument-no_fault i bs e small d.0 f
-strict_not_both i bs e small d (inr (n, (cs, a, f), g)) = canonical_no_first i bs cs n small d a f
+CanonicalDocument-no_fault i bs e small d (inl f) = IsDocument-no_fault i bs e small d.0 f
+CanonicalDocument-no_fault i bs e small d (inr (n, (cs, a, f), g)) = CanonicalDocument-no_first i bs cs n small d a f
 
-pub strict_fault_alone : (i : List ℕ) (e d : DecodeFault) → length i < 2 ^ 64 → StrictFault i e → StrictFault i d →
+-- octets have one strict fault
+pub StrictFault-unique : (i : List ℕ) (e d : DecodeFault) → length i < 2 ^ 64 → StrictFault i e → StrictFault i d →
     e ≡ d
-strict_fault_alone i e d small (inl p) (inl q) = FirstFault-unique i e d p q small
-strict_fault_alone i e d small (inl p) (inr (n, (bs, a, f), g)) = absurd (IsDocument-no_fault i bs e small a p)
-strict_fault_alone i e d small (inr (n, (bs, a, f), g)) (inl q) = absurd (IsDocument-no_fault i bs d small a q)
-strict_fault_alone i e d small (inr (n, (bs, a, f), g)) (inr (m, (cs, b, h), k)) =
+StrictFault-unique i e d small (inl p) (inl q) = FirstFault-unique i e d p q small
+StrictFault-unique i e d small (inl p) (inr (n, (bs, a, f), g)) = absurd (IsDocument-no_fault i bs e small a p)
+StrictFault-unique i e d small (inr (n, (bs, a, f), g)) (inl q) = absurd (IsDocument-no_fault i bs d small a q)
+StrictFault-unique i e d small (inr (n, (bs, a, f), g)) (inr (m, (cs, b, h), k)) =
     let same : cs ≡ bs = EncodesAll-unique 0 i cs bs b.blocks a.blocks in
-    g ∙ (ap not_canonical (first_alone i bs n m f (subst (λ z. FirstNotCanonical i z m) same h)) ∙ sym k)
+    g ∙ (ap not_canonical (FirstNotCanonical-unique i bs n m f (subst (λ z. FirstNotCanonical i z m) same h)) ∙ sym k)
 
-pub strict_equal : (i : List ℕ) (bs : Trees ℕ) → CanonicalDocument i bs → EqualByOctets i bs
-strict_equal i bs d other cs e = (
-  λ p. d.1 ∙ (sym (canonical_shapes bs) ∙ (ap all_canonical p ∙ (canonical_shapes cs ∙ sym e.1))),
+-- blocks of canonical documents are equal exactly if their octets are
+pub EqualByOctets-canonical : (i : List ℕ) (bs : Trees ℕ) → CanonicalDocument i bs → EqualByOctets i bs
+EqualByOctets-canonical i bs d other cs e = (
+  λ p. d.1 ∙ (sym (all_canonical-shapes bs) ∙ (ap all_canonical p ∙ (all_canonical-shapes cs ∙ sym e.1))),
   λ q. ap shapes (EncodesAll-unique 0 i bs cs d.0.blocks (subst (λ z. EncodesAll 0 z cs) (sym q) e.0.blocks)),
 )
 
--- an answer that is a canonical document or a strict fault is the only one
-pub strict_accepted :
+-- strict reading accepts a canonical document as its trees, unless memory runs out
+pub CanonicalDocument-accepted :
     (i : List ℕ) (r : Result (Vec ASN1Block Global) ASN1DecodeErr) → length i < 2 ^ 64 →
     IfOk r (λ v. CanonicalDocument i (views v.items)) → IfErr r (OutOfMemoryOr (StrictFault i)) →
     (bs : Trees ℕ) → CanonicalDocument i bs → MatchResult r (λ v. views v.items ≡ bs) (λ e. e ≡ OutOfMemory)
-strict_accepted i (Ok v) small ok err bs d = EncodesAll-unique 0 i (views v.items) bs ok.0.blocks d.0.blocks
-strict_accepted i (Err e) small ok (inl memory) bs d = memory
-strict_accepted i (Err e) small ok (inr fault) bs d = absurd (strict_not_both i bs (fault_of e) small d fault)
+CanonicalDocument-accepted i (Ok v) small ok err bs d = EncodesAll-unique 0 i (views v.items) bs ok.0.blocks d.0.blocks
+CanonicalDocument-accepted i (Err e) small ok (inl memory) bs d = memory
+CanonicalDocument-accepted i (Err e) small ok (inr fault) bs d =
+    absurd (CanonicalDocument-no_fault i bs (fault_of e) small d fault)
 
-pub strict_refused :
+-- strict reading refuses octets with a strict fault for it
+pub StrictFault-refused :
     (i : List ℕ) (r : Result (Vec ASN1Block Global) ASN1DecodeErr) → length i < 2 ^ 64 →
     IfOk r (λ v. CanonicalDocument i (views v.items)) → IfErr r (OutOfMemoryOr (StrictFault i)) →
     (fault : DecodeFault) → StrictFault i fault → IsErrAnd r (OutOfMemoryOr (λ e. e ≡ fault))
-strict_refused i (Ok v) small ok err fault f = strict_not_both i (views v.items) fault small ok f
-strict_refused i (Err e) small ok (inl memory) fault f = inl memory
-strict_refused i (Err e) small ok (inr first) fault f = inr (strict_fault_alone i (fault_of e) fault small first f)
+StrictFault-refused i (Ok v) small ok err fault f = CanonicalDocument-no_fault i (views v.items) fault small ok f
+StrictFault-refused i (Err e) small ok (inl memory) fault f = inl memory
+StrictFault-refused i (Err e) small ok (inr first) fault f = inr (StrictFault-unique i (fault_of e) fault small first f)
 
-pub strict_shared :
+-- blocks that strict reading returns are equal exactly if their octets are
+pub EqualByOctets-read :
     (i : List ℕ) (r : Result (Vec ASN1Block Global) ASN1DecodeErr) → IfOk r (λ v. CanonicalDocument i (views v.items)) →
     IfOk r (λ v. EqualByOctets i (views v.items))
-strict_shared i (Ok v) ok = strict_equal i (views v.items) ok
-strict_shared i (Err e) ok = tt
+EqualByOctets-read i (Ok v) ok = EqualByOctets-canonical i (views v.items) ok
+EqualByOctets-read i (Err e) ok = tt

@@ -13,28 +13,35 @@ use Rattle.asn1_outline.specs.declared.outline.Outline.{Outline}
 use Rattle.simple_asn1.specs.Canonical.{all_canonical}
 use Rattle.simple_asn1.specs.ReadBack.{CanonicalDocument}
 use Rattle.simple_asn1.specs.Strict.{StrictFault}
-use Rattle.simple_asn1.proofs.Strict.{strict_fault_alone, strict_not_both}
+use Rattle.simple_asn1.proofs.Strict.{StrictFault-unique, CanonicalDocument-no_fault}
 
+-- the outline is that of a canonical document
 abbrev pub IsStrictOutline : List ℕ → Outline → Type 0
 IsStrictOutline i outline = (bs : Trees ℕ) × CanonicalDocument i bs × AreEntriesOf i bs (entries_in outline)
 
-pub outline_accepted :
+-- a strict outline of a canonical document has its entries, unless memory runs out
+pub CanonicalDocument-outline_accepted :
     (i : List ℕ) (r : Result Outline ASN1DecodeErr) → length i < 2 ^ 64 → IfOk r (IsStrictOutline i) →
     IfErr r (OutOfMemoryOr (StrictFault i)) → (bs : Trees ℕ) → CanonicalDocument i bs →
     MatchResult r (λ outline. AreEntriesOf i bs (entries_in outline)) (λ e. e ≡ OutOfMemory)
-outline_accepted i (Ok outline) small (cs, d, are) err bs e =
+CanonicalDocument-outline_accepted i (Ok outline) small (cs, d, are) err bs e =
     subst (λ z. AreEntriesOf i z (entries_in outline)) (EncodesAll-unique 0 i cs bs d.0.blocks e.0.blocks) are
-outline_accepted i (Err e) small ok (inl memory) bs d = memory
-outline_accepted i (Err e) small ok (inr fault) bs d = absurd (strict_not_both i bs (fault_of e) small d fault)
+CanonicalDocument-outline_accepted i (Err e) small ok (inl memory) bs d = memory
+CanonicalDocument-outline_accepted i (Err e) small ok (inr fault) bs d =
+    absurd (CanonicalDocument-no_fault i bs (fault_of e) small d fault)
 
-pub outline_refused :
+-- a strict outline of octets with a strict fault is refused for it
+pub StrictFault-outline_refused :
     (i : List ℕ) (r : Result Outline ASN1DecodeErr) → length i < 2 ^ 64 → IfOk r (IsStrictOutline i) →
     IfErr r (OutOfMemoryOr (StrictFault i)) → (fault : DecodeFault) → StrictFault i fault →
     IsErrAnd r (OutOfMemoryOr (λ e. e ≡ fault))
-outline_refused i (Ok outline) small (cs, d, are) err fault f = strict_not_both i cs fault small d f
-outline_refused i (Err e) small ok (inl memory) fault f = inl memory
-outline_refused i (Err e) small ok (inr first) fault f = inr (strict_fault_alone i (fault_of e) fault small first f)
+StrictFault-outline_refused i (Ok outline) small (cs, d, are) err fault f =
+    CanonicalDocument-no_fault i cs fault small d f
+StrictFault-outline_refused i (Err e) small ok (inl memory) fault f = inl memory
+StrictFault-outline_refused i (Err e) small ok (inr first) fault f =
+    inr (StrictFault-unique i (fault_of e) fault small first f)
 
 -- a document that has the octets of its blocks has those of its only reading
-pub canonical_here : (i : List ℕ) (bs cs : Trees ℕ) → CanonicalDocument i bs → IsDocument i cs → i ≡ all_canonical cs
-canonical_here i bs cs d e = d.1 ∙ ap all_canonical (EncodesAll-unique 0 i bs cs d.0.blocks e.blocks)
+pub all_canonical-only_reading : (i : List ℕ) (bs cs : Trees ℕ) → CanonicalDocument i bs → IsDocument i cs →
+    i ≡ all_canonical cs
+all_canonical-only_reading i bs cs d e = d.1 ∙ ap all_canonical (EncodesAll-unique 0 i bs cs d.0.blocks e.blocks)

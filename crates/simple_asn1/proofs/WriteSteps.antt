@@ -20,158 +20,170 @@ use Rattle.simple_asn1.specs.declared.write.measure.Measured.{Measured}
 use Rattle.asn1_blocks.proofs.BlockLists.{tree_count, tree_count-views}
 use Rattle.asn1_blocks.proofs.TreeOrders.{BeginsAtPlace-drop}
 
-pub canonical_parts : (b : Tree ℕ) →
+-- the canonical octets of a tree are its identifier, length and contents octets
+pub canonical-parts : (b : Tree ℕ) →
     canonical b ≡ identifier_of b ++ (shortest_length (length (contents_of b)) ++ contents_of b)
-canonical_parts (leaf o l) = refl
-canonical_parts (group o g bs) = refl
-canonical_parts (explicit c o n b) = refl
-canonical_parts (unknown c k o n v) = refl
+canonical-parts (leaf o l) = refl
+canonical-parts (group o g bs) = refl
+canonical-parts (explicit c o n b) = refl
+canonical-parts (unknown c k o n v) = refl
 
-pub contents_parts : (b : Tree ℕ) → contents_of b ≡ own_contents b ++ all_canonical (inside b)
-contents_parts (leaf o l) = sym (append-nil _)
-contents_parts (group o g bs) = refl
-contents_parts (explicit c o n b) = sym (append-nil _)
-contents_parts (unknown c k o n v) = sym (append-nil _)
+-- the contents octets of a tree are its own and those of the trees that it holds
+pub contents_of-parts : (b : Tree ℕ) → contents_of b ≡ own_contents b ++ all_canonical (inside b)
+contents_of-parts (leaf o l) = sym (append-nil _)
+contents_of-parts (group o g bs) = refl
+contents_of-parts (explicit c o n b) = sym (append-nil _)
+contents_of-parts (unknown c k o n v) = sym (append-nil _)
 
-regroup : (i s c x : List ℕ) → i ++ (s ++ (c ++ x)) ≡ (i ++ (s ++ c)) ++ x
-regroup i s c x = sym (append_assoc i (s ++ c) x ∙ ap (λ z. i ++ z) (append_assoc s c x))
+pub append-regrouped : (i s c x : List ℕ) → i ++ (s ++ (c ++ x)) ≡ (i ++ (s ++ c)) ++ x
+append-regrouped i s c x = sym (append_assoc i (s ++ c) x ∙ ap (λ z. i ++ z) (append_assoc s c x))
 
-own_parts : (b : Tree ℕ) → canonical b ≡ own_octets b ++ all_canonical (inside b)
-own_parts b =
-    canonical_parts b ∙ (ap (λ z. identifier_of b ++ (shortest_length (length (contents_of b)) ++ z)) (contents_parts b)
-    ∙ regroup (identifier_of b) (shortest_length (length (contents_of b))) (own_contents b) (all_canonical (inside b)))
+-- the canonical octets of a tree are its own and those of the trees that it holds
+canonical-own_octets : (b : Tree ℕ) → canonical b ≡ own_octets b ++ all_canonical (inside b)
+canonical-own_octets b =
+    canonical-parts b
+    ∙ (ap (λ z. identifier_of b ++ (shortest_length (length (contents_of b)) ++ z)) (contents_of-parts b)
+    ∙ append-regrouped (identifier_of b) (shortest_length (length (contents_of b))) (own_contents b)
+    (all_canonical (inside b)))
 
-canonical_join : (xs ys : List ASN1Block) →
+all_canonical-append : (xs ys : List ASN1Block) →
     all_canonical (views (xs ++ ys)) ≡ all_canonical (views xs) ++ all_canonical (views ys)
-canonical_join [] ys = refl
-canonical_join (x ∷ xs) ys =
-    ap (λ z. canonical (view x) ++ z) (canonical_join xs ys)
+all_canonical-append [] ys = refl
+all_canonical-append (x ∷ xs) ys =
+    ap (λ z. canonical (view x) ++ z) (all_canonical-append xs ys)
     ∙ sym (append_assoc (canonical (view x)) (all_canonical (views xs)) (all_canonical (views ys)))
 
 -- the octets of trees are those that the blocks write themselves
-pub own_order : (order blocks : List ASN1Block) → IsInTreeOrder order blocks →
+pub all_own_octets-in_order : (order blocks : List ASN1Block) → IsInTreeOrder order blocks →
     all_own_octets order ≡ all_canonical (views blocks)
-own_order [] blocks h = ap (λ z. all_canonical (views z)) (sym h)
-own_order (b ∷ order) blocks (after, n, h) =
+all_own_octets-in_order [] blocks h = ap (λ z. all_canonical (views z)) (sym h)
+all_own_octets-in_order (b ∷ order) blocks (after, n, h) =
     let r : all_own_octets order ≡ all_canonical (inside (view b)) ++ all_canonical (views n.rest) =
-    own_order order after h ∙ (ap (λ z. all_canonical (views z)) n.then
-    ∙ (canonical_join n.held n.rest ∙ ap (λ z. all_canonical z ++ all_canonical (views n.rest)) n.holds)) in
+    all_own_octets-in_order order after h ∙ (ap (λ z. all_canonical (views z)) n.then
+    ∙ (all_canonical-append n.held n.rest ∙ ap (λ z. all_canonical z ++ all_canonical (views n.rest)) n.holds)) in
     ap (λ z. own_octets (view b) ++ z) r
     ∙ (sym (append_assoc (own_octets (view b)) (all_canonical (inside (view b))) (all_canonical (views n.rest)))
-    ∙ (ap (λ z. z ++ all_canonical (views n.rest)) (sym (own_parts (view b)))
+    ∙ (ap (λ z. z ++ all_canonical (views n.rest)) (sym (canonical-own_octets (view b)))
     ∙ ap (λ z. all_canonical (views z)) (sym n.first)))
 
-first_of_none : (a : Option ASN1EncodeErr) → a ≡ first_of a None
-first_of_none None = refl
-first_of_none (Some e) = refl
+pub first_of-none : (a : Option ASN1EncodeErr) → first_of a None ≡ a
+first_of-none None = refl
+first_of-none (Some e) = refl
 
-first_of_assoc : (a b c : Option ASN1EncodeErr) → first_of a (first_of b c) ≡ first_of (first_of a b) c
-first_of_assoc None b c = refl
-first_of_assoc (Some e) b c = refl
+first_of-first_of : (a b c : Option ASN1EncodeErr) → first_of a (first_of b c) ≡ first_of (first_of a b) c
+first_of-first_of None b c = refl
+first_of-first_of (Some e) b c = refl
 
-fault_parts : (b : Tree ℕ) → write_fault b ≡ first_of (own_fault b) (first_write_fault (inside b))
-fault_parts (leaf o l) = first_of_none (leaf_write_fault l)
-fault_parts (group o g bs) = refl
-fault_parts (explicit c o n b) = first_of_none (write_fault b)
-fault_parts (unknown c k o n v) = refl
+-- the first write fault of a tree is its own, or the first of the trees that it holds
+write_fault-parts : (b : Tree ℕ) → write_fault b ≡ first_of (own_fault b) (first_write_fault (inside b))
+write_fault-parts (leaf o l) = sym (first_of-none (leaf_write_fault l))
+write_fault-parts (group o g bs) = refl
+write_fault-parts (explicit c o n b) = sym (first_of-none (write_fault b))
+write_fault-parts (unknown c k o n v) = refl
 
-faults_join : (xs ys : List ASN1Block) →
+first_write_fault-append : (xs ys : List ASN1Block) →
     first_write_fault (views (xs ++ ys)) ≡ first_of (first_write_fault (views xs)) (first_write_fault (views ys))
-faults_join [] ys = refl
-faults_join (x ∷ xs) ys = ap (λ z. first_of (write_fault (view x)) z) (faults_join xs ys)
-    ∙ first_of_assoc (write_fault (view x)) (first_write_fault (views xs)) (first_write_fault (views ys))
+first_write_fault-append [] ys = refl
+first_write_fault-append (x ∷ xs) ys = ap (λ z. first_of (write_fault (view x)) z) (first_write_fault-append xs ys)
+    ∙ first_of-first_of (write_fault (view x)) (first_write_fault (views xs)) (first_write_fault (views ys))
 
 -- the first fault of what is ahead is that of the next block, or that of what comes after it
-pub fault_next : (b : ASN1Block) (before after : List ASN1Block) → IsNext b before after
+pub first_write_fault-next : (b : ASN1Block) (before after : List ASN1Block) → IsNext b before after
     → first_write_fault (views before) ≡ first_of (own_fault (view b)) (first_write_fault (views after))
-fault_next b before after n =
+first_write_fault-next b before after n =
     let rest = first_write_fault (views n.rest) in
     ap (λ z. first_write_fault (views z)) n.first
-    ∙ (ap (λ z. first_of z rest) (fault_parts (view b))
-    ∙ (sym (first_of_assoc (own_fault (view b)) (first_write_fault (inside (view b))) rest)
+    ∙ (ap (λ z. first_of z rest) (write_fault-parts (view b))
+    ∙ (sym (first_of-first_of (own_fault (view b)) (first_write_fault (inside (view b))) rest)
     ∙ ap (λ z. first_of (own_fault (view b)) z)
     (sym (ap (λ z. first_write_fault (views z)) n.then
-    ∙ (faults_join n.held n.rest ∙ ap (λ z. first_of (first_write_fault z) rest) n.holds)))))
+    ∙ (first_write_fault-append n.held n.rest ∙ ap (λ z. first_of (first_write_fault z) rest) n.holds)))))
 
 -- the first fault of writing is the first of the blocks' own faults in tree order
-pub fault_order : (order blocks : List ASN1Block) → IsInTreeOrder order blocks →
+pub first_own_fault-in_order : (order blocks : List ASN1Block) → IsInTreeOrder order blocks →
     first_own_fault order ≡ first_write_fault (views blocks)
-fault_order [] blocks h = ap (λ z. first_write_fault (views z)) (sym h)
-fault_order (b ∷ order) blocks (after, n, h) =
-    ap (λ z. first_of (own_fault (view b)) z) (fault_order order after h) ∙ sym (fault_next b blocks after n)
+first_own_fault-in_order [] blocks h = ap (λ z. first_write_fault (views z)) (sym h)
+first_own_fault-in_order (b ∷ order) blocks (after, n, h) =
+    ap (λ z. first_of (own_fault (view b)) z) (first_own_fault-in_order order after h)
+    ∙ sym (first_write_fault-next b blocks after n)
 
--- the sizes of blocks, the first last
+-- the sizes of blocks, the last first
 abbrev pub sizes_back : List ASN1Block → List ℕ
 sizes_back [] = []
 sizes_back (b ∷ bs) = sizes_back bs ++ length (canonical (view b)) ∷ []
 
-back_join : (xs ys : List ASN1Block) → sizes_back (xs ++ ys) ≡ sizes_back ys ++ sizes_back xs
-back_join [] ys = sym (append-nil (sizes_back ys))
-back_join (x ∷ xs) ys =
-    ap (λ z. z ++ length (canonical (view x)) ∷ []) (back_join xs ys)
+sizes_back-append : (xs ys : List ASN1Block) → sizes_back (xs ++ ys) ≡ sizes_back ys ++ sizes_back xs
+sizes_back-append [] ys = sym (append-nil (sizes_back ys))
+sizes_back-append (x ∷ xs) ys =
+    ap (λ z. z ++ length (canonical (view x)) ∷ []) (sizes_back-append xs ys)
     ∙ append_assoc (sizes_back ys) (sizes_back xs) (length (canonical (view x)) ∷ [])
 
-length_back : (bs : List ASN1Block) → length (sizes_back bs) ≡ length bs
-length_back [] = refl
-length_back (b ∷ bs) = omega (arith, length-append (sizes_back bs) (length (canonical (view b)) ∷ []), length_back bs)
+length-sizes_back : (bs : List ASN1Block) → length (sizes_back bs) ≡ length bs
+length-sizes_back [] = refl
+length-sizes_back (b ∷ bs) =
+    omega (arith, length-append (sizes_back bs) (length (canonical (view b)) ∷ []), length-sizes_back bs)
 
-pub sum_back : (bs : List ASN1Block) → sum (sizes_back bs) ≡ length (all_canonical (views bs))
-sum_back [] = refl
-sum_back (b ∷ bs) =
+pub sum-sizes_back : (bs : List ASN1Block) → sum (sizes_back bs) ≡ length (all_canonical (views bs))
+sum-sizes_back [] = refl
+sum-sizes_back (b ∷ bs) =
     omega (
       arith,
       sum_by-append (λ (x : ℕ). x) (sizes_back bs) (length (canonical (view b)) ∷ []),
-      sum_back bs,
+      sum-sizes_back bs,
       length-append (canonical (view b))
           (all_canonical (views bs)),
     )
 
 -- what is taken from the sizes of what comes after a block, and what then stands for the block itself
-pub record Step (b : ASN1Block) (left : List ASN1Block) (sizes : List ℕ) (m n : ℕ) : Type 0 where
+pub record MeasuresBlock (b : ASN1Block) (left : List ASN1Block) (sizes : List ℕ) (m n : ℕ) : Type 0 where
   pub enough : n ≤ m
   pub sum_inside : sum (drop (m - n) sizes) ≡ length (all_canonical (inside (view b)))
   pub after : take (m - n) sizes ++ length (canonical (view b)) ∷ [] ≡ sizes_back left
 
--- n blocks are held
-pub step : (b : ASN1Block) (left after : List ASN1Block) (sizes : List ℕ) (m n : ℕ) → IsNext b left after →
+-- measuring a block takes the sizes of the blocks that it holds, and puts its own
+pub MeasuresBlock-next : (b : ASN1Block) (left after : List ASN1Block) (sizes : List ℕ) (m n : ℕ) →
+    IsNext b left after →
     m ≡ length sizes
     → sizes ≡ sizes_back after
-    → n ≡ tree_count (inside (view b)) → Step b left sizes m n
-step b left after sizes m n x w s k =
-    let j : sizes ≡ sizes_back x.rest ++ sizes_back x.held = s ∙ (ap sizes_back x.then ∙ back_join x.held x.rest) in
+    → n ≡ tree_count (inside (view b)) → MeasuresBlock b left sizes m n
+MeasuresBlock-next b left after sizes m n x w s k =
+    let j : sizes ≡ sizes_back x.rest ++ sizes_back x.held =
+    s ∙ (ap sizes_back x.then ∙ sizes_back-append x.held x.rest) in
     let u : length x.held ≡ n = sym (tree_count-views x.held) ∙ (ap tree_count x.holds ∙ sym k) in
     let t : length sizes ≡ length (sizes_back x.rest) + length (sizes_back x.held) =
     ap length j ∙ length-append (sizes_back x.rest) (sizes_back x.held) in
-    let q : length (sizes_back x.rest) ≡ m - n = omega (arith, t, length_back x.held, u, w) in
+    let q : length (sizes_back x.rest) ≡ m - n = omega (arith, t, length-sizes_back x.held, u, w) in
     record {
-      enough = omega (arith, t, length_back x.held, u, w);
+      enough = omega (arith, t, length-sizes_back x.held, u, w);
       sum_inside = ap (λ z. sum (drop (m - n) z)) j
           ∙ (ap sum (drop_at (sizes_back x.rest) (sizes_back x.held) (m - n) q)
-          ∙ (sum_back x.held ∙ ap (λ z. length (all_canonical z)) x.holds));
+          ∙ (sum-sizes_back x.held ∙ ap (λ z. length (all_canonical z)) x.holds));
       after = ap (λ z. z ++ length (canonical (view b)) ∷ [])
           (ap (λ z. take (m - n) z) j ∙ take_at (sizes_back x.rest) (sizes_back x.held) (m - n) q)
           ∙ ap sizes_back (sym x.first);
     }
 
 -- a step of measuring at a place of the list
-pub step_at : (order : List ASN1Block) (i j : ℕ) (b : ASN1Block) (sizes : List ℕ) (m : ℕ) (held : List ASN1Block) →
+pub MeasuresBlock-at : (order : List ASN1Block) (i j : ℕ) (b : ASN1Block) (sizes : List ℕ) (m : ℕ)
+    (held : List ASN1Block) →
     j + 1 ≡ i → i ≤ length order
     → b ≡ get_or order j b → m ≡ length sizes →
     ((left : List ASN1Block) → IsInTreeOrder (drop i order) left → sizes ≡ sizes_back left)
     → views held ≡ inside (view b) → (left : List ASN1Block) → IsInTreeOrder (drop j order) left →
-    Step b left sizes m (length held)
-step_at order i j b sizes m held e l g w s k left h =
+    MeasuresBlock b left sizes m (length held)
+MeasuresBlock-at order i j b sizes m held e l g w s k left h =
     let p = BeginsAtPlace-drop order left i j b e l g h in
-    step b left p.after sizes m (length held) p.next w (s p.after p.ordered)
+    MeasuresBlock-next b left p.after sizes m (length held) p.next w (s p.after p.ordered)
     (sym (tree_count-views held) ∙ ap tree_count k)
 
 -- the number at a place of a list of numbers, of which those before it are by f and the others by g
-pub place_at : (f g : ASN1Block → ℕ) (order : List ASN1Block) (i j : ℕ) (x : ASN1Block) (sizes : List ℕ) → j + 1 ≡ i →
+pub set-measured_size : (f g : ASN1Block → ℕ) (order : List ASN1Block) (i j : ℕ) (x : ASN1Block) (sizes : List ℕ) →
+    j + 1 ≡ i →
     i ≤ length order
     → x ≡ get_or order j x
     → sizes ≡ map f (take i order) ++ map g (drop i order)
     → (get_or sizes j 0 ≡ f x) × (set sizes j (g x) ≡ map f (take j order) ++ map g (drop j order))
-place_at f g order i j x sizes e l k p =
+set-measured_size f g order i j x sizes e l k p =
     let h : j < length order = omega (arith, e, l) in
     let a = map f (take j order) in
     let c = map g (drop i order) in
@@ -186,89 +198,90 @@ place_at f g order i j x sizes e l k p =
           ∙ (set_at a (f x) c (g x) j n ∙ ap (λ z. a ++ z) (sym d)),
     )
 
-pub length_canonical : (b : Tree ℕ) → length (canonical b) ≡ length
+pub length-canonical : (b : Tree ℕ) → length (canonical b) ≡ length
     (identifier_of b) + (length (shortest_length (length (contents_of b))) + length (contents_of b))
-length_canonical b =
+length-canonical b =
     omega (
       arith,
-      ap length (canonical_parts b),
+      ap length (canonical-parts b),
       length-append (identifier_of b) (shortest_length (length (contents_of b)) ++ contents_of b),
       length-append (shortest_length (length (contents_of b))) (contents_of b),
     )
 
-pub length_contents : (b : Tree ℕ) →
+pub length-contents_of : (b : Tree ℕ) →
     length (contents_of b) ≡ length (own_contents b) + length (all_canonical (inside b))
-length_contents b = omega
-    (arith, ap length (contents_parts b), length-append (own_contents b) (all_canonical (inside b)))
+length-contents_of b = omega
+    (arith, ap length (contents_of-parts b), length-append (own_contents b) (all_canonical (inside b)))
 
 -- the sum of all sizes
-pub total_of : (r : Result ℕ ASN1EncodeErr) (t : ℕ) (order : List ASN1Block) → IfOk r (λ s. s ≡ t)
+pub IfOk-total_size : (r : Result ℕ ASN1EncodeErr) (t : ℕ) (order : List ASN1Block) → IfOk r (λ s. s ≡ t)
     → ((blocks : List ASN1Block) → IsInTreeOrder order blocks → t ≡ length (all_canonical (views blocks)))
     → IfOk r (λ n. (blocks : List ASN1Block) → IsInTreeOrder order blocks → n ≡ length (all_canonical (views blocks)))
-total_of (Ok s) t order h f = λ blocks k. h ∙ f blocks k
-total_of (Err e) t order h f = tt
+IfOk-total_size (Ok s) t order h f = λ blocks k. h ∙ f blocks k
+IfOk-total_size (Err e) t order h f = tt
 
 -- a block of the list of the first walk: its size is the one beside it
-pub size_at : (list : List Measured) (i : ℕ) (m : Measured) → i < length list → m ≡ get_or list i m
+pub contents_size_of-get_or : (list : List Measured) (i : ℕ) (m : Measured) → i < length list → m ≡ get_or list i m
     → measured_sizes list ≡ map contents_size_of (measured_blocks list) → m.contents ≡ contents_size_of m.block.now
-size_at [] i m h e s = absurd (omega (arith, h))
-size_at (x ∷ list) zero m h e s =
+contents_size_of-get_or [] i m h e s = absurd (omega (arith, h))
+contents_size_of-get_or (x ∷ list) zero m h e s =
     let f : x.contents ≡ contents_size_of x.block.now = cc in
     let P : Measured → Type 0 = λ y. y.contents ≡ contents_size_of y.block.now in
     subst P (sym e) f
-size_at (x ∷ list) (suc i) m h e s =
+contents_size_of-get_or (x ∷ list) (suc i) m h e s =
     let r : measured_sizes list ≡ map contents_size_of (measured_blocks list) = cc in
-    size_at list i m (omega (arith, h)) e r
+    contents_size_of-get_or list i m (omega (arith, h)) e r
 
-pub none_of_both : (a b : Option ASN1EncodeErr) → first_of a b ≡ None → (a ≡ None) × (b ≡ None)
-none_of_both None b e = (refl, e)
-none_of_both (Some x) b e = cc
+-- without a first fault of two there is none
+pub first_of-none_of_both : (a b : Option ASN1EncodeErr) → first_of a b ≡ None → (a ≡ None) × (b ≡ None)
+first_of-none_of_both None b e = (refl, e)
+first_of-none_of_both (Some x) b e = cc
 
 -- a block in a list without faults has none
-pub own_fault_at : (list : List Measured) (i : ℕ) (m : Measured) → i < length list → m ≡ get_or list i m
+pub own_fault-get_or : (list : List Measured) (i : ℕ) (m : Measured) → i < length list → m ≡ get_or list i m
     → first_own_fault (measured_blocks list) ≡ None
     → own_fault (view m.block.now) ≡ None
-own_fault_at [] i m h e f = absurd (omega (arith, h))
-own_fault_at (x ∷ list) zero m h e f =
+own_fault-get_or [] i m h e f = absurd (omega (arith, h))
+own_fault-get_or (x ∷ list) zero m h e f =
     let P : Measured → Type 0 = λ y. own_fault (view y.block.now) ≡ None in
-    subst P (sym e) (none_of_both (own_fault (view x.block.now)) (first_own_fault (measured_blocks list)) f).0
-own_fault_at (x ∷ list) (suc i) m h e f =
-    own_fault_at list i m (omega (arith, h)) e
-    (none_of_both (own_fault (view x.block.now)) (first_own_fault (measured_blocks list)) f).1
+    subst P (sym e) (first_of-none_of_both (own_fault (view x.block.now)) (first_own_fault (measured_blocks list)) f).0
+own_fault-get_or (x ∷ list) (suc i) m h e f =
+    own_fault-get_or list i m (omega (arith, h)) e
+    (first_of-none_of_both (own_fault (view x.block.now)) (first_own_fault (measured_blocks list)) f).1
 
-own_join : (xs : List Measured) (m : Measured)
+all_own_octets-append_last : (xs : List Measured) (m : Measured)
     → all_own_octets (measured_blocks (xs ++ m ∷ [])) ≡ all_own_octets (measured_blocks xs)
     ++ own_octets (view m.block.now)
-own_join [] m = append-nil (own_octets (view m.block.now))
-own_join (x ∷ xs) m =
-    ap (λ z. own_octets (view x.block.now) ++ z) (own_join xs m)
+all_own_octets-append_last [] m = append-nil (own_octets (view m.block.now))
+all_own_octets-append_last (x ∷ xs) m =
+    ap (λ z. own_octets (view x.block.now) ++ z) (all_own_octets-append_last xs m)
     ∙ sym (append_assoc (own_octets (view x.block.now)) (all_own_octets (measured_blocks xs))
     (own_octets (view m.block.now)))
 
 -- the octets of a block come after those of the blocks before
-pub own_at : (list : List Measured) (i : ℕ) (m : Measured) → i < length list → m ≡ get_or list i m
+pub all_own_octets-take : (list : List Measured) (i : ℕ) (m : Measured) → i < length list → m ≡ get_or list i m
     → all_own_octets (measured_blocks (take (i + 1) list)) ≡ all_own_octets (measured_blocks (take i list))
     ++ own_octets (view m.block.now)
-own_at list i m h e =
+all_own_octets-take list i m h e =
     ap (λ z. all_own_octets (measured_blocks z)) (take_more list i m h ∙ ap (λ z. take i list ++ z ∷ []) (sym e))
-    ∙ own_join (take i list) m
+    ∙ all_own_octets-append_last (take i list) m
 
 -- the octets of a block, with those of the blocks before, are no more than those of all
-pub own_fits : (list : List Measured) (i : ℕ) (m : Measured) → i < length list → m ≡ get_or list i m
+pub length-all_own_octets_le : (list : List Measured) (i : ℕ) (m : Measured) → i < length list → m ≡ get_or list i m
     → length (all_own_octets (measured_blocks (take i list))) + length (own_octets (view m.block.now)) ≤ length
     (all_own_octets (measured_blocks list))
-own_fits [] i m h e = absurd (omega (arith, h))
-own_fits (x ∷ list) zero m h e =
+length-all_own_octets_le [] i m h e = absurd (omega (arith, h))
+length-all_own_octets_le (x ∷ list) zero m h e =
     omega (
       arith,
       ap (λ (y : Measured). length (own_octets (view y.block.now))) e,
       length-append (own_octets (view x.block.now))
           (all_own_octets (measured_blocks list)),
     )
-own_fits (x ∷ list) (suc i) m h e =
+length-all_own_octets_le (x ∷ list) (suc i) m h e =
     omega (
       arith,
-      own_fits list i m (omega (arith, h)) e,
+      length-all_own_octets_le list i m (omega (arith, h)) e,
       length-append (own_octets (view x.block.now)) (all_own_octets (measured_blocks list)),
       length-append (own_octets (view x.block.now)) (all_own_octets (measured_blocks (take i list))),
     )

@@ -2,13 +2,13 @@
 use Rattle.std.proofs.Common.{◌<◌, ◌^◌, length, subst, ◌∙◌, arith}
 use Rattle.asn1_headers.specs.declared.header.ASN1Class.TheVariants.{Universal}
 use Rattle.simple_asn1.specs.Conversions.{Decodes, DecodeFails}
-use Rattle.simple_asn1.proofs.Trips.{trip_octets, trip_encode, trip_same, trip_decode}
+use Rattle.simple_asn1.proofs.Trips.{all_canonical-encoded, OwnEncodeFault-own, Decodes-same, OwnDecodeFault-own}
 use Rattle.simple_asn1.proofs.convert.round_trip.Goals as goal
 
 pub returns-in-Err-clause-own : goal.returns-in-Err-clause-own
 returns-in-Err-clause-own g c k =
     let x = c.args.x.now in
-    trip_encode (g.T.ToASN1.writes x Universal) (g.T.RoundTrip.trees_of x) (g.met.T.RoundTrip.written x)
+    OwnEncodeFault-own (g.T.ToASN1.writes x Universal) (g.T.RoundTrip.trees_of x) (g.met.T.RoundTrip.written x)
     g.T.Error.From-2.from_gives c.in-Err.e
     k c.in-Err.ensures.refused
 
@@ -16,7 +16,7 @@ pub returns-in-Ok-der_decode-clause-decoded : goal.returns-in-Ok-der_decode-clau
 returns-in-Ok-der_decode-clause-decoded g c =
     let x = c.args.x.now in
     let e = c.deref.ensures.value
-    ∙ trip_octets (g.T.ToASN1.writes x Universal) (g.T.RoundTrip.trees_of x) (g.met.T.RoundTrip.written x)
+    ∙ all_canonical-encoded (g.T.ToASN1.writes x Universal) (g.T.RoundTrip.trees_of x) (g.met.T.RoundTrip.written x)
     c.in-Ok.octets.items
     c.in-Ok.ensures.encoded in
     subst (λ z. Decodes g.T.FromASN1.reads z c.in-Ok-der_decode.y) e c.in-Ok-der_decode.ensures.decoded
@@ -24,11 +24,12 @@ returns-in-Ok-der_decode-clause-decoded g c =
 pub returns-in-Ok-der_decode-clause-same : goal.returns-in-Ok-der_decode-clause-same
 returns-in-Ok-der_decode-clause-same g c f =
     let x = c.args.x.now in
-    let e = trip_octets (g.T.ToASN1.writes x Universal) (g.T.RoundTrip.trees_of x) (g.met.T.RoundTrip.written x)
+    let e =
+    all_canonical-encoded (g.T.ToASN1.writes x Universal) (g.T.RoundTrip.trees_of x) (g.met.T.RoundTrip.written x)
     c.in-Ok.octets.items c.in-Ok.ensures.encoded in
     let small : length c.in-Ok.octets.items < 2 ^ 64 =
     omega (arith, c.in-Ok.octets.small, c.in-Ok.octets.ok.0, c.in-Ok.octets.ok.1) in
-    trip_same g.T.FromASN1.reads x (g.T.RoundTrip.trees_of x) (subst (λ z. length z < 2 ^ 64) e small)
+    Decodes-same g.T.FromASN1.reads x (g.T.RoundTrip.trees_of x) (subst (λ z. length z < 2 ^ 64) e small)
     (g.met.T.RoundTrip.read_back x) c.in-Ok-der_decode.y f
     (subst (λ z. Decodes g.T.FromASN1.reads z c.in-Ok-der_decode.y) (c.deref.ensures.value ∙ e)
     c.in-Ok-der_decode.ensures.decoded)
@@ -37,7 +38,7 @@ pub returns-clause-refused : goal.returns-clause-refused
 returns-clause-refused g c =
     let x = c.args.x.now in
     let e = c.deref.ensures.value
-    ∙ trip_octets (g.T.ToASN1.writes x Universal) (g.T.RoundTrip.trees_of x) (g.met.T.RoundTrip.written x)
+    ∙ all_canonical-encoded (g.T.ToASN1.writes x Universal) (g.T.RoundTrip.trees_of x) (g.met.T.RoundTrip.written x)
     c.in-Ok.octets.items
     c.in-Ok.ensures.encoded in
     subst (λ z. DecodeFails g.T.FromASN1.reads g.T.Error.From-1.from_gives z c.in-Err-der_decode.e) e
@@ -46,11 +47,12 @@ returns-clause-refused g c =
 pub returns-clause-own : goal.returns-clause-own
 returns-clause-own g c k =
     let x = c.args.x.now in
-    let e = trip_octets (g.T.ToASN1.writes x Universal) (g.T.RoundTrip.trees_of x) (g.met.T.RoundTrip.written x)
+    let e =
+    all_canonical-encoded (g.T.ToASN1.writes x Universal) (g.T.RoundTrip.trees_of x) (g.met.T.RoundTrip.written x)
     c.in-Ok.octets.items c.in-Ok.ensures.encoded in
     let small : length c.in-Ok.octets.items < 2 ^ 64 =
     omega (arith, c.in-Ok.octets.small, c.in-Ok.octets.ok.0, c.in-Ok.octets.ok.1) in
-    trip_decode g.T.FromASN1.reads x (g.T.RoundTrip.trees_of x) (subst (λ z. length z < 2 ^ 64) e small)
+    OwnDecodeFault-own g.T.FromASN1.reads x (g.T.RoundTrip.trees_of x) (subst (λ z. length z < 2 ^ 64) e small)
     g.T.Error.From-1.from_gives c.in-Err-der_decode.e k
     (subst (λ z. DecodeFails g.T.FromASN1.reads g.T.Error.From-1.from_gives z c.in-Err-der_decode.e)
     (c.deref.ensures.value ∙ e)

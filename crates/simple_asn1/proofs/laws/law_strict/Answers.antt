@@ -1,12 +1,12 @@
 -- For `laws::law_strict`: what it returns is right.
-use Rattle.simple_asn1.proofs.Strict.{stand_exactly, strict_either, strict_equal, strict_fault_alone, strict_not_both}
+use Rattle.simple_asn1.proofs.Strict.{EachIsCanonical-iff_canonical, CanonicalDocument-or_fault, EqualByOctets-canonical, StrictFault-unique, CanonicalDocument-no_fault}
 use Rattle.simple_asn1.proofs.laws.law_strict.Goals as goal
 
 pub returns : goal.returns
 returns c = record {
-  canonical = stand_exactly;
-  either = strict_either;
-  not_both = strict_not_both;
-  one_fault = strict_fault_alone;
-  equal = strict_equal;
+  canonical = EachIsCanonical-iff_canonical;
+  either = CanonicalDocument-or_fault;
+  not_both = CanonicalDocument-no_fault;
+  one_fault = StrictFault-unique;
+  equal = EqualByOctets-canonical;
 }

@@ -1,17 +1,17 @@
 -- For `write::rewrite_unless_canonical`: what it returns is right (`accepts`, `refuses`).
 use Rattle.std.proofs.Common.{◌<◌, ◌^◌, length, arith}
-use Rattle.simple_asn1.proofs.Checked.{refused_here, written_accepted, written_document}
+use Rattle.simple_asn1.proofs.Checked.{FirstFaultAt-refused, IsDocument-written_accepted, IfOk-written_document}
 use Rattle.simple_asn1.proofs.write.rewrite_unless_canonical.Goals as goal
 
 pub returns-clause-accepts : goal.returns-clause-accepts
 returns-clause-accepts c =
     let small : length c.args.i.now < 2 ^ 64 = omega arith in
     let said = c.written_unless_canonical.ensures in
-    written_accepted c.args.i.now c.written_unless_canonical.result small said.document said.fault
+    IsDocument-written_accepted c.args.i.now c.written_unless_canonical.result small said.document said.fault
 
 pub returns-clause-refuses : goal.returns-clause-refuses
 returns-clause-refuses c =
     let small : length c.args.i.now < 2 ^ 64 = omega arith in
     let said = c.written_unless_canonical.ensures in
-    refused_here c.args.i.now c.written_unless_canonical.result small
-    (written_document c.args.i.now c.written_unless_canonical.result said.document) said.fault
+    FirstFaultAt-refused c.args.i.now c.written_unless_canonical.result small
+    (IfOk-written_document c.args.i.now c.written_unless_canonical.result said.document) said.fault

@@ -3,12 +3,12 @@ use Rattle.std.proofs.Common.{◌<◌, arith, ◌≡◌, Some, None, inl, inr, s
 use Rattle.std.proofs.lemmas.List.Elements.{All-from_get_or}
 use Rattle.simple_asn1.specs.Canonical.{first_write_fault}
 use Rattle.asn1_blocks.specs.View.{document_trees}
-use Rattle.simple_asn1.proofs.Writable.{document_writable}
+use Rattle.simple_asn1.proofs.Writable.{first_write_fault-document}
 use Rattle.simple_asn1.proofs.write.written_anew.Goals as goal
 
 pub unreachable-requires : goal.unreachable-requires
 unreachable-requires c =
-    let w = document_writable c.args.i.now (document_trees c.in_ok-document.document)
+    let w = first_write_fault-document c.args.i.now (document_trees c.in_ok-document.document)
     (All-from_get_or (λ b. b < 256) c.args.i.now 0 (λ k h. omega (arith, c.type_inv.i k)))
     c.in_ok-document.ensures.document in
     elim c.in-Err.ensures.refused [

@@ -5,24 +5,25 @@ use Rattle.asn1_blocks.specs.Tree.{Leaf, Tree, leaf, object_identifier}
 use Rattle.asn1_blocks.specs.View.{tree_offset, view}
 use Rattle.simple_asn1.proofs.convert.signed.object_identifier_of.Goals as goal
 
-leaf_of : (l : Leaf) (i : List ℕ) → leaf_oid l ≡ Some i → l ≡ object_identifier i
-leaf_of (object_identifier ns) i h = cc
-leaf_of l i h = cc
+leaf_oid-object_identifier : (l : Leaf) (i : List ℕ) → leaf_oid l ≡ Some i → l ≡ object_identifier i
+leaf_oid-object_identifier (object_identifier ns) i h = cc
+leaf_oid-object_identifier l i h = cc
 
-tree_of : (t : Tree ℕ) (i : List ℕ) → tree_oid t ≡ Some i → t ≡ leaf (tree_offset t) (object_identifier i)
-tree_of (leaf o l) i h = ap (leaf o) (leaf_of l i h)
-tree_of t i h = cc
+tree_oid-leaf : (t : Tree ℕ) (i : List ℕ) → tree_oid t ≡ Some i → t ≡ leaf (tree_offset t) (object_identifier i)
+tree_oid-leaf (leaf o l) i h = ap (leaf o) (leaf_oid-object_identifier l i h)
+tree_oid-leaf t i h = cc
 
-none_of : (t : Tree ℕ) → tree_oid t ≡ None → (o : ℕ) (i : List ℕ) → t ≢ leaf o (object_identifier i)
-none_of t h o i e =
+tree_oid-none : (t : Tree ℕ) → tree_oid t ≡ None → (o : ℕ) (i : List ℕ) → t ≢ leaf o (object_identifier i)
+tree_oid-none t h o i e =
     let f : Some i ≡ None = ap tree_oid (sym e) ∙ h in
     cc
 
-found : (t : Tree ℕ) (r : Option (Bor (List ℕ))) → MatchOption r (tree_oid t ≡ None) (λ i. tree_oid t ≡ Some i.now)
+MatchOption-oid : (t : Tree ℕ) (r : Option (Bor (List ℕ))) →
+    MatchOption r (tree_oid t ≡ None) (λ i. tree_oid t ≡ Some i.now)
     → MatchOption r ((o : ℕ) (i : List ℕ) → t ≢ leaf o (object_identifier i))
     (λ i. t ≡ leaf (tree_offset t) (object_identifier i.now))
-found t None h = none_of t h
-found t (Some i) h = tree_of t i.now h
+MatchOption-oid t None h = tree_oid-none t h
+MatchOption-oid t (Some i) h = tree_oid-leaf t i.now h
 
 pub returns : goal.returns
-returns c = found (view c.args.b.now) c.oid.result c.oid.ensures
+returns c = MatchOption-oid (view c.args.b.now) c.oid.result c.oid.ensures

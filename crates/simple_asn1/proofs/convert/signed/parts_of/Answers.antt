@@ -1,7 +1,7 @@
 -- For `convert::signed::parts_of`: what it returns is right.
 use Rattle.std.proofs.Common.{◌≡◌, ◌≢◌, ◌∙◌, length, arith}
 use Rattle.asn1_blocks.specs.View.{tree_offset, view}
-use Rattle.simple_asn1.proofs.SignedTriples.{no_triple, no_signature, parts_of_three}
+use Rattle.simple_asn1.proofs.SignedTriples.{signed_tree-not_three_items, signed_tree-no_signature, signed_tree-three_items}
 use Rattle.simple_asn1.proofs.convert.signed.parts_of.Goals as goal
 use Rattle.simple_asn1.proofs.convert.signed.parts_of.Goals.{in_default-via-then-branch-lt3, in_default-via-else-branch-lt3+else-this-lt4}
 
@@ -12,10 +12,10 @@ returns-in_default c p f =
     elim c.in_default.branch [
       | in_default-via-then-branch-lt3 w ↦
           let few : length items ≢ 3 = grind arith in
-          no_triple t p (tree_offset t) items few c.in_ok-sequence_items.ensures.items f
+          signed_tree-not_three_items t p (tree_offset t) items few c.in_ok-sequence_items.ensures.items f
       | in_default-via-else-branch-lt3+else-this-lt4 w ↦
           let many : length items ≢ 3 = grind arith in
-          no_triple t p (tree_offset t) items many c.in_ok-sequence_items.ensures.items f
+          signed_tree-not_three_items t p (tree_offset t) items many c.in_ok-sequence_items.ensures.items f
     ]
 
 pub returns-in_err-bits : goal.returns-in_err-bits
@@ -24,7 +24,7 @@ returns-in_err-bits c =
     let items = c.in_ok-sequence_items.field-0.now in
     let three : length items ≡ 3 = omega (arith, c.in-len3.len_at_least, c.in-len3.len_below) in
     rw c.from_residual-in_err-bits.ensures (λ p f.
-    no_signature t p (tree_offset t) items c.signature-item.result three c.signature-item.is
+    signed_tree-no_signature t p (tree_offset t) items c.signature-item.result three c.signature-item.is
     c.in_ok-sequence_items.ensures.items c.in_err-bits.ensures f
     )
 
@@ -34,7 +34,8 @@ returns c =
     let items = c.in_ok-sequence_items.field-0.now in
     let three : length items ≡ 3 = omega (arith, c.in-len3.len_at_least, c.in-len3.len_below) in
     let (p, is, content, end, algorithm, bits, signature) =
-    parts_of_three t (tree_offset t) items c.content-item.result c.algorithm-item.result c.signature-item.result
+    signed_tree-three_items t (tree_offset t)
+    items c.content-item.result c.algorithm-item.result c.signature-item.result
     c.in_ok-algorithm.algorithm.now
     c.in_ok-bits.bits c.in_ok-bits.signature.now three c.content-item.is c.algorithm-item.is c.signature-item.is
     c.in_ok-sequence_items.ensures.items

@@ -2,30 +2,30 @@
 -- `refuses`).
 use Rattle.std.proofs.Common.{◌<◌, ◌^◌, length, arith}
 use Rattle.std.proofs.lemmas.Grind.{common_steps}
-use Rattle.simple_asn1.proofs.SignedTriples.{accepted, another_refused, content_alone, kept_content, shape_is_another}
+use Rattle.simple_asn1.proofs.SignedTriples.{MatchResult-signed, IsErrAnd-another_shape, IsDocument-rebased_content, HasOctets-read_content, IfErr-another_shape}
 use Rattle.simple_asn1.proofs.convert.signed.read_signed.Goals as goal
 
 pub returns-clause-content : goal.returns-clause-content
 returns-clause-content c =
-    kept_content c.law_one_reading.ensures c.args.v.now c.der_decode.result c.der_decode.ensures.decoded
+    HasOctets-read_content c.law_one_reading.ensures c.args.v.now c.der_decode.result c.der_decode.ensures.decoded
 
 pub returns-clause-content_alone : goal.returns-clause-content_alone
 returns-clause-content_alone c =
-    content_alone c.law_one_reading.ensures c.law_slices.ensures c.args.v.now c.der_decode.result
+    IsDocument-rebased_content c.law_one_reading.ensures c.law_slices.ensures c.args.v.now c.der_decode.result
     c.der_decode.ensures.decoded
 
 pub returns-clause-shape : goal.returns-clause-shape
 returns-clause-shape c =
-    shape_is_another c.law_slices.ensures c.args.v.now c.der_decode.result c.der_decode.ensures.refused
+    IfErr-another_shape c.law_slices.ensures c.args.v.now c.der_decode.result c.der_decode.ensures.refused
 
 pub returns-clause-accepts : goal.returns-clause-accepts
 returns-clause-accepts c =
     let small : length c.args.v.now < 2 ^ 64 = grind (arith, common_steps) in
-    accepted c.law_one_reading.ensures c.law_slices.ensures c.args.v.now small c.der_decode.result
+    MatchResult-signed c.law_one_reading.ensures c.law_slices.ensures c.args.v.now small c.der_decode.result
     c.der_decode.ensures.decoded c.der_decode.ensures.refused
 
 pub returns-clause-refuses : goal.returns-clause-refuses
 returns-clause-refuses c shape =
     let small : length c.args.v.now < 2 ^ 64 = grind (arith, common_steps) in
-    another_refused c.law_one_reading.ensures c.args.v.now small c.der_decode.result c.der_decode.ensures.decoded
+    IsErrAnd-another_shape c.law_one_reading.ensures c.args.v.now small c.der_decode.result c.der_decode.ensures.decoded
     c.der_decode.ensures.refused shape

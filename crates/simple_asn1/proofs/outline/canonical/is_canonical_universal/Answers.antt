@@ -1,14 +1,15 @@
 -- For `outline::canonical::is_canonical_universal`: what it returns is right.
-use Rattle.simple_asn1.proofs.CanonicalEntries.{group_at, leaf_at}
+use Rattle.simple_asn1.proofs.CanonicalEntries.{HasCanonicalAt-group, HasCanonicalAt-leaf}
 use Rattle.simple_asn1.proofs.outline.canonical.is_canonical_universal.Goals as goal
 
 pub returns-then-is_group_tag : goal.returns-then-is_group_tag
 returns-then-is_group_tag c constructed =
     let r = c.args.entry.now in
-    group_at c.args.octets.now r c.requires.shortest (c.is_group_tag.ensures c.if-is_group_tag.true) constructed
+    HasCanonicalAt-group c.args.octets.now r c.requires.shortest
+    (c.is_group_tag.ensures c.if-is_group_tag.true) constructed
 
 pub returns : goal.returns
 returns c said =
     let r = c.args.entry.now in
-    leaf_at c.args.octets.now c.contents_in.result.now r c.requires.shortest c.if-entry.false
+    HasCanonicalAt-leaf c.args.octets.now c.contents_in.result.now r c.requires.shortest c.if-entry.false
     c.contents_in.ensures (c.are_leaf_contents_canonical.ensures said)

@@ -4,18 +4,18 @@ use Rattle.std.proofs.Common.{◌≡◌, ◌≢◌, ◌+◌, ◌-◌, ◌<◌, g
 use Rattle.std.specs.Prelude.{All}
 use Rattle.std.proofs.lemmas.Bool.{eqb-true}
 use Rattle.std.proofs.lemmas.List.Elements.{All-from_get_or}
-use Rattle.simple_asn1.proofs.CanonicalEntries.{entry_header, entry_within, one_length_octet, shortest_at}
+use Rattle.simple_asn1.proofs.CanonicalEntries.{HasHeaderAt-two_le, HasHeaderAt-within, length-short_length, HasShortestAt-of_size}
 use Rattle.simple_asn1.proofs.outline.canonical.is_shortest.Goals as goal
 use Rattle.simple_asn1.proofs.outline.canonical.is_shortest.Goals.{else-entry-eq0-via-then-entry-eq0+else-octets-entry, else-entry-eq0-via-else-entry-eq0}
 
 pub overflow_add-entry : goal.overflow_add-entry
-overflow_add-entry c = omega (arith, entry_within c.args.octets.now c.args.entry.now c.requires)
+overflow_add-entry c = omega (arith, HasHeaderAt-within c.args.octets.now c.args.entry.now c.requires)
 
 pub bounds-octets-entry : goal.bounds-octets-entry
 bounds-octets-entry c =
     let x = c.args.octets.now in
     let r = c.args.entry.now in
-    omega (arith, entry_within x r c.requires, entry_header x r c.requires)
+    omega (arith, HasHeaderAt-within x r c.requires, HasHeaderAt-two_le x r c.requires)
 
 pub returns-then-entry-lt128 : goal.returns-then-entry-lt128
 returns-then-entry-lt128 c two =
@@ -28,8 +28,8 @@ returns-then-entry-lt128 c two =
     ] in
     let small : r.contents < 128 = omega (arith, c.if-entry-lt128.true) in
     let size : r.header ≡ 2 = eqb-true r.header 2 two in
-    let one = one_length_octet r.contents small in
-    shortest_at x r all c.requires (omega (arith, c.if-entry-gt30.false)) not (omega (arith, size, one))
+    let one = length-short_length r.contents small in
+    HasShortestAt-of_size x r all c.requires (omega (arith, c.if-entry-gt30.false)) not (omega (arith, size, one))
 
 pub returns-else-entry-lt128 : goal.returns-else-entry-lt128
 returns-else-entry-lt128 c same =
@@ -41,5 +41,5 @@ returns-else-entry-lt128 c same =
       | else-entry-eq0-via-else-entry-eq0 w ↦ omega (arith, none, w.if-entry-eq0.false)
     ] in
     let size : r.header ≡ 1 + c.length_size.result = eqb-true r.header (1 + c.length_size.result) same in
-    shortest_at x r all c.requires (omega (arith, c.if-entry-gt30.false)) not
+    HasShortestAt-of_size x r all c.requires (omega (arith, c.if-entry-gt30.false)) not
     (omega (arith, size, c.length_size.ensures.size))

@@ -1,16 +1,16 @@
 -- For `write::check::check_document`: what it returns is right (`accepts`, `refuses`).
 use Rattle.std.proofs.Common.{◌<◌, ◌^◌, length, arith}
-use Rattle.simple_asn1.proofs.Checked.{accepted_here, checked_document, refused_here}
+use Rattle.simple_asn1.proofs.Checked.{IsDocument-accepted_located, IfOk-checked_document, FirstFaultAt-refused}
 use Rattle.simple_asn1.proofs.write.check.check_document.Goals as goal
 
 pub returns-clause-accepts : goal.returns-clause-accepts
 returns-clause-accepts c =
     let small : length c.args.i.now < 2 ^ 64 = omega arith in
-    accepted_here c.args.i.now c.checked.result small c.checked.ensures.fault
+    IsDocument-accepted_located c.args.i.now c.checked.result small c.checked.ensures.fault
 
 pub returns-clause-refuses : goal.returns-clause-refuses
 returns-clause-refuses c =
     let small : length c.args.i.now < 2 ^ 64 = omega arith in
-    refused_here c.args.i.now c.checked.result small
-    (checked_document c.args.i.now c.checked.result c.checked.ensures.document)
+    FirstFaultAt-refused c.args.i.now c.checked.result small
+    (IfOk-checked_document c.args.i.now c.checked.result c.checked.ensures.document)
     c.checked.ensures.fault

@@ -2,9 +2,9 @@
 use Rattle.std.proofs.Common.{take}
 use Rattle.std.specs.Prelude.{All}
 use Rattle.asn1_blocks.specs.Inner.FaithfulWalk.{IsFaithfulAlone}
-use Rattle.simple_asn1.proofs.Failures.{trees_of}
+use Rattle.simple_asn1.proofs.Failures.{views_of}
 use Rattle.simple_asn1.proofs.write.faithful.first_failure.Given as goal
 
 -- the blocks so far are faithful alone
 abbrev pub invariant-loop-index : goal.invariant-loop-index
-invariant-loop-index l = All IsFaithfulAlone (take l.index (trees_of l.block-items))
+invariant-loop-index l = All IsFaithfulAlone (take l.index (views_of l.block-items))

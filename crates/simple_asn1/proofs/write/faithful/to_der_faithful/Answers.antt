@@ -3,22 +3,22 @@ use Rattle.std.proofs.Common.{inr}
 use Rattle.asn1_blocks.specs.Faithful.{IsFaithful}
 use Rattle.asn1_blocks.specs.View.{view}
 use Rattle.simple_asn1.specs.Unfaithful.{FailsFirst}
-use Rattle.simple_asn1.proofs.Failures.{faithful_no_failure, same_error}
+use Rattle.simple_asn1.proofs.Failures.{IsFaithful-no_failure, NotFaithful-unique}
 use Rattle.simple_asn1.proofs.write.faithful.to_der_faithful.Goals as goal
 
 pub returns-in-Some-clause-accepts : goal.returns-in-Some-clause-accepts
 returns-in-Some-clause-accepts c faithful =
     let first : FailsFirst (view c.args.i.now) c.in-Some.index c.in-Some.reason =
     rw c.in-Some.is at c.in_ok-index.ensures in
-    absurd (faithful_no_failure (view c.args.i.now) c.in-Some.index c.in-Some.reason faithful first)
+    absurd (IsFaithful-no_failure (view c.args.i.now) c.in-Some.index c.in-Some.reason faithful first)
 
 pub returns-in-Some-clause-refuses : goal.returns-in-Some-clause-refuses
 returns-in-Some-clause-refuses c index reason other =
     let first : FailsFirst (view c.args.i.now) c.in-Some.index c.in-Some.reason =
     rw c.in-Some.is at c.in_ok-index.ensures in
-    inr (same_error (view c.args.i.now) c.in-Some.index index c.in-Some.reason reason first other)
+    inr (NotFaithful-unique (view c.args.i.now) c.in-Some.index index c.in-Some.reason reason first other)
 
 pub returns-in-Ok-clause-refuses : goal.returns-in-Ok-clause-refuses
 returns-in-Ok-clause-refuses c index reason other =
     let faithful : IsFaithful (view c.args.i.now) = rw c.in-None.is at c.in_ok-index.ensures in
-    faithful_no_failure (view c.args.i.now) index reason faithful other
+    IsFaithful-no_failure (view c.args.i.now) index reason faithful other

@@ -5,35 +5,37 @@ use Rattle.std.specs.Prelude.{All, IfSome}
 use Rattle.std.proofs.lemmas.Grind.{common_steps}
 use Rattle.std.proofs.lemmas.List.Elements.{All-nil, All-pop, All-push}
 use Rattle.simple_asn1.specs.Inner.InPlace.{AreCanonical, LeavesBoth}
-use Rattle.simple_asn1.proofs.InPlace.{none_canonical}
+use Rattle.simple_asn1.proofs.InPlace.{AreCanonical-empty}
 use Rattle.simple_asn1.proofs.write.in_place.are_canonical_in_place.Goals as goal
 
+-- octets that wait to be gone over are canonical
 abbrev Waits : Bor (List ℕ) → Type 0
 Waits x = AreCanonical x.now
 
 -- what all that wait are, those before the last and the last are
-pushed_all : (xs ys : List (Bor (List ℕ))) (x : Bor (List ℕ)) → ys ≡ xs ++ x ∷ [] → All Waits ys →
+All-append_last : (xs ys : List (Bor (List ℕ))) (x : Bor (List ℕ)) → ys ≡ xs ++ x ∷ [] → All Waits ys →
     All Waits xs × Waits x
-pushed_all xs ys x e all = All-pop Waits ys xs (Some x) e all
+All-append_last xs ys x e all = All-pop Waits ys xs (Some x) e all
 
 pub headers-preserved-in-Some : goal.headers-preserved-in-Some
 headers-preserved-in-Some c next outer =
     let left = c.pop.new.self.items in
     let items : c.headers.outer.items ≡ left ++ c.in-Some.next ∷ [] = grind (arith, common_steps) in
-    c.headers.invariant (none_canonical c.headers.rest.now (grind (arith, common_steps)))
+    c.headers.invariant (AreCanonical-empty c.headers.rest.now (grind (arith, common_steps)))
     (subst (All Waits) (sym items) (All-push Waits left c.in-Some.next outer next))
 
 pub returns-in-None-clause-canonical : goal.returns-in-None-clause-canonical
 returns-in-None-clause-canonical c said =
     let items : c.headers.outer.items ≡ [] = grind (arith, common_steps) in
-    c.headers.invariant (none_canonical c.headers.rest.now (grind (arith, common_steps)))
+    c.headers.invariant (AreCanonical-empty c.headers.rest.now (grind (arith, common_steps)))
     (subst (All Waits) (sym items) (All-nil Waits))
 
 pub headers-preserved-then-is_empty-2 : goal.headers-preserved-then-is_empty-2
 headers-preserved-then-is_empty-2 c after outer =
     let leaves : LeavesBoth c.headers.rest.now c.in-Some-2.inside.now c.in-Some-2.after.now =
     subst (λ f. IfSome f (λ x. LeavesBoth c.headers.rest.now x.0.now x.1.now)) c.in-Some-2.is c.in_ok-inside.ensures in
-    c.headers.invariant (leaves.canonical (none_canonical c.in-Some-2.inside.now (grind (arith, common_steps))) after)
+    c.headers.invariant
+    (leaves.canonical (AreCanonical-empty c.in-Some-2.inside.now (grind (arith, common_steps))) after)
     outer
 
 pub headers-preserved : goal.headers-preserved
@@ -41,5 +43,5 @@ headers-preserved c inside outer =
     let waits = c.in-Some-2.after in
     let leaves : LeavesBoth c.headers.rest.now c.in-Some-2.inside.now waits.now =
     subst (λ f. IfSome f (λ x. LeavesBoth c.headers.rest.now x.0.now x.1.now)) c.in-Some-2.is c.in_ok-inside.ensures in
-    let pushed = pushed_all c.headers.outer.items c.push.new.self.items waits c.in_ok-push.ensures.ok outer in
+    let pushed = All-append_last c.headers.outer.items c.push.new.self.items waits c.in_ok-push.ensures.ok outer in
     c.headers.invariant (leaves.canonical inside pushed.1) pushed.0

@@ -5,7 +5,7 @@ use Rattle.std.proofs.lemmas.List.Elements.{All-from_get_or}
 use Rattle.asn1_numbers.specs.Octets.{AreOctets}
 use Rattle.asn1_leaves.specs.Contents.ObjectIdentifier.{ObjectIdentifierContents}
 use Rattle.asn1_leaves.proofs.ShortSubidentifiers.{NoneLeads, NoneLeads-components, NoneLeads-object_identifier_contents}
-use Rattle.simple_asn1.proofs.Without80.{without_80}
+use Rattle.simple_asn1.proofs.Without80.{NoneLeads-without_80}
 use Rattle.simple_asn1.proofs.write.in_place.are_shortest_subidentifiers.Goals as goal
 
 pub returns-then-is_empty-clause-meant : goal.returns-then-is_empty-clause-meant
@@ -19,7 +19,7 @@ returns-then-is_empty-clause-meant c said =
     let ends : IsTrue true = grind (arith) in
     let empty : length rest ≡ 0 = grind (arith, common_steps) in
     let none : NoneLeads true rest =
-    without_80 true rest before (λ _. ends) (λ some. absurd (omega (arith, some, empty))) in
+    NoneLeads-without_80 true rest before (λ _. ends) (λ some. absurd (omega (arith, some, empty))) in
     let meant = NoneLeads-components b rest none in
     (meant.0, subst (ObjectIdentifierContents meant.0) (sym e) meant.1)
 
@@ -36,7 +36,7 @@ returns-then-is_empty-clause-shortest c said components p =
     let ends : IsTrue true = grind (arith) in
     let empty : length rest ≡ 0 = grind (arith, common_steps) in
     let none : NoneLeads true rest =
-    without_80 true rest before (λ _. ends) (λ some. absurd (omega (arith, some, empty))) in
+    NoneLeads-without_80 true rest before (λ _. ends) (λ some. absurd (omega (arith, some, empty))) in
     e ∙ NoneLeads-object_identifier_contents components b rest (subst AreOctets e all) none
     (subst (ObjectIdentifierContents components) e p)
 
@@ -50,7 +50,7 @@ returns-then-rest-lt128-clause-meant c said =
     get_or rest k 0 ≢ 128 = λ k h. c.loop-octet.invariant k (omega (arith, h, c.loop-octet-test.false)) in
     let ends : IsTrue true = grind (arith) in
     let none : NoneLeads true rest =
-    without_80 true rest before (λ _. ends) (λ some. omega (arith, c.if-rest-lt128.true)) in
+    NoneLeads-without_80 true rest before (λ _. ends) (λ some. omega (arith, c.if-rest-lt128.true)) in
     let meant = NoneLeads-components b rest none in
     (meant.0, subst (ObjectIdentifierContents meant.0) (sym e) meant.1)
 
@@ -66,6 +66,6 @@ returns-then-rest-lt128-clause-shortest c said components p =
     get_or rest k 0 ≢ 128 = λ k h. c.loop-octet.invariant k (omega (arith, h, c.loop-octet-test.false)) in
     let ends : IsTrue true = grind (arith) in
     let none : NoneLeads true rest =
-    without_80 true rest before (λ _. ends) (λ some. omega (arith, c.if-rest-lt128.true)) in
+    NoneLeads-without_80 true rest before (λ _. ends) (λ some. omega (arith, c.if-rest-lt128.true)) in
     e ∙ NoneLeads-object_identifier_contents components b rest (subst AreOctets e all) none
     (subst (ObjectIdentifierContents components) e p)

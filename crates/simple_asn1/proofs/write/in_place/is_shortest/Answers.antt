@@ -3,7 +3,7 @@ use Rattle.std.proofs.Common.{◌≡◌, ◌≢◌, ◌-◌, ◌<◌, get_or, ar
 use Rattle.std.specs.Prelude.{All}
 use Rattle.std.proofs.lemmas.List.Elements.{All-from_get_or}
 use Rattle.std.proofs.lemmas.Grind.{common_steps}
-use Rattle.simple_asn1.proofs.InPlace.{shortest_fits, shortest_front}
+use Rattle.simple_asn1.proofs.InPlace.{length-shortest_header_le, BeginsShortest-of_size}
 use Rattle.simple_asn1.proofs.write.in_place.is_shortest.Goals as goal
 use Rattle.simple_asn1.proofs.write.in_place.is_shortest.Goals.{else-header-eq0-via-then-header-eq0+else-octets-header, else-header-eq0-via-else-header-eq0}
 
@@ -15,7 +15,7 @@ overflow_add-result c =
     omega (
       arith,
       c.requires.within,
-      shortest_fits x h all c.requires,
+      length-shortest_header_le x h all c.requires,
       c.identifier_size-identifier.ensures,
       c.length_size.ensures.size,
     )
@@ -29,5 +29,5 @@ returns c same =
       | else-header-eq0-via-then-header-eq0+else-octets-header w ↦ omega (arith, last, w.if-octets-header.false)
       | else-header-eq0-via-else-header-eq0 w ↦ omega (arith, none, w.if-header-eq0.false)
     ] in
-    shortest_front x h all c.requires not
+    BeginsShortest-of_size x h all c.requires not
     (grind (arith, common_steps, same, c.identifier_size-identifier.ensures, c.length_size.ensures.size))

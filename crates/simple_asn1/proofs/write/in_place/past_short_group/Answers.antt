@@ -1,7 +1,7 @@
 -- For `write::in_place::past_short_group`: what it returns is right.
 use Rattle.std.proofs.Common.{◌≡◌, ◌∷◌, arith}
 use Rattle.std.proofs.lemmas.Grind.{common_steps}
-use Rattle.simple_asn1.proofs.InPlace.{short_group}
+use Rattle.simple_asn1.proofs.InPlace.{LeavesBoth-short_group}
 use Rattle.simple_asn1.proofs.write.in_place.past_short_group.Goals as goal
 
 pub returns : goal.returns
@@ -9,4 +9,4 @@ returns c =
     let x = c.args.octets.now in
     let rest = c.split_at.result.1.now in
     let front : x ≡ c.args.leading ∷ c.args.length ∷ rest = grind (arith, common_steps) in
-    short_group x rest c.args.leading c.args.length (omega arith) c.requires.short c.requires.group front
+    LeavesBoth-short_group x rest c.args.leading c.args.length (omega arith) c.requires.short c.requires.group front

@@ -1,12 +1,12 @@
 -- For `write::in_place::past_shortest`: what it returns is right.
 use Rattle.std.proofs.Common.{◌≡◌, ◌++◌, length, arith}
 use Rattle.std.proofs.lemmas.Grind.{common_steps}
-use Rattle.simple_asn1.proofs.InPlace.{past_constructed, past_group, past_primitive, past_universal}
+use Rattle.simple_asn1.proofs.InPlace.{LeavesBoth-constructed, LeavesBoth-group, LeavesBoth-primitive, LeavesBoth-universal}
 use Rattle.simple_asn1.proofs.write.in_place.past_shortest.Goals as goal
 
 pub returns-then-is_of_group : goal.returns-then-is_of_group
 returns-then-is_of_group c =
-    past_group c.args.octets.now c.split_at.result.1.now c.args.header.now (omega arith) (omega arith) c.requires
+    LeavesBoth-group c.args.octets.now c.split_at.result.1.now c.args.header.now (omega arith) (omega arith) c.requires
     c.split_at.ensures.back (c.is_of_group.ensures c.if-is_of_group.true)
 
 pub returns-then-header : goal.returns-then-header
@@ -16,7 +16,8 @@ returns-then-header c =
     let after = c.split_at-2.result.1.now in
     let whole : rest ≡ own ++ after = grind (arith, common_steps) in
     let size : length own ≡ c.args.header.now.announced = grind (arith, common_steps) in
-    past_constructed c.args.octets.now rest own after c.args.header.now (omega arith) c.requires c.split_at.ensures.back
+    LeavesBoth-constructed c.args.octets.now rest own after c.args.header.now
+    (omega arith) c.requires c.split_at.ensures.back
     whole size c.in_default.not-Universal
 
 pub returns-else-not-are_contents_canonical : goal.returns-else-not-are_contents_canonical
@@ -26,7 +27,8 @@ returns-else-not-are_contents_canonical c =
     let after = c.split_at-2.result.1.now in
     let whole : rest ≡ own ++ after = grind (arith, common_steps) in
     let size : length own ≡ c.args.header.now.announced = grind (arith, common_steps) in
-    past_universal c.args.octets.now rest own after c.args.header.now (omega arith) c.requires c.split_at.ensures.back
+    LeavesBoth-universal c.args.octets.now rest own after c.args.header.now
+    (omega arith) c.requires c.split_at.ensures.back
     whole size c.in-Universal.is
     (c.are_contents_canonical.ensures c.if-not-are_contents_canonical.false)
 
@@ -37,6 +39,7 @@ returns-else-header c =
     let after = c.split_at-2.result.1.now in
     let whole : rest ≡ own ++ after = grind (arith, common_steps) in
     let size : length own ≡ c.args.header.now.announced = grind (arith, common_steps) in
-    past_primitive c.args.octets.now rest own after c.args.header.now (omega arith) c.requires c.split_at.ensures.back
+    LeavesBoth-primitive c.args.octets.now rest own after c.args.header.now
+    (omega arith) c.requires c.split_at.ensures.back
     whole size c.in_default.not-Universal
     c.if-header.false

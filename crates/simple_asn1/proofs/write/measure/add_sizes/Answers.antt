@@ -13,7 +13,7 @@ use Rattle.asn1_blocks.specs.View.{view}
 use Rattle.simple_asn1.specs.Inner.WriteWalk.{contents_size_of, measured_blocks, measured_sizes, own_size_of}
 use Rattle.simple_asn1.specs.declared.write.measure.Measured.{Measured}
 use Rattle.asn1_blocks.proofs.TreeOrders.{IsInTreeOrder-drop}
-use Rattle.simple_asn1.proofs.WriteSteps.{length_canonical, length_contents, place_at, step_at, sum_back, total_of}
+use Rattle.simple_asn1.proofs.WriteSteps.{length-canonical, length-contents_of, set-measured_size, MeasuresBlock-at, sum-sizes_back, IfOk-total_size}
 use Rattle.simple_asn1.proofs.write.measure.add_sizes.Goals as goal
 
 pub take_sum-requires : goal.take_sum-requires
@@ -34,7 +34,8 @@ take_sum-requires c =
       c.loop-i.invariant.within,
     ))) ∙ ap (λ z. get_or z j x.block.now) c.loop-i.invariant.blocks in
     let some = IsInTreeOrder-drop order c.requires.ordered.0 j c.requires.ordered.1 (omega (arith, l)) in
-    let s = step_at order i j x.block.now c.loop-i.sizes.items (length c.loop-i.sizes.items) c.blocks_inside.result.now
+    let s =
+    MeasuresBlock-at order i j x.block.now c.loop-i.sizes.items (length c.loop-i.sizes.items) c.blocks_inside.result.now
     (omega arith) l g
     (λ k. length c.loop-i.sizes.items) c.loop-i.invariant.sizes c.blocks_inside.ensures some.0 some.1 in
     omega (arith, s.enough, c.loop-i.sizes.ok.0)
@@ -62,17 +63,17 @@ loop-i-preserved c =
     ) in
     let g = sym (get_or-map (λ (m : Measured). m.block.now) c.loop-i.list j c.index-list-i.result b h)
     ∙ ap (λ z. get_or z j b) c.loop-i.invariant.blocks in
-    let steps = step_at order i j b c.loop-i.sizes.items c.loop-i.sizes.len c.blocks_inside.result.now a l g
+    let steps = MeasuresBlock-at order i j b c.loop-i.sizes.items c.loop-i.sizes.len c.blocks_inside.result.now a l g
     c.loop-i.sizes.ok.0 c.loop-i.invariant.sizes
     c.blocks_inside.ensures in
     let some = IsInTreeOrder-drop order c.requires.ordered.0 j c.requires.ordered.1 (omega (arith, l)) in
     let s = steps some.0 some.1 in
-    let p = place_at own_size_of contents_size_of order i j b (measured_sizes c.loop-i.list) a l g
+    let p = set-measured_size own_size_of contents_size_of order i j b (measured_sizes c.loop-i.list) a l g
     c.loop-i.invariant.contents in
     let m = get_or-map (λ (m : Measured). m.contents) c.loop-i.list j c.index-list-i-in-loop-i.result 0 h in
     let q : c.in_ok-contents.contents ≡ contents_size_of b =
     c.in_ok-contents.ensures.sum
-    ∙ omega (arith, p.0, m, c.in_ok-inside.ensures.sum, s.sum_inside, length_contents (view b)) in
+    ∙ omega (arith, p.0, m, c.in_ok-inside.ensures.sum, s.sum_inside, length-contents_of (view b)) in
     record {
       within =
           omega (
@@ -93,7 +94,7 @@ loop-i-preserved c =
           grind (arith, common_steps) in
           let z : c.in_ok-size.size ≡ length (canonical (view b)) = c.in_ok-size.ensures.size
           ∙ (ap (λ w. c.identifier_size_of.result + (length (shortest_length w) + w)) q
-          ∙ omega (arith, c.identifier_size_of.ensures, length_canonical (view b))) in
+          ∙ omega (arith, c.identifier_size_of.ensures, length-canonical (view b))) in
           t ∙ (ap (λ w. w ++ c.in_ok-size.size ∷ []) c.in_ok-inside.ensures.rest
           ∙ (ap (λ w. take (c.loop-i.sizes.len - length c.blocks_inside.result.now) c.loop-i.sizes.items ++ w ∷ []) z
           ∙ r.after));
@@ -109,8 +110,8 @@ returns-clause-size c =
     let z : c.loop-i.i ≡ 0 = omega arith in
     let n : c.loop-i.sizes.len - c.len-n.result ≡ 0 = omega (arith, c.len-n.ensures) in
     let order = measured_blocks c.args.list.now in
-    total_of c.take_sum-2.result (sum (drop (c.loop-i.sizes.len - c.len-n.result) c.loop-i.sizes.items)) order
+    IfOk-total_size c.take_sum-2.result (sum (drop (c.loop-i.sizes.len - c.len-n.result) c.loop-i.sizes.items)) order
     c.take_sum-2.ensures.sum (λ blocks h.
     ap (λ w. sum (drop w c.loop-i.sizes.items)) n
     ∙ (ap sum (c.loop-i.invariant.sizes blocks (subst (λ w. IsInTreeOrder (drop w order) blocks) (sym z) h))
-    ∙ sum_back blocks))
+    ∙ sum-sizes_back blocks))

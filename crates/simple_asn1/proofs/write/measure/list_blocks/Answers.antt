@@ -9,7 +9,7 @@ use Rattle.asn1_blocks.specs.View.{views}
 use Rattle.simple_asn1.specs.Inner.WriteWalk.{measured_blocks, measured_sizes, own_size_of}
 use Rattle.simple_asn1.specs.declared.write.measure.Measured.{Measured}
 use Rattle.asn1_blocks.proofs.TreeOrders.{IsFoundBefore, all_blocks_in-next, IsInTreeOrder-found, IsFoundBefore-next}
-use Rattle.simple_asn1.proofs.WriteSteps.{fault_next}
+use Rattle.simple_asn1.proofs.WriteSteps.{first_write_fault-next}
 use Rattle.simple_asn1.proofs.write.measure.list_blocks.Goals as goal
 
 pub loop-walk-smaller : goal.loop-walk-smaller
@@ -42,7 +42,8 @@ loop-walk-preserved c =
       fault =
           sym (ap (λ z. first_of z (first_write_fault (views (ahead c.next.new.self))))
           c.in_ok-contents.ensures.writable)
-          ∙ (sym (fault_next b (ahead c.loop-walk.walk) (ahead c.next.new.self) n) ∙ c.loop-walk.invariant.fault);
+          ∙ (sym (first_write_fault-next b (ahead c.loop-walk.walk) (ahead c.next.new.self) n)
+          ∙ c.loop-walk.invariant.fault);
     }
 
 pub returns-clause-ordered : goal.returns-clause-ordered

@@ -2,12 +2,13 @@
 use Rattle.std.proofs.Common.{take, subst, sym, arith}
 use Rattle.asn1_blocks.specs.View.{view}
 use Rattle.simple_asn1.specs.Inner.WriteWalk.{all_own_octets, measured_blocks, own_octets}
-use Rattle.simple_asn1.proofs.WriteSteps.{own_at, own_fault_at, own_fits, size_at}
+use Rattle.simple_asn1.proofs.WriteSteps.{all_own_octets-take, own_fault-get_or, length-all_own_octets_le, contents_size_of-get_or}
 use Rattle.simple_asn1.proofs.write.push.push_all.Goals as goal
 
 pub push_block-requires-clause-size : goal.push_block-requires-clause-size
 push_block-requires-clause-size g c =
-    size_at c.args.list.now c.loop-m.m-index c.m-item.result c.loop-m-test.true c.m-item.is c.requires.sizes
+    contents_size_of-get_or c.args.list.now c.loop-m.m-index c.m-item.result c.loop-m-test.true c.m-item.is
+    c.requires.sizes
 
 pub push_block-requires-clause-room : goal.push_block-requires-clause-room
 push_block-requires-clause-room g c =
@@ -15,13 +16,13 @@ push_block-requires-clause-room g c =
     omega (
       arith,
       c.requires.room,
-      own_fits c.args.list.now c.loop-m.m-index c.m-item.result c.loop-m-test.true c.m-item.is,
+      length-all_own_octets_le c.args.list.now c.loop-m.m-index c.m-item.result c.loop-m-test.true c.m-item.is,
       g.S.Sink.room_after c.args.out.now c.loop-m.out done c.loop-m.invariant,
     )
 
 pub push_block-requires-clause-writable : goal.push_block-requires-clause-writable
 push_block-requires-clause-writable g c =
-    own_fault_at c.args.list.now c.loop-m.m-index c.m-item.result c.loop-m-test.true c.m-item.is c.requires.writable
+    own_fault-get_or c.args.list.now c.loop-m.m-index c.m-item.result c.loop-m-test.true c.m-item.is c.requires.writable
 
 pub loop-m-preserved : goal.loop-m-preserved
 loop-m-preserved g c =
@@ -29,6 +30,6 @@ loop-m-preserved g c =
     let m = c.m-item.result in
     let done = all_own_octets (measured_blocks (take i c.args.list.now)) in
     subst (λ z. g.S.Sink.pushes c.args.out.now z c.push_block.new.out)
-    (sym (own_at c.args.list.now i m c.loop-m-test.true c.m-item.is))
+    (sym (all_own_octets-take c.args.list.now i m c.loop-m-test.true c.m-item.is))
     (g.S.Sink.more c.args.out.now c.loop-m.out c.push_block.new.out done (own_octets (view m.block.now))
     c.loop-m.invariant c.push_block.ensures)

@@ -4,28 +4,28 @@ use Rattle.simple_asn1.specs.Canonical.{all_canonical}
 use Rattle.asn1_numbers.specs.declared.sink.Comparison.{Comparison}
 use Rattle.asn1_blocks.specs.View.{views}
 use Rattle.simple_asn1.specs.Inner.WriteWalk.{all_own_octets, first_own_fault, measured_blocks}
-use Rattle.simple_asn1.proofs.WriteSteps.{fault_order, own_order}
-use Rattle.simple_asn1.proofs.Strict.{compared_whole}
+use Rattle.simple_asn1.proofs.WriteSteps.{first_own_fault-in_order, all_own_octets-in_order}
+use Rattle.simple_asn1.proofs.Strict.{compared-whole}
 use Rattle.simple_asn1.proofs.write.strict.are_canonical.Goals as goal
 
 pub push_all-requires-clause-room : goal.push_all-requires-clause-room
 push_all-requires-clause-room c =
     let e = ap (λ z. all_own_octets (measured_blocks z)) c.deref.ensures.value ∙
-    own_order (measured_blocks c.in-Ok.measured.0.items) c.args.blocks.now c.in-Ok.ensures.ordered in
+    all_own_octets-in_order (measured_blocks c.in-Ok.measured.0.items) c.args.blocks.now c.in-Ok.ensures.ordered in
     omega (arith, ap length e, c.in-Ok.ensures.size, c.if-size-octets.false)
 
 pub push_all-requires-clause-writable : goal.push_all-requires-clause-writable
 push_all-requires-clause-writable c =
     ap (λ z. first_own_fault (measured_blocks z)) c.deref.ensures.value
-    ∙ (fault_order (measured_blocks c.in-Ok.measured.0.items) c.args.blocks.now c.in-Ok.ensures.ordered
+    ∙ (first_own_fault-in_order (measured_blocks c.in-Ok.measured.0.items) c.args.blocks.now c.in-Ok.ensures.ordered
     ∙ c.in-Ok.ensures.writable)
 
 pub returns-clause-are : goal.returns-clause-are
 returns-clause-are c =
     let e : all_own_octets (measured_blocks c.deref.result.now) ≡ all_canonical (views c.args.blocks.now) =
     ap (λ z. all_own_octets (measured_blocks z)) c.deref.ensures.value ∙
-    own_order (measured_blocks c.in-Ok.measured.0.items) c.args.blocks.now c.in-Ok.ensures.ordered in
+    all_own_octets-in_order (measured_blocks c.in-Ok.measured.0.items) c.args.blocks.now c.in-Ok.ensures.ordered in
     let whole : Comparison = record { rest = c.args.octets; same = true } in
-    let w = compared_whole whole c.push_all.new.out _ c.push_all.ensures
+    let w = compared-whole whole c.push_all.new.out _ c.push_all.ensures
     (omega (arith, ap length e, c.in-Ok.ensures.size, c.if-size-octets.false)) refl in
     (λ h. w.0 h ∙ e, λ h. w.1 (h ∙ sym e))

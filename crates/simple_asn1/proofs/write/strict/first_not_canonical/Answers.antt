@@ -9,19 +9,19 @@ use Rattle.simple_asn1.specs.Canonical.{all_canonical, canonical, first_of, firs
 use Rattle.asn1_blocks.specs.Grammar.{EncodesAll}
 use Rattle.simple_asn1.specs.Strict.{FirstNotCanonical}
 use Rattle.asn1_blocks.specs.View.{view, views}
-use Rattle.simple_asn1.proofs.Strict.{step, views_from, writable_from}
-use Rattle.simple_asn1.proofs.Writable.{document_writable}
+use Rattle.simple_asn1.proofs.Strict.{ComparesFirst-at, views-drop, first_write_fault-drop}
+use Rattle.simple_asn1.proofs.Writable.{first_write_fault-document}
 use Rattle.simple_asn1.proofs.write.strict.first_not_canonical.Goals as goal
 
 pub slice_bounds-are_canonical-end : goal.slice_bounds-are_canonical-end
 slice_bounds-are_canonical-end c =
     let xs = c.args.blocks.now in
     let k = c.loop-k.k in
-    let v = views_from xs k c.index-blocks-k.result c.loop-k-test.true c.index-blocks-k.is in
+    let v = views-drop xs k c.index-blocks-k.result c.loop-k-test.true c.index-blocks-k.is in
     let i = c.args.i.now in
     let o = c.loop-k.start in
     let rest = views (drop (k + 1) xs) in
-    let s = step i o (view c.index-blocks-k.result) rest c.end_at-end.result c.loop-k.invariant.within
+    let s = ComparesFirst-at i o (view c.index-blocks-k.result) rest c.end_at-end.result c.loop-k.invariant.within
     c.end_at-end.ensures
     (subst (EncodesAll o (drop o i)) v c.loop-k.invariant.left) in
     let a : o ≤ c.end_at-end.result = s.from in
@@ -33,7 +33,7 @@ loop-k-init c = record {
   within = omega arith;
   left = c.requires.blocks;
   writable =
-      document_writable c.args.i.now (views c.args.blocks.now)
+      first_write_fault-document c.args.i.now (views c.args.blocks.now)
       (All-from_get_or (λ b. b < 256) c.args.i.now 0 (λ k h. omega (arith, c.type_inv.i k))) c.requires;
   same = λ q. q;
   first = λ n f. f;
@@ -41,13 +41,13 @@ loop-k-init c = record {
 
 pub are_canonical-requires : goal.are_canonical-requires
 are_canonical-requires c =
-    document_writable c.args.i.now (views c.args.blocks.now)
+    first_write_fault-document c.args.i.now (views c.args.blocks.now)
     (All-from_get_or (λ b. b < 256) c.args.i.now 0 (λ k h. omega (arith, c.type_inv.i k))) c.requires
 
 pub are_canonical-requires-in-loop-k : goal.are_canonical-requires-in-loop-k
 are_canonical-requires-in-loop-k c =
     let xs = c.args.blocks.now in
-    let f = (writable_from xs c.loop-k.k c.index-blocks-k.result c.loop-k-test.true c.index-blocks-k.is
+    let f = (first_write_fault-drop xs c.loop-k.k c.index-blocks-k.result c.loop-k-test.true c.index-blocks-k.is
     c.loop-k.invariant.writable).0 in
     ap (λ z. first_write_fault (views z)) c.from_ref.ensures.value ∙ ap (λ z. first_of z None) f
 
@@ -57,9 +57,9 @@ returns-then-not-branch-clause-found c =
     let k = c.loop-k.k in
     let i = c.args.i.now in
     let o = c.loop-k.start in
-    let v = views_from xs k c.index-blocks-k.result c.loop-k-test.true c.index-blocks-k.is in
+    let v = views-drop xs k c.index-blocks-k.result c.loop-k-test.true c.index-blocks-k.is in
     let rest = views (drop (k + 1) xs) in
-    let s = step i o (view c.index-blocks-k.result) rest c.end_at-end.result c.loop-k.invariant.within
+    let s = ComparesFirst-at i o (view c.index-blocks-k.result) rest c.end_at-end.result c.loop-k.invariant.within
     c.end_at-end.ensures
     (subst (EncodesAll o (drop o i)) v c.loop-k.invariant.left) in
     let one = ap (λ z. all_canonical (views z)) c.from_ref.ensures.value
@@ -77,15 +77,15 @@ loop-k-preserved c =
     let x = c.index-blocks-k.result in
     let e = c.end_at-end.result in
     let rest = views (drop (k + 1) xs) in
-    let v = views_from xs k x c.loop-k-test.true c.index-blocks-k.is in
-    let s = step i o (view x) rest e c.loop-k.invariant.within c.end_at-end.ensures
+    let v = views-drop xs k x c.loop-k-test.true c.index-blocks-k.is in
+    let s = ComparesFirst-at i o (view x) rest e c.loop-k.invariant.within c.end_at-end.ensures
     (subst (EncodesAll o (drop o i)) v c.loop-k.invariant.left) in
     let here : slice_range i o e ≡ canonical (view x) = c.in_ok-are_canonical-2.ensures.are.0 c.if-not-branch.false ∙
     (ap (λ z. all_canonical (views z)) c.from_ref.ensures.value ∙ append-nil (canonical (view x))) in
     record {
       within = s.to;
       left = s.left;
-      writable = (writable_from xs k x c.loop-k-test.true c.index-blocks-k.is c.loop-k.invariant.writable).1;
+      writable = (first_write_fault-drop xs k x c.loop-k-test.true c.index-blocks-k.is c.loop-k.invariant.writable).1;
       same = λ q. c.loop-k.invariant.same (s.whole ∙ (ap (λ z. z ++ drop e i) here
           ∙ (ap (λ z. canonical (view x) ++ z) q ∙ sym (ap all_canonical v))));
       first = λ n f. c.loop-k.invariant.first n (subst (λ z. FirstNotCanonical i z n) (sym v) (s.first_is n here f));
