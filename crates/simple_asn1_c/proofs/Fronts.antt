@@ -20,8 +20,8 @@ use Rattle.simple_asn1_c.specs.Inner.Fronts.{IsFront, holds_front}
 use Rattle.simple_asn1_c.specs.declared.front.FrontBuilder.{FrontBuilder}
 
 -- as many entries as are kept, and as there are beyond them
-pub front_length : (b : FrontBuilder) (all : List Entry) → IsFront b all → length all ≡ length b.kept.items + b.beyond
-front_length b all w = omega (arith, ap length w.whole, length-append b.kept.items w.others, w.count)
+pub length-front : (b : FrontBuilder) (all : List Entry) → IsFront b all → length all ≡ length b.kept.items + b.beyond
+length-front b all w = omega (arith, ap length w.whole, length-append b.kept.items w.others, w.count)
 
 -- a builder that keeps all of them
 abbrev whole_builder : (b : FrontBuilder) (all : List Entry) → IsFront b all → EntryBuilder
@@ -33,16 +33,17 @@ whole_builder b all w = record {
     alloc = b.kept.alloc;
     items = all;
     ok = (refl, omega arith);
-    small = omega (arith, front_length b all w, b.small, b.kept.ok.0);
+    small = omega (arith, length-front b all w, b.small, b.kept.ok.0);
   };
 }
 
-pub front_opened :
+-- a builder of the first entries holds a new frame, as a builder of all entries does
+pub HasOpened-front :
     (x : List ℕ) (h : PlacedHeader) (offset depth : ℕ) (a b : FrontBuilder) (i : EntryItems) (r : Entry) →
     IsBegun x offset i.entry depth r →
     ((all : List Entry) → IsFront a all → i.entry ≡ length all) → i.count ≡ 0 →
     ((all : List Entry) → IsFront a all → IsFront b (all ++ r ∷ [])) → HasOpened holds_front x h offset depth a i b
-front_opened x h offset depth a b i r begun at none is = record {
+HasOpened-front x h offset depth a b i r begun at none is = record {
   holds = λ kind f fs trees d k (all, w, held).
       let v = is all w in
       let step =
@@ -51,14 +52,15 @@ front_opened x h offset depth a b i r begun at none is = record {
       (all ++ r ∷ [], v, step.holds kind f fs trees d k held);
 }
 
-pub front_leaf :
+-- a builder of the first entries holds a leaf more, as a builder of all entries does
+pub HasLeaf-front :
     (x : List ℕ) (h : PlacedHeader) (offset limit depth : ℕ) (a b : FrontBuilder) (i : EntryItems) (r : Entry) (n : ℕ) →
     HeaderFound x offset limit h → (IsReadInside h.class h.constructed h.tag → ⊥) →
     IsSingleAt offset (slice_range x offset h.end) →
     IsBegun x offset n depth r → ((all : List Entry) → IsFront a all → n ≡ length all) →
     ((all : List Entry) → IsFront a all → IsFront b (all ++ r ∷ [])) →
     HasLeaf holds_front x offset h.end depth a i b (with_one_more i)
-front_leaf x h offset limit depth a b i r n found shut (t, none, encoded) begun at is = record {
+HasLeaf-front x h offset limit depth a b i r n found shut (t, none, encoded) begun at is = record {
   tree = t;
   encoded = encoded;
   more = record {
@@ -79,11 +81,12 @@ front_leaf x h offset limit depth a b i r n found shut (t, none, encoded) begun 
   };
 }
 
-pub front_ended :
+-- a builder of the first entries holds a frame that ended, as a builder of all entries does
+pub HasEndedIn-front :
     (x : List ℕ) (a b : FrontBuilder) (f : OpenFrame EntryItems) (i : EntryItems) (depth : ℕ) →
     ((all : List Entry) → IsFront a all → IsFront b (sealed all f.items.entry f.items.count)) →
     HasEndedIn holds_front x f depth a i b (with_one_more i)
-front_ended x a b f i depth is = record {
+HasEndedIn-front x a b f i depth is = record {
   holds = λ e fs ts us rest t d ends (all, w, held).
       let v = is all w in
       let step =
@@ -92,11 +95,12 @@ front_ended x a b f i depth is = record {
       (sealed all f.items.entry f.items.count, v, step.holds e fs ts us rest t d ends held);
 }
 
-pub front_kept :
+-- a builder of the first entries holds a failed attempt, as a builder of all entries does
+pub HasKept-front :
     (x : List ℕ) (a b : FrontBuilder) (f : OpenFrame EntryItems) (i : EntryItems) (depth : ℕ) →
     ((all : List Entry) → IsFront a all → IsFront b (take (suc f.items.entry) all)) →
     HasKept holds_front x f depth a i b (with_one_more i)
-front_kept x a b f i depth is = record {
+HasKept-front x a b f i depth is = record {
   holds = λ inside lost e fs ts us rest k d m here tried none (all, w, held).
       let v = is all w in
       let step =
@@ -106,32 +110,33 @@ front_kept x a b f i depth is = record {
 }
 
 -- an entry that is not kept is changed among the others
-set_behind : {A : Type 0} (xs ys : List A) (n : ℕ) (a : A) → set (xs ++ ys) (length xs + n) a ≡ xs ++ set ys n a
-set_behind [] ys n a = ap (λ k. set ys k a) (zero-add n)
-set_behind (x ∷ xs) ys n a =
-    ap (λ k. set (x ∷ (xs ++ ys)) k a) (suc-add (length xs) n) ∙ ap (λ z. x ∷ z) (set_behind xs ys n a)
+set-append_right : {A : Type 0} (xs ys : List A) (n : ℕ) (a : A) → set (xs ++ ys) (length xs + n) a ≡ xs ++ set ys n a
+set-append_right [] ys n a = ap (λ k. set ys k a) (zero-add n)
+set-append_right (x ∷ xs) ys n a =
+    ap (λ k. set (x ∷ (xs ++ ys)) k a) (suc-add (length xs) n) ∙ ap (λ z. x ∷ z) (set-append_right xs ys n a)
 
-pub sealed_behind : (b : FrontBuilder) (all : List Entry) (entry items : ℕ) → length b.kept.items ≤ entry →
+-- setting the items of an entry behind the first ones leaves these
+pub IsFront-sealed_behind : (b : FrontBuilder) (all : List Entry) (entry items : ℕ) → length b.kept.items ≤ entry →
     IsFront b all → IsFront b (sealed all entry items)
-sealed_behind b all entry items le w =
+IsFront-sealed_behind b all entry items le w =
     let own = length b.kept.items in
     let new = with_items items (length all) (get_or all entry no_entry) in
     let at : own + (entry - own) ≡ entry = omega (arith, le) in
     record {
       others = set w.others (entry - own) new;
       whole = ap (λ z. set z entry new) w.whole ∙ ap (λ z. set (b.kept.items ++ w.others) z new) (sym at)
-          ∙ set_behind b.kept.items w.others (entry - own) new;
+          ∙ set-append_right b.kept.items w.others (entry - own) new;
       count = length-set w.others (entry - own) new ∙ w.count;
     }
 
--- one that is kept is changed there
-pub sealed_within :
+-- setting the items of one of the first entries changes it there
+pub IsFront-sealed_within :
     (b c : FrontBuilder) (all : List Entry) (entry items next : ℕ) (r : Entry) → entry < length b.kept.items →
     IsFront b all →
     r ≡ get_or b.kept.items entry no_entry → next ≡ length all →
     c.kept.items ≡ set b.kept.items entry (with_items items next r) →
     c.beyond ≡ b.beyond → IsFront c (sealed all entry items)
-sealed_within b c all entry items next r lt w is at new same =
+IsFront-sealed_within b c all entry items next r lt w is at new same =
     let there : r ≡ get_or all entry no_entry =
     is ∙ sym (ap (λ z. get_or z entry no_entry) w.whole ∙ get_or_append_left b.kept.items w.others no_entry entry lt) in
     let made = with_items items (length all) (get_or all entry no_entry) in
@@ -146,11 +151,11 @@ sealed_within b c all entry items next r lt w is at new same =
     }
 
 -- a front that is cut behind the entries that are kept
-pub cut_behind :
+pub IsFront-take_behind :
     (b c : FrontBuilder) (all : List Entry) (n : ℕ) → length b.kept.items ≤ n → n - length b.kept.items ≤ b.beyond →
     IsFront b all →
     c.kept.items ≡ b.kept.items → c.beyond ≡ n - length b.kept.items → IsFront c (take n all)
-cut_behind b c all n le few w same beyond =
+IsFront-take_behind b c all n le few w same beyond =
     let own = length b.kept.items in
     let at : own + (n - own) ≡ n = omega (arith, le) in
     record {
@@ -162,6 +167,7 @@ cut_behind b c all n le few w same beyond =
     }
 
 -- a front that is cut behind all entries
-pub cut_none : (b : FrontBuilder) (all : List Entry) (n : ℕ) → length b.kept.items + b.beyond ≤ n → IsFront b all →
+pub IsFront-take_all : (b : FrontBuilder) (all : List Entry) (n : ℕ) → length b.kept.items + b.beyond ≤ n →
+    IsFront b all →
     IsFront b (take n all)
-cut_none b all n le w = subst (IsFront b) (sym (take_all n all (omega (arith, le, front_length b all w)))) w
+IsFront-take_all b all n le w = subst (IsFront b) (sym (take_all n all (omega (arith, le, length-front b all w)))) w

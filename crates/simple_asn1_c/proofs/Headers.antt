@@ -9,8 +9,8 @@ use Rattle.asn1_headers.proofs.Prefixes.{identifier_alone, length_alone}
 use Rattle.asn1_headers.specs.Front.{BeginsWithHeader, HasNoHeader}
 
 -- an encoding begins with a header
-pub some_header : (x : List ℕ) → IsEncoding x → HasNoHeader x → ⊥
-some_header x is none =
+pub IsEncoding-has_header : (x : List ℕ) → IsEncoding x → HasNoHeader x → ⊥
+IsEncoding-has_header x is none =
     let e = is.encoding in
     let v = is.contents in
     none (e.identifier ++ e.len) v
@@ -18,10 +18,10 @@ some_header x is none =
     (e.whole ∙ sym (append_assoc e.identifier e.len v))
 
 -- the header at its front is its own, and the contents octets follow
-pub front_found : (x : List ℕ) (size m : ℕ) (c : ASN1Class) (k : Bool) (n : ℕ) → IsEncoding x →
+pub Encoding-front_header : (x : List ℕ) (size m : ℕ) (c : ASN1Class) (k : Bool) (n : ℕ) → IsEncoding x →
     BeginsWithHeader x size m c k n
     → Encoding x c k n (drop size x) size × (m ≡ length (drop size x))
-front_found x size m c k n is f =
+Encoding-front_header x size m c k n is f =
     let e = is.encoding in
     let v = is.contents in
     let w = drop size x in
@@ -44,8 +44,8 @@ front_found x size m c k n is f =
     )
 
 -- an encoding begins with identifier octets
-pub some_identifier : (x : List ℕ) → IsEncoding x → BeginsWithNo IsSomeIdentifier x → ⊥
-some_identifier x is none =
+pub IsEncoding-has_identifier : (x : List ℕ) → IsEncoding x → BeginsWithNo IsSomeIdentifier x → ⊥
+IsEncoding-has_identifier x is none =
     let e = is.encoding in
     let i = e.identifier in
     let front : take (length i) x ≡ i =
@@ -57,10 +57,11 @@ some_identifier x is none =
     )
 
 -- identifier octets at the front are its own
-pub identifier_found : (x : List ℕ) (size n : ℕ) (c : ASN1Class) (k : Bool) → (is : IsEncoding x) → size ≤ length x →
+pub length-front_identifier : (x : List ℕ) (size n : ℕ) (c : ASN1Class) (k : Bool) → (is : IsEncoding x) →
+    size ≤ length x →
     IsIdentifier (take size x) c k n
     → length is.encoding.identifier ≡ size
-identifier_found x size n c k is within found =
+length-front_identifier x size n c k is within found =
     let e = is.encoding in
     let v = is.contents in
     let same = identifier_alone e.identifier (take size x) (e.len ++ v) (drop size x) is.class c is.constructed k is.tag
@@ -69,16 +70,16 @@ identifier_found x size n c k is within found =
     ap length same.octets ∙ length-take-le size x within
 
 -- the class whose number is 0
-pub universal_number : (c : ASN1Class) → class_number c ≡ 0 → c ≡ Universal
-universal_number Universal e = refl
-universal_number Application e = absurd (omega (arith, e))
-universal_number ContextSpecific e = absurd (omega (arith, e))
-universal_number Private e = absurd (omega (arith, e))
+pub class_number-universal : (c : ASN1Class) → class_number c ≡ 0 → c ≡ Universal
+class_number-universal Universal e = refl
+class_number-universal Application e = absurd (omega (arith, e))
+class_number-universal ContextSpecific e = absurd (omega (arith, e))
+class_number-universal Private e = absurd (omega (arith, e))
 
 -- the contents octets are what follows the header
-pub contents_behind : (x : List ℕ) (c : ASN1Class) (k : Bool) (n : ℕ) (v : List ℕ) (h : ℕ) → Encoding x c k n v h →
+pub drop-header : (x : List ℕ) (c : ASN1Class) (k : Bool) (n : ℕ) (v : List ℕ) (h : ℕ) → Encoding x c k n v h →
     drop h x ≡ v
-contents_behind x c k n v h e =
+drop-header x c k n v h e =
     let i = e.identifier in
     let l = e.len in
     let at : length (i ++ l) ≡ h = omega (arith, e.size, length-append i l) in

@@ -11,51 +11,54 @@ use Rattle.simple_asn1_c.specs.Room.{ArePut}
 use Rattle.simple_asn1_c.specs.Status.{done, status_of}
 use Rattle.simple_asn1_c.specs.declared.record.DepartureRecord.{DepartureRecord}
 use Rattle.simple_asn1_c.specs.declared.record.Outcome.{Outcome}
-use Rattle.simple_asn1_c.proofs.Outcomes.{Tells, no_memory_told}
+use Rattle.simple_asn1_c.proofs.Outcomes.{HasOutcome, IsNoMemory-outcome}
 
-pub departures_answer :
+-- the departures that were put are those of the octets
+pub AnswersDepartures-listed :
     (octets : List ℕ) (all found : List Departure) (before after : List DepartureRecord) (o : Outcome) → found ≡ all →
     AreDepartures octets all → (all ≡ []) ↔ IsDer octets → ArePut (map departure_record found) before after o →
     AnswersDepartures octets before after o
-departures_answer octets all found before after o e are same put =
+AnswersDepartures-listed octets all found before after o e are same put =
     were_listed all are same (subst (λ z. ArePut (map departure_record z) before after o) e put)
 
-pub departures_refused : (octets : List ℕ) (before : List DepartureRecord) (o : Outcome) (status offset : ℕ) →
-    Tells o status offset
+-- listing departures is refused for want of memory, or where no encodings stand
+pub AnswersDepartures-refused : (octets : List ℕ) (before : List DepartureRecord) (o : Outcome) (status offset : ℕ) →
+    HasOutcome o status offset
     → IsNoMemory status offset ⊎ IsNoEncodings octets status offset → AnswersDepartures octets before before o
-departures_refused octets before o status offset told (inl m) =
-    had_no_memory_to_list (no_memory_told o status offset told m) told.2 refl
-departures_refused octets before o status offset (s, p, c) (inr (fault, first, e)) =
+AnswersDepartures-refused octets before o status offset told (inl m) =
+    had_no_memory_to_list (IsNoMemory-outcome o status offset told m) told.2 refl
+AnswersDepartures-refused octets before o status offset (s, p, c) (inr (fault, first, e)) =
     are_no_encodings (fault, subst (λ z. NoEncodingsFault octets z fault) (sym p) first, s ∙ e) c refl
 
 -- a fault has a number of its own
-not_done : (fault : DecodeFault) → status_of fault ≡ 0 → ⊥
-not_done empty_buffer e = absurd (omega (arith, e))
-not_done (bad_boolean_length n) e = absurd (omega (arith, e))
-not_done (length_too_large n) e = absurd (omega (arith, e))
-not_done (utf8_failure n size) e = absurd (omega (arith, e))
-not_done printable_string_failure e = absurd (omega (arith, e))
-not_done (invalid_date_value text) e = absurd (omega (arith, e))
-not_done (invalid_bit_string_length n) e = absurd (omega (arith, e))
-not_done incomplete e = absurd (omega (arith, e))
-not_done (not_canonical n) e = absurd (omega (arith, e))
-not_done out_of_memory e = absurd (omega (arith, e))
-not_done (invalid_class n) e = absurd (omega (arith, e))
-not_done overflow e = absurd (omega (arith, e))
+status_of-not_done : (fault : DecodeFault) → status_of fault ≡ 0 → ⊥
+status_of-not_done empty_buffer e = absurd (omega (arith, e))
+status_of-not_done (bad_boolean_length n) e = absurd (omega (arith, e))
+status_of-not_done (length_too_large n) e = absurd (omega (arith, e))
+status_of-not_done (utf8_failure n size) e = absurd (omega (arith, e))
+status_of-not_done printable_string_failure e = absurd (omega (arith, e))
+status_of-not_done (invalid_date_value text) e = absurd (omega (arith, e))
+status_of-not_done (invalid_bit_string_length n) e = absurd (omega (arith, e))
+status_of-not_done incomplete e = absurd (omega (arith, e))
+status_of-not_done (not_canonical n) e = absurd (omega (arith, e))
+status_of-not_done out_of_memory e = absurd (omega (arith, e))
+status_of-not_done (invalid_class n) e = absurd (omega (arith, e))
+status_of-not_done overflow e = absurd (omega (arith, e))
 
--- none are counted where there are none
-none_counted : (found : List Departure) (count : ℕ) → count ≡ length (map departure_record found) →
+-- listing that found no departures counts none, and no other does
+count-none : (found : List Departure) (count : ℕ) → count ≡ length (map departure_record found) →
     (count ≡ 0) ↔ (found ≡ [])
-none_counted [] count e = ((λ z. refl), (λ none. e))
-none_counted (d ∷ found) count e = ((λ z. absurd (omega (arith, e, z))), (λ none. cc))
+count-none [] count e = ((λ z. refl), (λ none. e))
+count-none (d ∷ found) count e = ((λ z. absurd (omega (arith, e, z))), (λ none. cc))
 
-pub none_for_der : (octets : List ℕ) (before after : List DepartureRecord) (o : Outcome) →
+-- listing that is done counts no departures exactly of DER
+pub count-none_iff_der : (octets : List ℕ) (before after : List DepartureRecord) (o : Outcome) →
     AnswersDepartures octets before after o
     → o.status ≡ done → (o.count ≡ 0) ↔ IsDer octets
-none_for_der octets before after o (were_listed found are same put) e =
-    let none = none_counted found o.count put.0 in
+count-none_iff_der octets before after o (were_listed found are same put) e =
+    let none = count-none found o.count put.0 in
     ((λ z. same.0 (none.0 z)), (λ der. none.1 (same.1 der)))
-none_for_der octets before after o (are_no_encodings (fault, at, status) count kept) e =
-    absurd (not_done fault (sym status ∙ e))
-none_for_der octets before after o (had_no_memory_to_list (status, place) count kept) e =
+count-none_iff_der octets before after o (are_no_encodings (fault, at, status) count kept) e =
+    absurd (status_of-not_done fault (sym status ∙ e))
+count-none_iff_der octets before after o (had_no_memory_to_list (status, place) count kept) e =
     absurd (omega (arith, status, e))

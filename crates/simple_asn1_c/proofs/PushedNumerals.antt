@@ -14,15 +14,15 @@ use Rattle.asn1_leaves.specs.Inner.IdentifierForms.{components_of, first_compone
 use Rattle.asn1_leaves.proofs.DottedNumbers.{dotted_decimal-cons}
 use Rattle.asn1_leaves.proofs.IdentifierForms.{first_component-AreFirstTwo, second_component-AreFirstTwo}
 
--- what holds after an Ok
-pub pushed_if_ok : {T E P : Type 0} (r : Result T E) (b : Bool) → b ≡ is_ok r → IsTrue b → OnOk r P → P
-pushed_if_ok (Ok x) b e said p = p
-pushed_if_ok (Err x) b e said p = grind (arith, e, said)
+-- what holds of a result where it is Ok
+pub OnOk-is_ok : {T E P : Type 0} (r : Result T E) (b : Bool) → b ≡ is_ok r → IsTrue b → OnOk r P → P
+OnOk-is_ok (Ok x) b e said p = p
+OnOk-is_ok (Err x) b e said p = grind (arith, e, said)
 
 -- the numeral of one digit
-pub digit_numeral : (n : ℕ) → n < 10 → (48 + n) ∷ [] ≡ natural_numeral n
-digit_numeral zero low = refl
-digit_numeral (suc m) low =
+pub natural_numeral-digit : (n : ℕ) → n < 10 → (48 + n) ∷ [] ≡ natural_numeral n
+natural_numeral-digit zero low = refl
+natural_numeral-digit (suc m) low =
     let none : suc m / 10 ≡ 0 = omega (arith, low) in
     let last : suc m % 10 ≡ suc m = omega (arith, low) in
     sym (
@@ -31,9 +31,9 @@ digit_numeral (suc m) low =
     ∙ (λ i. digits_of 10 (none i) ++ (last i ∷ [])))
     )
 
--- that of two
-pub two_digits_numeral : (n : ℕ) → 10 ≤ n → n < 100 → (48 + n / 10) ∷ (48 + n % 10) ∷ [] ≡ natural_numeral n
-two_digits_numeral n two low =
+-- the numeral of two digits
+pub natural_numeral-two_digits : (n : ℕ) → 10 ≤ n → n < 100 → (48 + n / 10) ∷ (48 + n % 10) ∷ [] ≡ natural_numeral n
+natural_numeral-two_digits n two low =
     let none : n / 10 / 10 ≡ 0 = omega (arith, low) in
     let first : n / 10 % 10 ≡ n / 10 = omega (arith, low) in
     let front : digits_of 10 (n / 10) ≡ n / 10 ∷ [] =
@@ -44,11 +44,11 @@ two_digits_numeral n two low =
     )
 
 -- the components of contents octets, one after another
-pub dotted_pushed : (contents rest : List ℕ) (b x y : ℕ) (text one two all : List ℕ) → contents ≡ b ∷ rest →
+pub dotted_decimal-pushed : (contents rest : List ℕ) (b x y : ℕ) (text one two all : List ℕ) → contents ≡ b ∷ rest →
     AreFirstTwo x y b
     → one ≡ text ++ natural_numeral x → two ≡ one ++ pointed y → all ≡ two ++ flat_map pointed (numbers_after 0 rest)
     → all ≡ text ++ dotted_decimal (components_of contents)
-dotted_pushed contents rest b x y text one two all e pair first second others =
+dotted_decimal-pushed contents rest b x y text one two all e pair first second others =
     let x_is : first_component b ≡ x = first_component-AreFirstTwo x y b pair in
     let y_is : second_component b ≡ y = second_component-AreFirstTwo x y b pair in
     let ns = numbers_after 0 rest in

@@ -6,17 +6,19 @@ use Rattle.asn1_headers.specs.declared.header.ASN1Class.TheVariants.{Universal}
 use Rattle.simple_asn1.specs.Header.{Encoding, leading_octet}
 use Rattle.simple_asn1_c.specs.Values.{UniversalAt}
 
--- octets that are matched by two and what is behind them, of which so many are split off
-pub record TwoAndMore (rest v : List ℕ) (b n : ℕ) : Type 0 where
+-- the octets begin with two octets and as many as the second says
+pub record BeginsWithTwo (rest v : List ℕ) (b n : ℕ) : Type 0 where
   pub whole : rest ≡ b ∷ n ∷ (v ++ drop n (drop 2 rest))
   pub size : length v ≡ n
 
-pub two_and_more : (rest v : List ℕ) → 2 ≤ length rest → get_or rest 1 0 ≤ length (take (length rest - 2) (drop 2 rest))
+-- octets that were split behind two begin with these
+pub BeginsWithTwo-short : (rest v : List ℕ) → 2 ≤ length rest →
+    get_or rest 1 0 ≤ length (take (length rest - 2) (drop 2 rest))
     → v ≡ take (get_or rest 1 0) (take (length rest - 2) (drop 2 rest)) →
-    TwoAndMore rest v (get_or rest 0 0) (get_or rest 1 0)
-two_and_more [] v some within is = absurd (omega (arith, some))
-two_and_more (b ∷ []) v some within is = absurd (omega (arith, some))
-two_and_more (b ∷ n ∷ more) v some within is =
+    BeginsWithTwo rest v (get_or rest 0 0) (get_or rest 1 0)
+BeginsWithTwo-short [] v some within is = absurd (omega (arith, some))
+BeginsWithTwo-short (b ∷ []) v some within is = absurd (omega (arith, some))
+BeginsWithTwo-short (b ∷ n ∷ more) v some within is =
     let all : take (length (b ∷ n ∷ more) - 2) more ≡ more = take_all (length (b ∷ n ∷ more) - 2) more (omega arith) in
     let v_is : v ≡ take n more = is ∙ ap (take n) all in
     let low : n ≤ length more = omega (arith, within, ap length all) in
@@ -27,8 +29,9 @@ two_and_more (b ∷ n ∷ more) v some within is =
 
 module _ (x : List ℕ) (offset b n : ℕ) (v behind : List ℕ) (here : drop offset x ≡ b ∷ n ∷ (v ++ behind))
     (low : b % 32 < 31) (short : n < 128) (size : length v ≡ n) where
-  with_bit : (k : Bool) → b ≡ leading_octet Universal k (b % 32) → UniversalAt x offset (b % 32) v
-  with_bit k leading =
+  -- an encoding of class Universal with a header of two octets stands there, by its leading octet
+  UniversalAt-leading_octet : (k : Bool) → b ≡ leading_octet Universal k (b % 32) → UniversalAt x offset (b % 32) v
+  UniversalAt-leading_octet k leading =
       let own : Encoding (b ∷ n ∷ v) Universal k (b % 32) v 2 = record {
         identifier = b ∷ [];
         len = n ∷ [];
@@ -57,8 +60,9 @@ module _ (x : List ℕ) (offset b n : ℕ) (v behind : List ℕ) (here : drop of
         encoding = own;
       }
 
-  pub short_universal : b < 64 → UniversalAt x offset (b % 32) v
-  short_universal small = elim (cases_lt b 32) [
-    | inl lt ↦ with_bit false (omega (arith, lt))
-    | inr ge ↦ with_bit true (omega (arith, ge, small))
+  -- an encoding of class Universal with a header of two octets stands there
+  pub UniversalAt-short : b < 64 → UniversalAt x offset (b % 32) v
+  UniversalAt-short small = elim (cases_lt b 32) [
+    | inl lt ↦ UniversalAt-leading_octet false (omega (arith, lt))
+    | inr ge ↦ UniversalAt-leading_octet true (omega (arith, ge, small))
   ]

@@ -8,8 +8,8 @@ use Rattle.asn1_blocks.proofs.ReadSteps.{length-slice_range}
 use Rattle.asn1_outline.proofs.Standing.{length-contents_le}
 
 -- a header has two octets
-two_octets : (x : List ℕ) (p e : ℕ) (h : PlacedHeader) → e ≤ length x → HeaderFound x p e h → p + 2 ≤ h.start
-two_octets x p e h within f =
+start-two_octets : (x : List ℕ) (p e : ℕ) (h : PlacedHeader) → e ≤ length x → HeaderFound x p e h → p + 2 ≤ h.start
+start-two_octets x p e h within f =
     let more =
     length-contents_le (slice_range x p h.end) h.class h.constructed h.tag (slice_range x h.start h.end) (h.start - p)
     f.encoding in
@@ -19,14 +19,16 @@ two_octets x p e h within f =
     omega (arith, more, all, contents, f.starts_after, f.order)
 
 mutual
-  two_each_shape : (x : List ℕ) (p e i d : ℕ) (all : Shapes) → e ≤ length x → AreShapes x p e all →
+  -- octets are at least two for each entry of their shapes
+  length-entries_of_shapes_le : (x : List ℕ) (p e i d : ℕ) (all : Shapes) → e ≤ length x → AreShapes x p e all →
       2 * length (entries_of i d all) + p ≤ e
-  two_each_shape x p e i d all within (no_more end) = omega (arith, end)
-  two_each_shape x p e i d all within (one_more {header = h} {items = items} {rest = rest} f has are) =
+  length-entries_of_shapes_le x p e i d all within (no_more end) = omega (arith, end)
+  length-entries_of_shapes_le x p e i d all within (one_more {header = h} {items = items} {rest = rest} f has are) =
       let next = suc i + length (entries_of (suc i) (suc d) items) in
-      let own = two_octets x p e h within f in
-      let inside = two_each_item x h (suc i) (suc d) items (omega (arith, f.ends_within, within)) f.order has in
-      let after = two_each_shape x h.end e next d rest within are in
+      let own = start-two_octets x p e h within f in
+      let inside =
+      length-entries_of_items_le x h (suc i) (suc d) items (omega (arith, f.ends_within, within)) f.order has in
+      let after = length-entries_of_shapes_le x h.end e next d rest within are in
       omega (
         arith,
         own,
@@ -36,12 +38,16 @@ mutual
         length-append (entries_of (suc i) (suc d) items) (entries_of next d rest),
       )
 
-  two_each_item : (x : List ℕ) (h : PlacedHeader) (i d : ℕ) (all : Shapes) → h.end ≤ length x → h.start ≤ h.end →
+  -- contents octets are at least two for each entry of their items
+  length-entries_of_items_le : (x : List ℕ) (h : PlacedHeader) (i d : ℕ) (all : Shapes) → h.end ≤ length x →
+      h.start ≤ h.end →
       HasItems x h all
       → 2 * length (entries_of i d all) + h.start ≤ h.end
-  two_each_item x h i d all within order (read_inside is are) = two_each_shape x h.start h.end i d all within are
-  two_each_item x h i d all within order (as_it_came other bit fault) = omega (arith, order)
-  two_each_item x h i d all within order (not_read shut) = omega (arith, order)
+  length-entries_of_items_le x h i d all within order (read_inside is are) =
+      length-entries_of_shapes_le x h.start h.end i d all within are
+  length-entries_of_items_le x h i d all within order (as_it_came other bit fault) = omega (arith, order)
+  length-entries_of_items_le x h i d all within order (not_read shut) = omega (arith, order)
 
-pub two_each_header : (x : List ℕ) (all : Shapes) → HasShapes x all → 2 * length (entries_of 0 0 all) ≤ length x
-two_each_header x all has = omega (arith, two_each_shape x 0 (length x) 0 0 all (omega arith) has.shapes)
+-- octets have at least two for each entry of their headers
+pub length-entries_le : (x : List ℕ) (all : Shapes) → HasShapes x all → 2 * length (entries_of 0 0 all) ≤ length x
+length-entries_le x all has = omega (arith, length-entries_of_shapes_le x 0 (length x) 0 0 all (omega arith) has.shapes)

@@ -1,24 +1,25 @@
 -- For `simple_asn1_outline`: what it returns is right (`answer`, `few`).
 use Rattle.simple_asn1.specs.Walked.{walked_entries}
-use Rattle.simple_asn1_c.proofs.Outcomes.{outline_answer, outline_refused}
-use Rattle.simple_asn1_c.proofs.TwoEachHeader.{two_each_header}
+use Rattle.simple_asn1_c.proofs.Outcomes.{AnswersOutline-outlined, AnswersOutline-refused}
+use Rattle.simple_asn1_c.proofs.TwoEachHeader.{length-entries_le}
 use Rattle.simple_asn1_c.proofs.simple_asn1_outline.Goals as goal
 
 pub returns-in-Ok-clause-answer : goal.returns-in-Ok-clause-answer
 returns-in-Ok-clause-answer c =
     let (all, has, are) = c.in-Ok.ensures.document in
-    outline_answer c.args.octets.now all (walked_entries c.in-Ok.headers) c.entries.result.now c.args.blocks.now
+    AnswersOutline-outlined c.args.octets.now all
+    (walked_entries c.in-Ok.headers) c.entries.result.now c.args.blocks.now
     c.put_records.new.room
     c.put_records.result c.entries.ensures has are c.put_records.ensures
 
 pub returns-in-Err-clause-answer : goal.returns-in-Err-clause-answer
 returns-in-Err-clause-answer c =
     let f = c.in-Err.fault in
-    outline_refused c.args.octets.now c.args.blocks.now c.refused_outcome.result f.status f.offset
+    AnswersOutline-refused c.args.octets.now c.args.blocks.now c.refused_outcome.result f.status f.offset
     c.refused_outcome.ensures c.in-Err.ensures.fault
 
 pub returns-in-Ok-clause-few : goal.returns-in-Ok-clause-few
-returns-in-Ok-clause-few c all has = two_each_header c.args.octets.now all has
+returns-in-Ok-clause-few c all has = length-entries_le c.args.octets.now all has
 
 pub returns-in-Err-clause-few : goal.returns-in-Err-clause-few
-returns-in-Err-clause-few c all has = two_each_header c.args.octets.now all has
+returns-in-Err-clause-few c all has = length-entries_le c.args.octets.now all has

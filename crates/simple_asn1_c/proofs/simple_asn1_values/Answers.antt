@@ -2,7 +2,7 @@
 use Rattle.std.proofs.Common.{map, subst, ◌∙◌}
 use Rattle.simple_asn1_c.specs.Paths.{value_of, were_valued}
 use Rattle.simple_asn1_c.specs.Room.{ArePut}
-use Rattle.simple_asn1_c.proofs.Outcomes.{values_refused}
+use Rattle.simple_asn1_c.proofs.Outcomes.{AnswersValues-refused}
 use Rattle.simple_asn1_c.proofs.simple_asn1_values.Goals as goal
 
 pub returns-in-Ok : goal.returns-in-Ok
@@ -17,6 +17,6 @@ returns-in-Ok c =
 pub returns-in-Err : goal.returns-in-Err
 returns-in-Err c =
     let f = c.in-Err.fault in
-    values_refused c.args.octets.now c.args.steps.now c.args.paths.now c.args.values.now c.refused_outcome.result
+    AnswersValues-refused c.args.octets.now c.args.steps.now c.args.paths.now c.args.values.now c.refused_outcome.result
     f.status f.offset
     c.refused_outcome.ensures c.in-Err.ensures.fault

@@ -1,9 +1,10 @@
 -- For `simple_asn1_write`: what it returns is right.
 use Rattle.std.proofs.Common.{refl, inl, inr, sym, subst, ◌∙◌}
+use Rattle.std.proofs.lemmas.Option.{MatchOption-at_some, MatchOption-at_none}
 use Rattle.simple_asn1_c.specs.Answers.{had_no_memory_to_spell, has_bad_record, spelled_no_document, was_spelled}
 use Rattle.simple_asn1_c.specs.Room.{ArePut}
 use Rattle.simple_asn1_c.specs.Spelled.{IsBadAt, IsSpelled}
-use Rattle.simple_asn1_c.proofs.Outcomes.{no_memory_told, none_written, refusal_told, some_written}
+use Rattle.simple_asn1_c.proofs.Outcomes.{IsNoMemory-outcome, IsRefused-outcome}
 use Rattle.simple_asn1_c.proofs.simple_asn1_write.Goals as goal
 
 pub returns-then-spelled : goal.returns-then-spelled
@@ -20,7 +21,7 @@ returns-in-Ok-Some c =
     let s = c.as_slice-2 in
     let is = subst (IsSpelled octets records) (sym s.ensures) c.in-Ok.ensures.spelled in
     let (bs, d, m) = c.in-Ok-Some.ensures.document in
-    let e = some_written _ _ c.in-Ok-Some.field-0 c.in-Ok-Some.canonical c.in-Ok-Some.field-0-is m in
+    let e = MatchOption-at_some _ _ c.in-Ok-Some.canonical c.in-Ok-Some.field-0-is m in
     let put = c.put_octets-in-Ok-Some in
     was_spelled s.result.now is bs d
     (subst (λ z. ArePut z c.args.room.now put.new.room put.result) (c.deref.ensures.value ∙ e) put.ensures)
@@ -32,7 +33,7 @@ returns-in-Ok-None c =
     let s = c.as_slice-2 in
     let is = subst (IsSpelled octets records) (sym s.ensures) c.in-Ok.ensures.spelled in
     let (bs, d, m) = c.in-Ok-None.ensures.document in
-    let e = none_written _ _ c.in-Ok-None.field-0 c.in-Ok-None.field-0-is m in
+    let e = MatchOption-at_none _ _ c.in-Ok-None.field-0-is m in
     let put = c.put_octets-in-Ok-None in
     was_spelled s.result.now is bs d
     (subst (λ z. ArePut z c.args.room.now put.new.room put.result)
@@ -48,8 +49,9 @@ returns c =
     let told = c.refused_outcome-in-Err-canonical_octets.ensures in
     let f = c.in-Err-canonical_octets.fault in
     elim c.in-Err-canonical_octets.ensures.fault [
-      | inl m ↦ had_no_memory_to_spell (no_memory_told o f.status f.offset told m) told.2 refl
-      | inr e ↦ spelled_no_document s.result.now is (refusal_told s.result.now o f.status f.offset told e) told.2 refl
+      | inl m ↦ had_no_memory_to_spell (IsNoMemory-outcome o f.status f.offset told m) told.2 refl
+      | inr e ↦
+          spelled_no_document s.result.now is (IsRefused-outcome s.result.now o f.status f.offset told e) told.2 refl
     ]
 
 pub returns-in-Err : goal.returns-in-Err
@@ -60,6 +62,6 @@ returns-in-Err c =
     let told = c.refused_outcome.ensures in
     let f = c.in-Err.fault in
     elim c.in-Err.ensures.fault [
-      | inl m ↦ had_no_memory_to_spell (no_memory_told o f.status f.offset told m) told.2 refl
+      | inl m ↦ had_no_memory_to_spell (IsNoMemory-outcome o f.status f.offset told m) told.2 refl
       | inr (e, bad) ↦ has_bad_record (told.0 ∙ e) (subst (IsBadAt octets records) (sym told.1) bad) told.2 refl
     ]

@@ -2,7 +2,7 @@
 use Rattle.std.proofs.Common.{◌≡◌, inr, refl, sym, subst, ◌∙◌}
 use Rattle.asn1_headers.specs.declared.header.ASN1Class.TheVariants.{Universal}
 use Rattle.simple_asn1.specs.Header.{Encoding}
-use Rattle.simple_asn1_c.proofs.Headers.{contents_behind, universal_number}
+use Rattle.simple_asn1_c.proofs.Headers.{drop-header, class_number-universal}
 use Rattle.simple_asn1_c.proofs.alone.any_universal_at.Goals as goal
 
 pub returns-in_default-clause-missing : goal.returns-in_default-clause-missing
@@ -13,9 +13,9 @@ returns-clause-found c =
     let x = c.in-Some.encoding.now in
     let head = c.in-Ok.record in
     let h = c.in-Ok.ensures in
-    let class : h.class ≡ Universal = universal_number h.class (sym h.class_field ∙ c.if-record-ne0.false) in
+    let class : h.class ≡ Universal = class_number-universal h.class (sym h.class_field ∙ c.if-record-ne0.false) in
     let contents : h.contents ≡ c.split_at.result.1.now =
-    sym (contents_behind x h.class h.constructed h.tag h.contents head.header h.encoding)
+    sym (drop-header x h.class h.constructed h.tag h.contents head.header h.encoding)
     ∙ sym c.split_at.ensures.back in
     let own = subst (λ z. Encoding x z h.constructed h.tag h.contents head.header) class h.encoding in (
       h.tag,

@@ -3,7 +3,7 @@ use Rattle.std.proofs.Common.{refl, sym, ◌∙◌}
 use Rattle.asn1_numbers.specs.TwosComplement.{signed_number}
 use Rattle.asn1_leaves.specs.StringKind.{bmp, ia5, printable, teletex, universal, utf8}
 use Rattle.asn1_blocks.specs.Tree.{bit_string, boolean, generalized_time, integer, null, object_identifier, octet_string, text, utc_time}
-use Rattle.simple_asn1_c.proofs.CanonicalRecords.{empty_is}
+use Rattle.simple_asn1_c.proofs.CanonicalRecords.{nil-no_length}
 use Rattle.simple_asn1_c.proofs.canonical.are_written_of_leaf.Goals as goal
 
 pub returns-then-are_meant : goal.returns-then-are_meant
@@ -25,7 +25,7 @@ pub returns-in-4 : goal.returns-in-4
 returns-in-4 c said = (octet_string c.args.contents.now, c.in-4.is, refl, refl)
 
 pub returns-in-5 : goal.returns-in-5
-returns-in-5 c said = (null, c.in-5.is, tt, empty_is c.args.contents.now (sym c.is_empty.ensures ∙ said))
+returns-in-5 c said = (null, c.in-5.is, tt, nil-no_length c.args.contents.now (sym c.is_empty.ensures ∙ said))
 
 pub returns-in-6 : goal.returns-in-6
 returns-in-6 c said =

@@ -3,7 +3,7 @@ use Rattle.std.proofs.Common.{◌<◌, ◌^◌, length, ap, sym, ◌∙◌, arit
 use Rattle.std.specs.Prelude.{not}
 use Rattle.std.proofs.lemmas.Grind.{common_steps}
 use Rattle.asn1_blocks.proofs.Leaves.{IsUnknownTag-iff_not_known}
-use Rattle.simple_asn1_c.proofs.CanonicalRecords.{empty_group, empty_is, other_block, universal_unknown_block, universal_leaf_block}
+use Rattle.simple_asn1_c.proofs.CanonicalRecords.{IsCanonicalBlock-empty_group, nil-no_length, IsCanonicalBlock-primitive, IsCanonicalBlock-unknown_tag, IsCanonicalBlock-universal_leaf}
 use Rattle.simple_asn1_c.proofs.canonical.is_canonical_single.Goals as goal
 
 pub returns-then-not-is_known : goal.returns-then-not-is_known
@@ -11,24 +11,27 @@ returns-then-not-is_known c said =
     let small : length c.args.contents.now < 2 ^ 64 = grind (arith, common_steps) in
     let without =
     (IsUnknownTag-iff_not_known c.args.tag c.is_known.result c.is_known.ensures).0 (ap not c.if-not-is_known.true) in
-    universal_unknown_block c.args.class c.args.constructed c.args.tag c.args.contents.now small c.in-Universal.is
+    IsCanonicalBlock-unknown_tag c.args.class c.args.constructed c.args.tag c.args.contents.now small c.in-Universal.is
     without
 
 pub returns-then-is_group_tag : goal.returns-then-is_group_tag
 returns-then-is_group_tag c said =
     let (g, is) = c.is_group_tag.ensures c.if-is_group_tag.true in
-    empty_group c.args.class c.args.constructed c.args.tag c.args.contents.now c.in-Universal.is c.if-constructed.true g
+    IsCanonicalBlock-empty_group c.args.class c.args.constructed c.args.tag c.args.contents.now c.in-Universal.is
+    c.if-constructed.true g
     is
-    (empty_is c.args.contents.now (sym c.is_empty.ensures ∙ said))
+    (nil-no_length c.args.contents.now (sym c.is_empty.ensures ∙ said))
 
 pub returns-else-constructed : goal.returns-else-constructed
 returns-else-constructed c said =
     let small : length c.args.contents.now < 2 ^ 64 = grind (arith, common_steps) in
-    universal_leaf_block c.args.class c.args.constructed c.args.tag c.args.contents.now small c.in-Universal.is
+    IsCanonicalBlock-universal_leaf c.args.class c.args.constructed c.args.tag c.args.contents.now small
+    c.in-Universal.is
     c.if-constructed.false
     (c.are_written_of_leaf.ensures said)
 
 pub returns-in_default : goal.returns-in_default
 returns-in_default c said =
     let small : length c.args.contents.now < 2 ^ 64 = grind (arith, common_steps) in
-    other_block c.args.class c.args.constructed c.args.tag c.args.contents.now small c.in_default.not-Universal said
+    IsCanonicalBlock-primitive c.args.class c.args.constructed c.args.tag c.args.contents.now small
+    c.in_default.not-Universal said

@@ -5,7 +5,7 @@ use Rattle.asn1_headers.specs.Fault.{fault_of}
 use Rattle.simple_asn1_c.specs.Contents.{had_no_memory_for_components, mean_components, mean_no_components}
 use Rattle.simple_asn1_c.specs.Room.{ArePut}
 use Rattle.simple_asn1_c.specs.Status.{status_of}
-use Rattle.simple_asn1_c.proofs.FittingComponents.{all_fit, not_all, same_numbers}
+use Rattle.simple_asn1_c.proofs.FittingComponents.{All-fits, HasNotAll-not_all, AreNumbers-same}
 use Rattle.simple_asn1_c.proofs.components.put_components.Goals as goal
 
 pub returns-in-Err : goal.returns-in-Err
@@ -23,10 +23,10 @@ returns-in-Ok-as_vec c =
     let ns = c.in-Ok.oid in
     let v = c.in-Ok-as_vec.numbers.items in
     let all = c.in-Ok-as_vec.ensures.all in
-    let same : c.deref.result.now ≡ ns = c.deref.ensures.value ∙ same_numbers v ns all in
+    let same : c.deref.result.now ≡ ns = c.deref.ensures.value ∙ AreNumbers-same v ns all in
     mean_components ns c.in-Ok.ensures.found
     (inl (
-      all_fit v ns all,
+      All-fits v ns all,
       subst (λ z. ArePut z c.args.room.now c.put_numbers.new.room c.put_numbers.result) same c.put_numbers.ensures,
     ))
 
@@ -37,5 +37,5 @@ returns-in-Err-Overflow c =
     elim c.in-Err-Overflow.ensures.refused [
       | inl memory ↦ let e : Overflow ≡ OutOfMemory = sym c.in-Err-Overflow.field-0-is ∙ memory in cc
       | inr (e, large) ↦ mean_components ns c.in-Ok.ensures.found
-          (inr (not_all ns large, (put.status, put.offset, put.count, refl)))
+          (inr (HasNotAll-not_all ns large, (put.status, put.offset, put.count, refl)))
     ]

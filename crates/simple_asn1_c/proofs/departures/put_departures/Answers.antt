@@ -4,9 +4,10 @@ use Rattle.std.proofs.lemmas.Grind.{common_steps}
 use Rattle.asn1_departures.specs.declared.rule.Departure.{Departure}
 use Rattle.asn1_departures.specs.declared.rule.Rule.TheVariants.{LongIdentifier}
 use Rattle.simple_asn1_c.specs.Departures.{departure_record}
-use Rattle.simple_asn1_c.proofs.PathSteps.{value_put}
+use Rattle.simple_asn1_c.proofs.PathSteps.{set-next_value}
 use Rattle.simple_asn1_c.proofs.departures.put_departures.Goals as goal
 
+-- stands for a departure past the end of a list
 abbrev no_departure : Departure
 no_departure = record { offset = 0; rule = LongIdentifier }
 
@@ -20,5 +21,5 @@ loop-k-preserved c =
     let fits : length found ≤ length room = grind (arith, common_steps) in
     ap (λ z. slice_set z k c.departure_record.result) c.loop-k.invariant
     ∙ ap (λ z. slice_set (map departure_record (take k found) ++ drop k room) k z) c.departure_record.ensures
-    ∙ value_put departure_record found room k no_departure more fits
+    ∙ set-next_value departure_record found room k no_departure more fits
     ∙ ap (λ n. map departure_record (take n found) ++ drop n room) next

@@ -3,7 +3,7 @@ use Rattle.std.proofs.Common.{◌≡◌, ◌++◌, ◌∷◌, ◌∙◌, ap, ref
 use Rattle.asn1_leaves.specs.DottedDecimal.{dotted_decimal}
 use Rattle.asn1_leaves.proofs.IdentifierForms.{components_of-contents}
 use Rattle.std.proofs.lemmas.Grind.{common_steps}
-use Rattle.simple_asn1_c.proofs.PushedNumerals.{dotted_pushed}
+use Rattle.simple_asn1_c.proofs.PushedNumerals.{dotted_decimal-pushed}
 use Rattle.simple_asn1_c.proofs.dotted.push_dotted.Goals.{then-push_numeral, else-push_numeral}
 use Rattle.simple_asn1_c.proofs.dotted.push_dotted.Goals as goal
 
@@ -19,7 +19,8 @@ returns-then-push_pointed c ok =
           let two = ap (λ z. z.items) w.text-is ∙ w.push_pointed.ensures (sym w.value-is ∙ c.if-push_pointed.true) in (
             meant.0,
             meant.1,
-            dotted_pushed contents rest c.in-Some.octet.now c.first_two-first.result.0 c.first_two-first.result.1 text
+            dotted_decimal-pushed contents rest c.in-Some.octet.now c.first_two-first.result.0
+                c.first_two-first.result.1 text
                 c.push_numeral.new.text.items
                 c.if-push_numeral.text.items c.push_subidentifiers.new.text.items e c.first_two-first.ensures
                 (w.if-push_numeral.ensures refl) two

@@ -1,6 +1,6 @@
 -- For `dotted::push_two`: what it returns is right.
 use Rattle.std.proofs.Common.{◌+◌, ◌/◌, ◌%◌, ◌∷◌, [], ◌++◌, refl, ap, ◌∙◌, append_assoc}
-use Rattle.simple_asn1_c.proofs.PushedNumerals.{two_digits_numeral}
+use Rattle.simple_asn1_c.proofs.PushedNumerals.{natural_numeral-two_digits}
 use Rattle.simple_asn1_c.proofs.dotted.push_two.Goals as goal
 
 pub returns : goal.returns
@@ -10,4 +10,4 @@ returns c ok =
     c.push_digit-2.ensures ok
     ∙ ap (λ z. z ++ (48 + n % 10) ∷ []) (c.if-not-push_digit.ensures refl)
     ∙ append_assoc text ((48 + n / 10) ∷ []) ((48 + n % 10) ∷ [])
-    ∙ ap (λ z. text ++ z) (two_digits_numeral n c.requires.two c.requires.low)
+    ∙ ap (λ z. text ++ z) (natural_numeral-two_digits n c.requires.two c.requires.low)

@@ -1,14 +1,14 @@
 -- For `header::header_record`: what it returns is right, `unreachable` may be called, and what cannot happen does not.
 use Rattle.std.proofs.Common.{◌≡◌, inl, inr, drop, sym, ap, ◌∙◌}
 use Rattle.simple_asn1.specs.Header.{constructed_bit}
-use Rattle.simple_asn1_c.proofs.Headers.{front_found, some_header}
+use Rattle.simple_asn1_c.proofs.Headers.{Encoding-front_header, IsEncoding-has_header}
 use Rattle.simple_asn1_c.proofs.header.header_record.Goals as goal
 use Rattle.simple_asn1_c.proofs.header.header_record.Goals.{then-header, else-header}
 
 pub unreachable-requires : goal.unreachable-requires
 unreachable-requires c = elim c.in-Err.ensures.none [
   | inl e ↦ c.in_default.not-OutOfMemory e
-  | inr none ↦ some_header c.args.encoding.now c.requires none
+  | inr none ↦ IsEncoding-has_header c.args.encoding.now c.requires none
 ]
 
 pub returns : goal.returns
@@ -20,7 +20,8 @@ returns c =
       | else-header w ↦ w.result-is ∙ sym (ap constructed_bit w.if-header.false)
     ] in
     let h =
-    front_found x found.size found.announced found.class found.constructed found.tag c.requires c.in-Ok.ensures.found in
+    Encoding-front_header x found.size found.announced found.class found.constructed found.tag c.requires
+    c.in-Ok.ensures.found in
     record {
       class = found.class;
       constructed = found.constructed;

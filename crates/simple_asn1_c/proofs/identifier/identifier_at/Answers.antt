@@ -4,12 +4,14 @@ use Rattle.simple_asn1.specs.Contents.{leaf_tag, of_object_identifier}
 use Rattle.simple_asn1.specs.Tree.{Leaf, object_identifier}
 use Rattle.simple_asn1_c.specs.Values.{IsIdentifierAt, IsIdentifierTag, IsLeafAt, UniversalAt}
 use Rattle.simple_asn1_c.specs.Values.{identifier_is_missing, identifier_was_found}
-use Rattle.simple_asn1_c.proofs.LeavesThere.{another_there, fault_there, leaf_here, nothing_there, small_tag}
+use Rattle.simple_asn1_c.proofs.OffsetLeaves.{IsMissing-other_tag, IsMissing-fault, IsLeafAt-universal, IsMissing-nothing}
 use Rattle.simple_asn1_c.proofs.identifier.identifier_at.Goals as goal
+use Rattle.asn1_outline.proofs.Values.{HasTag-small}
 
-leaf_of : (octets : List ℕ) (offset : ℕ) → (ns : List ℕ) × IsIdentifierAt octets offset ns
+-- an identifier at an offset is a leaf there
+IsLeafAt-identifier : (octets : List ℕ) (offset : ℕ) → (ns : List ℕ) × IsIdentifierAt octets offset ns
     → (l : Leaf) × IsIdentifierTag (leaf_tag l) × IsLeafAt octets offset l
-leaf_of octets offset (ns, is) = (object_identifier ns, refl, is)
+IsLeafAt-identifier octets offset (ns, is) = (object_identifier ns, refl, is)
 
 pub returns-in-Err : goal.returns-in-Err
 returns-in-Err c =
@@ -17,8 +19,8 @@ returns-in-Err c =
     let offset = c.args.offset in
     let put = c.nothing_put.ensures in
     identifier_is_missing
-    (nothing_there octets offset ((ns : List ℕ) × IsIdentifierAt octets offset ns) IsIdentifierTag
-    (leaf_of octets offset) c.in-Err.status
+    (IsMissing-nothing octets offset ((ns : List ℕ) × IsIdentifierAt octets offset ns) IsIdentifierTag
+    (IsLeafAt-identifier octets offset) c.in-Err.status
     c.nothing_put.result.status c.in-Err.ensures.missing put.status)
     put.offset put.count refl
 
@@ -29,8 +31,8 @@ returns-then-tag-ne6 c =
     let put = c.nothing_put-then-tag-ne6.ensures in
     let (n, u, number) = c.in-Ok.ensures.found in
     identifier_is_missing
-    (another_there octets offset ((ns : List ℕ) × IsIdentifierAt octets offset ns) IsIdentifierTag
-    (leaf_of octets offset)
+    (IsMissing-other_tag octets offset ((ns : List ℕ) × IsIdentifierAt octets offset ns) IsIdentifierTag
+    (IsLeafAt-identifier octets offset)
     c.nothing_put-then-tag-ne6.result.status n c.in-Ok.found.0 c.in-Ok.found.1.now u number (λ m t. omega (arith, t))
     c.if-tag-ne6.true put.status)
     put.offset put.count refl
@@ -42,9 +44,10 @@ returns-in-Ok-put_decimal c =
     let v = c.in-Ok.found.1.now in
     let (n, u, number) = c.in-Ok.ensures.found in
     let (ns, meant, put) = c.in-Ok-put_decimal.ensures.put in
-    let six : n ≡ 6 = small_tag n c.in-Ok.found.0 6 number c.if-tag-ne6.false (omega arith) in
+    let six : n ≡ 6 = HasTag-small n c.in-Ok.found.0 6 number c.if-tag-ne6.false (omega arith) in
     let is =
-    leaf_here octets offset (object_identifier ns) v (subst (λ z. UniversalAt octets offset z v) six u) meant in
+    IsLeafAt-universal octets offset (object_identifier ns) v
+    (subst (λ z. UniversalAt octets offset z v) six u) meant in
     identifier_was_found ns is put
 
 pub returns-in-Err-put_decimal : goal.returns-in-Err-put_decimal
@@ -54,14 +57,14 @@ returns-in-Err-put_decimal c =
     let v = c.in-Ok.found.1.now in
     let put = c.nothing_put-in-Err-put_decimal.ensures in
     let (n, u, number) = c.in-Ok.ensures.found in
-    let six : n ≡ 6 = small_tag n c.in-Ok.found.0 6 number c.if-tag-ne6.false (omega arith) in
+    let six : n ≡ 6 = HasTag-small n c.in-Ok.found.0 6 number c.if-tag-ne6.false (omega arith) in
     let (kept, why) = c.in-Err-put_decimal.ensures.refused in
     elim why [
       | inl memory ↦ identifier_is_missing (inl (put.status ∙ memory)) put.offset put.count kept
       | inr (f, fault, told) ↦
           identifier_is_missing
-          (fault_there octets offset ((ns : List ℕ) × IsIdentifierAt octets offset ns) IsIdentifierTag
-          (leaf_of octets offset)
+          (IsMissing-fault octets offset ((ns : List ℕ) × IsIdentifierAt octets offset ns) IsIdentifierTag
+          (IsLeafAt-identifier octets offset)
           c.nothing_put-in-Err-put_decimal.result.status n v six u f (of_object_identifier six fault)
           (put.status ∙ told))
           put.offset put.count kept

@@ -4,13 +4,13 @@ use Rattle.asn1_leaves.specs.Contents.ObjectIdentifier.{object_identifier_conten
 use Rattle.simple_asn1.specs.DottedDecimal.{IsDottedDecimal}
 use Rattle.simple_asn1_c.specs.Puts.{had_no_memory_for_identifier, has_components, has_no_components}
 use Rattle.simple_asn1_c.specs.Room.{ArePut}
-use Rattle.simple_asn1_c.proofs.Puts.{dotted_utf8}
+use Rattle.simple_asn1_c.proofs.TextOctets.{IsUtf8-dotted_decimal}
 use Rattle.simple_asn1_c.proofs.identifier.put_identifier.Goals as goal
 
 pub returns-in_default : goal.returns-in_default
 returns-in_default c =
     let put = c.nothing_put.ensures in
-    has_no_components (λ ns dotted. c.in_default.ensures.cases.0 (dotted_utf8 c.args.text.now ns dotted))
+    has_no_components (λ ns dotted. c.in_default.ensures.cases.0 (IsUtf8-dotted_decimal c.args.text.now ns dotted))
     (put.status, put.offset, put.count, refl)
 
 pub returns-in-Ok-as_raw : goal.returns-in-Ok-as_raw

@@ -12,10 +12,10 @@ use Rattle.simple_asn1_c.specs.declared.record.MomentAnswer.{MomentAnswer}
 use Rattle.simple_asn1_c.proofs.moment.date_time.Goals as goal
 
 -- a valid moment is a date and a time
-calendar : (fields : MomentAnswer) → IsValid (moment_in fields)
+IsValid-date_and_time : (fields : MomentAnswer) → IsValid (moment_in fields)
     → IsDate fields.year (pos fields.month) (pos fields.day)
     × IsTime (pos fields.hour) (pos fields.minute) (pos fields.second) (pos fields.nanosecond)
-calendar fields v = (
+IsValid-date_and_time fields v = (
   (
     (omega (arith, ints, v.from_zero), omega (arith, ints, v.four_digits)),
     (omega (arith, ints, v.month), omega (arith, ints, v.month)),
@@ -30,34 +30,36 @@ calendar fields v = (
 )
 
 -- numbers that are those of a valid moment are a date and a time
-same_calendar : (fields : MomentAnswer) (y mo d h mi s n : ℤ) → IsValid (moment_in fields)
+IsValid-same_fields : (fields : MomentAnswer) (y mo d h mi s n : ℤ) → IsValid (moment_in fields)
     → y ≡ fields.year → mo ≡ pos fields.month → d ≡ pos fields.day → h ≡ pos fields.hour → mi ≡ pos fields.minute
     → s ≡ pos fields.second → n ≡ pos fields.nanosecond → IsDate y mo d × IsTime h mi s n
-same_calendar fields y mo d h mi s n v year month day hour minute second nanosecond =
-    rw (year, month, day, hour, minute, second, nanosecond) (calendar fields v)
+IsValid-same_fields fields y mo d h mi s n v year month day hour minute second nanosecond =
+    rw (year, month, day, hour, minute, second, nanosecond) (IsValid-date_and_time fields v)
 
-year_small : (y : ℤ) → pos 0 ≤ℤ y → y ≤ℤ pos 9999 → unsigned_abs y < 10000
-year_small (pos n) low high = omega (arith, ints, high)
-year_small (negsuc n) low high = omega (arith, ints, low)
+-- a year of four digits is below 10000
+unsigned_abs-year_lt : (y : ℤ) → pos 0 ≤ℤ y → y ≤ℤ pos 9999 → unsigned_abs y < 10000
+unsigned_abs-year_lt (pos n) low high = omega (arith, ints, high)
+unsigned_abs-year_lt (negsuc n) low high = omega (arith, ints, low)
 
 -- a year passes through both widths
-same_year : (y : ℤ) → pos 0 ≤ℤ y → y ≤ℤ pos 9999 → to_z w16 (of_z w16 (to_z w32 (of_z w32 y))) ≡ y
-same_year y low high =
-    let small = year_small y low high in
+to_z-same_year : (y : ℤ) → pos 0 ≤ℤ y → y ≤ℤ pos 9999 → to_z w16 (of_z w16 (to_z w32 (of_z w32 y))) ≡ y
+to_z-same_year y low high =
+    let small = unsigned_abs-year_lt y low high in
     ap (λ z. to_z w16 (of_z w16 z)) (back_small w32 y (omega (arith, small))) ∙ back_small w16 y (omega (arith, small))
 
 -- where a call that succeeds exactly if P gives nothing, not Q, from which P follows
-nothing : {T E : Type 0} (r : Result T E) (o : Option T) (P Q : Type 0) → o ≡ result_ok r → (IsOk r ↔ P) → (Q → P) →
+IfNone-not_ok : {T E : Type 0} (r : Result T E) (o : Option T) (P Q : Type 0) → o ≡ result_ok r → (IsOk r ↔ P) →
+    (Q → P) →
     IfNone o (Q → ⊥)
-nothing r (Some x) P Q e succeeds f = tt
-nothing (Ok x) None P Q e succeeds f = cc
-nothing (Err x) None P Q e succeeds f = λ q. let ok = succeeds.1 (f q) in cc
+IfNone-not_ok r (Some x) P Q e succeeds f = tt
+IfNone-not_ok (Ok x) None P Q e succeeds f = cc
+IfNone-not_ok (Err x) None P Q e succeeds f = λ q. let ok = succeeds.1 (f q) in cc
 
 pub returns-clause-none : goal.returns-clause-none
 returns-clause-none c =
     let f = c.args.fields.now in
-    nothing c.new.result c.ok.result _ (IsValid (moment_in f)) c.ok.ensures.value c.new.ensures.succeeds
-    (λ v. same_calendar f _ _ _ _ _ _ _ v (same_year f.year v.from_zero v.four_digits)
+    IfNone-not_ok c.new.result c.ok.result _ (IsValid (moment_in f)) c.ok.ensures.value c.new.ensures.succeeds
+    (λ v. IsValid-same_fields f _ _ _ _ _ _ _ v (to_z-same_year f.year v.from_zero v.four_digits)
     (to_z_pos w8 f.month (omega (arith, v.month))) (to_z_pos w8 f.day (omega arith))
     (to_z_pos w8 f.hour (omega (arith, v.hour)))
     (to_z_pos w8 f.minute (omega (arith, v.minute))) (to_z_pos w8 f.second (omega (arith, v.second)))

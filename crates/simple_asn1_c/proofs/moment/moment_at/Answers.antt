@@ -8,17 +8,19 @@ use Rattle.simple_asn1.specs.Contents.{leaf_tag, of_generalized_time, of_utc_tim
 use Rattle.simple_asn1.specs.Tree.{Leaf, generalized_time, utc_time}
 use Rattle.simple_asn1_c.specs.Status.{status_of}
 use Rattle.simple_asn1_c.specs.Values.{IsLeafAt, IsMomentAt, IsMomentTag, UniversalAt, moment_is_missing, moment_was_found}
-use Rattle.simple_asn1_c.proofs.LeavesThere.{another_there, fault_there, leaf_here, nothing_there, small_tag}
+use Rattle.simple_asn1_c.proofs.OffsetLeaves.{IsMissing-other_tag, IsMissing-fault, IsLeafAt-universal, IsMissing-nothing}
 use Rattle.simple_asn1_c.proofs.moment.moment_at.Goals as goal
+use Rattle.asn1_outline.proofs.Values.{HasTag-small}
 
-leaf_of : (octets : List ℕ) (offset : ℕ) → (m : Moment) × IsMomentAt octets offset m →
+-- a moment at an offset is a leaf there
+IsLeafAt-moment : (octets : List ℕ) (offset : ℕ) → (m : Moment) × IsMomentAt octets offset m →
     (l : Leaf) × IsMomentTag (leaf_tag l) × IsLeafAt octets offset l
-leaf_of octets offset (m, inl is) = (utc_time m, inl refl, is)
-leaf_of octets offset (m, inr is) = (generalized_time m, inr refl, is)
+IsLeafAt-moment octets offset (m, inl is) = (utc_time m, inl refl, is)
+IsLeafAt-moment octets offset (m, inr is) = (generalized_time m, inr refl, is)
 
-small : (tag : ℕ) → IsMomentTag tag → tag < 2 ^ 64
-small tag (inl e) = omega (arith, e)
-small tag (inr e) = omega (arith, e)
+IsMomentTag-lt : (tag : ℕ) → IsMomentTag tag → tag < 2 ^ 64
+IsMomentTag-lt tag (inl e) = omega (arith, e)
+IsMomentTag-lt tag (inr e) = omega (arith, e)
 
 pub returns-in-Err : goal.returns-in-Err
 returns-in-Err c =
@@ -26,7 +28,8 @@ returns-in-Err c =
     let offset = c.args.offset in
     let none = c.no_moment.ensures in
     moment_is_missing
-    (nothing_there octets offset ((m : Moment) × IsMomentAt octets offset m) IsMomentTag (leaf_of octets offset)
+    (IsMissing-nothing octets offset ((m : Moment) × IsMomentAt octets offset m) IsMomentTag
+    (IsLeafAt-moment octets offset)
     c.in-Err.status c.no_moment.result.status
     c.in-Err.ensures.missing none.status)
     none.fields
@@ -44,11 +47,11 @@ returns-in-Ok-Some c =
     rw c.in-Ok-Some.field-0-is at c.in-Ok-Some.ensures.found in
     let is : IsMomentAt octets offset m = elim said [
       | inl (tag, means) ↦
-          let same : n ≡ 23 = small_tag n c.in-Ok.found.0 23 number tag (omega arith) in
-          inl (leaf_here octets offset (utc_time m) v (at 23 same) means)
+          let same : n ≡ 23 = HasTag-small n c.in-Ok.found.0 23 number tag (omega arith) in
+          inl (IsLeafAt-universal octets offset (utc_time m) v (at 23 same) means)
       | inr (tag, means) ↦
-          let same : n ≡ 24 = small_tag n c.in-Ok.found.0 24 number tag (omega arith) in
-          inr (leaf_here octets offset (generalized_time m) v (at 24 same) means)
+          let same : n ≡ 24 = HasTag-small n c.in-Ok.found.0 24 number tag (omega arith) in
+          inr (IsLeafAt-universal octets offset (generalized_time m) v (at 24 same) means)
     ] in
     moment_was_found c.moment_answer.ensures.status m is c.moment_answer.ensures.moment
 
@@ -60,9 +63,10 @@ returns-in-Ok-None c =
     let (n, u, number) = c.in-Ok.ensures.found in
     let other : IsMomentTag c.in-Ok.found.0 → ⊥ = rw c.in-Ok-None.field-0-is at c.in-Ok-None.ensures.found in
     moment_is_missing
-    (another_there octets offset ((m : Moment) × IsMomentAt octets offset m) IsMomentTag (leaf_of octets offset)
+    (IsMissing-other_tag octets offset ((m : Moment) × IsMomentAt octets offset m) IsMomentTag
+    (IsLeafAt-moment octets offset)
     c.no_moment-in-Ok-None.result.status n
-    c.in-Ok.found.0 c.in-Ok.found.1.now u number small other none.status)
+    c.in-Ok.found.0 c.in-Ok.found.1.now u number IsMomentTag-lt other none.status)
     none.fields
 
 pub returns-in-Err-time_of : goal.returns-in-Err-time_of
@@ -77,15 +81,17 @@ returns-in-Err-time_of c =
     elim c.in-Err-time_of.ensures.refused [
       | inl memory ↦ moment_is_missing (inl (told ∙ ap (λ z. status_of (fault_of z)) memory)) none.fields
       | inr (inl (tag, fault)) ↦
-          let same : n ≡ 23 = small_tag n c.in-Ok.found.0 23 number tag (omega arith) in
+          let same : n ≡ 23 = HasTag-small n c.in-Ok.found.0 23 number tag (omega arith) in
           moment_is_missing
-          (fault_there octets offset ((m : Moment) × IsMomentAt octets offset m) IsMomentTag (leaf_of octets offset)
+          (IsMissing-fault octets offset ((m : Moment) × IsMomentAt octets offset m) IsMomentTag
+          (IsLeafAt-moment octets offset)
           c.no_moment-in-Err-time_of.result.status n v (inl same) u f (of_utc_time same fault) told)
           none.fields
       | inr (inr (tag, fault)) ↦
-          let same : n ≡ 24 = small_tag n c.in-Ok.found.0 24 number tag (omega arith) in
+          let same : n ≡ 24 = HasTag-small n c.in-Ok.found.0 24 number tag (omega arith) in
           moment_is_missing
-          (fault_there octets offset ((m : Moment) × IsMomentAt octets offset m) IsMomentTag (leaf_of octets offset)
+          (IsMissing-fault octets offset ((m : Moment) × IsMomentAt octets offset m) IsMomentTag
+          (IsLeafAt-moment octets offset)
           c.no_moment-in-Err-time_of.result.status n v (inr same) u f (of_generalized_time same fault) told)
           none.fields
     ]

@@ -4,33 +4,33 @@ use Rattle.std.specs.Int.{w64}
 use Rattle.std.proofs.lemmas.Bool.{cases_lt}
 use Rattle.std.proofs.lemmas.Int.{to_z_pos}
 use Rattle.asn1_numbers.proofs.SignedNumbers.{magnitude_of}
-use Rattle.simple_asn1_c.proofs.PathSteps.{magnitude_by, natural_fits, none_fits}
+use Rattle.simple_asn1_c.proofs.PathSteps.{number_from_digits-magnitude, fitting-natural, fitting-none}
 use Rattle.simple_asn1_c.proofs.number.int64_of.Goals as goal
 
 pub returns-in_default : goal.returns-in_default
 returns-in_default c =
     let octets = c.args.contents.now in
-    let same = magnitude_by octets c.is_negative-negative.result c.is_negative-negative.ensures in
+    let same = number_from_digits-magnitude octets c.is_negative-negative.result c.is_negative-negative.ensures in
     elim (cases_lt (magnitude_of octets) (2 ^ 64)) [
       | inl below ↦ absurd (c.in_default.ensures (subst (λ z. z < 2 ^ 64) (sym same) below))
-      | inr large ↦ none_fits octets (omega (arith, large))
+      | inr large ↦ fitting-none octets (omega (arith, large))
     ]
 
 pub returns-then-n : goal.returns-then-n
 returns-then-n c =
     let octets = c.args.contents.now in
-    let same = magnitude_by octets c.is_negative-negative.result c.is_negative-negative.ensures in
+    let same = number_from_digits-magnitude octets c.is_negative-negative.result c.is_negative-negative.ensures in
     let given = c.in-Some.ensures in
-    none_fits octets (omega (arith, given.1, same, c.if-n.true))
+    fitting-none octets (omega (arith, given.1, same, c.if-n.true))
 
 pub returns-else-negative : goal.returns-else-negative
 returns-else-negative c =
     let octets = c.args.contents.now in
-    let same = magnitude_by octets c.is_negative-negative.result c.is_negative-negative.ensures in
+    let same = number_from_digits-magnitude octets c.is_negative-negative.result c.is_negative-negative.ensures in
     let given = c.in-Some.ensures in
     elim (cases_lt (get_or octets 0 0) 128) [
       | inl below ↦
           ap Some (to_z_pos w64 c.in-Some.n c.if-n.false) ∙ ap (λ z. Some (pos z)) (given.1 ∙ same)
-          ∙ natural_fits octets below (omega (arith, given.1, same, c.if-n.false))
+          ∙ fitting-natural octets below (omega (arith, given.1, same, c.if-n.false))
       | inr above ↦ let no : false ≡ true = c.if-negative.ensures.1 above in cc
     ]

@@ -4,7 +4,7 @@ use Rattle.std.proofs.lemmas.Grind.{common_steps}
 use Rattle.simple_asn1_c.specs.Paths.{value_of}
 use Rattle.simple_asn1_c.specs.declared.record.Path.{Path}
 use Rattle.simple_asn1_c.specs.declared.record.Value.{Value}
-use Rattle.simple_asn1_c.proofs.PathSteps.{no_path, value_put}
+use Rattle.simple_asn1_c.proofs.PathSteps.{no_path, set-next_value}
 use Rattle.simple_asn1_c.proofs.paths.put_values.Goals as goal
 
 pub loop-k-preserved : goal.loop-k-preserved
@@ -18,5 +18,5 @@ loop-k-preserved c =
     let fits : length paths ≤ length room = grind (arith, common_steps) in
     ap (λ z. slice_set z k c.value_of.result) c.loop-k.invariant
     ∙ ap (λ z. slice_set (map value (take k paths) ++ drop k room) k z) c.value_of.ensures
-    ∙ value_put value paths room k no_path more fits
+    ∙ set-next_value value paths room k no_path more fits
     ∙ ap (λ n. map value (take n paths) ++ drop n room) next

@@ -2,8 +2,9 @@
 use Rattle.std.proofs.Common.{◌≡◌, suc, ◌+◌, ◌<◌, ◌≤◌, ◌++◌, drop, length, map, slice_set, take, ap, ◌∙◌, arith}
 use Rattle.std.proofs.lemmas.Grind.{common_steps}
 use Rattle.simple_asn1_c.specs.Records.{block_of}
-use Rattle.simple_asn1_c.proofs.Entries.{put_next}
 use Rattle.simple_asn1_c.proofs.putting.put_records.Goals as goal
+use Rattle.simple_asn1_c.proofs.PathSteps.{set-next_value}
+use Rattle.asn1_outline.specs.Entries.{no_entry}
 
 pub loop-k-preserved : goal.loop-k-preserved
 loop-k-preserved c =
@@ -15,5 +16,5 @@ loop-k-preserved c =
     let fits : length es ≤ length room = grind (arith, common_steps) in
     ap (λ z. slice_set z k c.block_of.result) c.loop-k.invariant
     ∙ ap (λ z. slice_set (map block_of (take k es) ++ drop k room) k z) c.block_of.ensures
-    ∙ put_next es room k more fits
+    ∙ set-next_value block_of es room k no_entry more fits
     ∙ ap (λ n. map block_of (take n es) ++ drop n room) next

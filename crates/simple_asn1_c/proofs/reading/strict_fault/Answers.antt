@@ -3,7 +3,7 @@ use Rattle.std.proofs.Common.{refl, inl, inr, subst}
 use Rattle.simple_asn1.specs.Fault.{OutOfMemoryOr}
 use Rattle.simple_asn1.specs.Strict.{StrictFault}
 use Rattle.asn1_headers.specs.declared.error.ASN1DecodeErr.TheVariants.{NotCanonical}
-use Rattle.simple_asn1_c.proofs.Refusals.{not_canonical_at}
+use Rattle.simple_asn1_c.proofs.Refusals.{IsNotCanonicalAt-strict_fault}
 use Rattle.simple_asn1_c.proofs.reading.strict_fault.Goals as goal
 
 pub returns-in-NotCanonical : goal.returns-in-NotCanonical
@@ -14,6 +14,6 @@ returns-in-NotCanonical c =
       | inl e ↦ absurd (cc)
       | inr f ↦ inr (inr (
         refl,
-        not_canonical_at c.law_one_reading.ensures c.args.octets.now c.in-NotCanonical.offset f,
+        IsNotCanonicalAt-strict_fault c.law_one_reading.ensures c.args.octets.now c.in-NotCanonical.offset f,
       ))
     ]

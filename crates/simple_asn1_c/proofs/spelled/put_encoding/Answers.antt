@@ -3,13 +3,13 @@ use Rattle.std.proofs.Common.{◌≡◌, refl, sym, subst, ◌∙◌}
 use Rattle.asn1_numbers.specs.Decimal.{natural_numeral}
 use Rattle.simple_asn1_c.specs.Raw.{is_no_numeral, was_encoded}
 use Rattle.simple_asn1_c.specs.Room.{ArePut}
-use Rattle.simple_asn1_c.proofs.Puts.{numeral_utf8}
+use Rattle.simple_asn1_c.proofs.TextOctets.{IsUtf8-numeral}
 use Rattle.simple_asn1_c.proofs.spelled.put_encoding.Goals as goal
 
 pub returns-in_default-from_utf8 : goal.returns-in_default-from_utf8
 returns-in_default-from_utf8 c =
     let put = c.nothing_put-in_default-from_utf8.ensures in
-    is_no_numeral (λ tag e. c.in_default-from_utf8.ensures.cases.0 (numeral_utf8 c.args.numeral.now tag e))
+    is_no_numeral (λ tag e. c.in_default-from_utf8.ensures.cases.0 (IsUtf8-numeral c.args.numeral.now tag e))
     (put.status, put.offset, put.count, refl)
 
 pub returns-in-Ok-encoding_of : goal.returns-in-Ok-encoding_of

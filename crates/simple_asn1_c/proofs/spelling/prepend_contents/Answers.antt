@@ -5,7 +5,7 @@ use Rattle.simple_asn1.specs.Canonical.{shortest_encoding}
 use Rattle.simple_asn1_c.specs.Inner.InRecords.{IsCanonicalBlock}
 use Rattle.simple_asn1.specs.Header.{shortest_identifier, shortest_length}
 use Rattle.simple_asn1_c.specs.Spelled.{contents_of}
-use Rattle.simple_asn1_c.proofs.Spellings.{contents_more}
+use Rattle.simple_asn1_c.proofs.Spellings.{IsState-contents}
 use Rattle.simple_asn1_c.proofs.spelling.prepend_contents.Goals as goal
 
 pub returns-clause-put : goal.returns-clause-put
@@ -19,7 +19,7 @@ returns-clause-put c rs state =
     let headed = c.in_ok-prepend_header.ensures
     ∙ ap (λ z. front ++ (shortest_length (length z) ++ c.prepend.new.self.octets)) is in
     let started = c.in_ok-push_start.ensures ∙ ap (λ z. c.args.starts.now.items ++ z ∷ []) c.len.ensures in
-    contents_more c.args.octets.now r c.args.class c.requires.class rs old c.args.starts.now.items
+    IsState-contents c.args.octets.now r c.args.class c.requires.class rs old c.args.starts.now.items
     c.prepend_header.new.out.octets c.push_start.new.starts.items c.args.canonical.now c.are_canonical_with.result state
     c.requires.tag c.requires.items within
     c.prepend.new.self.octets put headed started c.are_canonical_with.ensures.so_far

@@ -2,7 +2,7 @@
 use Rattle.std.proofs.Common.{◌≡◌, ◌+◌, ◌-◌, ◌<◌, [], drop, inl, inr, length, refl, sym, ap, subst, arith}
 use Rattle.std.specs.List.{concat}
 use Rattle.simple_asn1.specs.ReadBack.{IsCanonicalDocument}
-use Rattle.simple_asn1_c.proofs.CanonicalRecords.{blocks_document}
+use Rattle.simple_asn1_c.proofs.CanonicalRecords.{IsDocument-concat}
 use Rattle.std.proofs.Math.Seq.{drop-length}
 use Rattle.simple_asn1_c.specs.Spelled.{IsBadAt, IsState, Spells, spells_none}
 use Rattle.simple_asn1_c.proofs.spelling.spell.Goals as goal
@@ -48,5 +48,5 @@ returns-clause-canonical c said =
     let xs = state.xs in
     let some : 0 < length (concat xs) =
     omega (arith, c.are_canonical_some-canonical.ensures.some said, c.len.ensures, ap length state.joined) in
-    let (bs, d, w) = blocks_document xs some (state.found (c.are_canonical_some-canonical.ensures.so_far said)) in
+    let (bs, d, w) = IsDocument-concat xs some (state.found (c.are_canonical_some-canonical.ensures.so_far said)) in
     subst IsCanonicalDocument (sym state.joined) (bs, (d, w))

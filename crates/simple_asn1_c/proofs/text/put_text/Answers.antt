@@ -4,7 +4,7 @@ use Rattle.std.specs.Str.{chars}
 use Rattle.asn1_leaves.specs.Contents.Text.{text_contents, text_form}
 use Rattle.simple_asn1_c.specs.Puts.{AreAllowed, has_characters, others_status}
 use Rattle.simple_asn1_c.specs.Room.{ArePut}
-use Rattle.simple_asn1_c.proofs.Puts.{allowed_octets}
+use Rattle.simple_asn1_c.proofs.TextOctets.{text_contents-allowed}
 use Rattle.simple_asn1_c.proofs.text.put_text.Goals as goal
 
 pub returns-in-None : goal.returns-in-None
@@ -16,7 +16,7 @@ returns-in-None c =
     subst (λ z. AreAllowed c.in-Some.form (chars z)) same c.in-None.ensures in
     let allowed : AreAllowed (text_form kind) (chars text) = subst (λ z. AreAllowed z (chars text)) form here in
     let octets : c.as_bytes.result.now ≡ text_contents (text_form kind) (chars text) =
-    c.as_bytes.ensures.value ∙ same ∙ sym (allowed_octets (text_form kind) text utf8 allowed) in
+    c.as_bytes.ensures.value ∙ same ∙ sym (text_contents-allowed (text_form kind) text utf8 allowed) in
     has_characters kind tag utf8
     (inl (
       allowed,

@@ -3,7 +3,7 @@ use Rattle.std.proofs.Common.{sym, ap, subst, arith}
 use Rattle.std.specs.Str.{chars}
 use Rattle.std.proofs.lemmas.Str.{scalars-chars}
 use Rattle.simple_asn1_c.specs.Puts.{AreAllowed, others_status}
-use Rattle.simple_asn1_c.proofs.Puts.{ascii_characters, ascii_text}
+use Rattle.simple_asn1_c.proofs.TextOctets.{list_all-is_ascii_chars, IsAscii-chars}
 use Rattle.simple_asn1_c.proofs.text.status_of_others.Goals as goal
 
 pub returns-in-Utf8 : goal.returns-in-Utf8
@@ -14,7 +14,8 @@ returns-in-Utf8 c =
 pub returns-then-is_ascii : goal.returns-then-is_ascii
 returns-then-is_ascii c =
     let text = c.args.text.now in
-    subst (λ z. AreAllowed z (chars text)) (sym c.in-Octets.is) (ascii_characters text c.if-is_ascii.ensures.cases)
+    subst (λ z. AreAllowed z (chars text)) (sym c.in-Octets.is)
+    (list_all-is_ascii_chars text c.if-is_ascii.ensures.cases)
 
 pub returns-else-is_ascii : goal.returns-else-is_ascii
 returns-else-is_ascii c =
@@ -22,6 +23,6 @@ returns-else-is_ascii c =
     let (i, high) = c.if-is_ascii.ensures.cases in (
       sym (ap others_status c.in-Octets.is),
       λ allowed.
-          let a = ascii_text text c.utf8.text (subst (λ z. AreAllowed z (chars text)) c.in-Octets.is allowed) in
+          let a = IsAscii-chars text c.utf8.text (subst (λ z. AreAllowed z (chars text)) c.in-Octets.is allowed) in
           omega (arith, a i, high),
     )

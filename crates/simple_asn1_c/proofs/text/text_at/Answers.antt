@@ -10,15 +10,17 @@ use Rattle.simple_asn1.specs.Tree.{Leaf, text}
 use Rattle.simple_asn1_c.specs.Room.{ArePut}
 use Rattle.simple_asn1_c.specs.Status.{status_of}
 use Rattle.simple_asn1_c.specs.Values.{IsLeafAt, IsTextAt, IsTextTag, UniversalAt, text_is_missing, text_was_found}
-use Rattle.simple_asn1_c.proofs.LeavesThere.{another_there, fault_there, leaf_here, nothing_there, small_tag}
+use Rattle.simple_asn1_c.proofs.OffsetLeaves.{IsMissing-other_tag, IsMissing-fault, IsLeafAt-universal, IsMissing-nothing}
 use Rattle.simple_asn1_c.proofs.text.text_at.Goals as goal
+use Rattle.asn1_outline.proofs.Values.{HasTag-small}
 
-leaf_of : (octets : List ℕ) (offset : ℕ) → (utf8 : List ℕ) × IsTextAt octets offset utf8 →
+-- a text at an offset is a leaf there
+IsLeafAt-text : (octets : List ℕ) (offset : ℕ) → (utf8 : List ℕ) × IsTextAt octets offset utf8 →
     (l : Leaf) × IsTextTag (leaf_tag l) × IsLeafAt octets offset l
-leaf_of octets offset (s, (kind, is)) = (text kind (chars s), (kind, refl), is)
+IsLeafAt-text octets offset (s, (kind, is)) = (text kind (chars s), (kind, refl), is)
 
-small : (tag : ℕ) → IsTextTag tag → tag < 2 ^ 64
-small tag (kind, e) = omega (arith, e, string_tag-lt kind)
+IsTextTag-lt : (tag : ℕ) → IsTextTag tag → tag < 2 ^ 64
+IsTextTag-lt tag (kind, e) = omega (arith, e, string_tag-lt kind)
 
 pub returns-in-Err : goal.returns-in-Err
 returns-in-Err c =
@@ -26,7 +28,7 @@ returns-in-Err c =
     let offset = c.args.offset in
     let put = c.nothing_put.ensures in
     text_is_missing
-    (nothing_there octets offset ((s : List ℕ) × IsTextAt octets offset s) IsTextTag (leaf_of octets offset)
+    (IsMissing-nothing octets offset ((s : List ℕ) × IsTextAt octets offset s) IsTextTag (IsLeafAt-text octets offset)
     c.in-Err.status c.nothing_put.result.status
     c.in-Err.ensures.missing put.status)
     put.offset put.count refl
@@ -38,9 +40,9 @@ returns-in_default c =
     let put = c.nothing_put-in_default.ensures in
     let (n, u, number) = c.in-Ok.ensures.found in
     text_is_missing
-    (another_there octets offset ((s : List ℕ) × IsTextAt octets offset s) IsTextTag (leaf_of octets offset)
+    (IsMissing-other_tag octets offset ((s : List ℕ) × IsTextAt octets offset s) IsTextTag (IsLeafAt-text octets offset)
     c.nothing_put-in_default.result.status n
-    c.in-Ok.found.0 c.in-Ok.found.1.now u number small (λ (kind, e). c.in_default.ensures kind e) put.status)
+    c.in-Ok.found.0 c.in-Ok.found.1.now u number IsTextTag-lt (λ (kind, e). c.in_default.ensures kind e) put.status)
     put.offset put.count refl
 
 pub returns-then-are_own_text : goal.returns-then-are_own_text
@@ -50,10 +52,11 @@ returns-then-are_own_text c =
     let v = c.in-Ok.found.1.now in
     let (n, u, number) = c.in-Ok.ensures.found in
     let (kind, tag, form) = c.in-Some.ensures in
-    let same : n ≡ string_tag kind = small_tag n c.in-Ok.found.0 (string_tag kind) number tag (string_tag-lt kind) in
+    let same : n ≡ string_tag kind = HasTag-small n c.in-Ok.found.0 (string_tag kind) number tag (string_tag-lt kind) in
     let means = subst (λ z. TextContents z (chars v) v) form (c.if-are_own_text.ensures.meant refl) in
     let is =
-    leaf_here octets offset (text kind (chars v)) v (subst (λ z. UniversalAt octets offset z v) same u) means in
+    IsLeafAt-universal octets offset (text kind (chars v)) v
+    (subst (λ z. UniversalAt octets offset z v) same u) means in
     text_was_found v (c.if-are_own_text.ensures.utf8 refl) (kind, is) c.put_octets.ensures
 
 pub returns-in-Ok-read : goal.returns-in-Ok-read
@@ -64,10 +67,11 @@ returns-in-Ok-read c =
     let s = string_bytes c.in-Ok-read.text in
     let (n, u, number) = c.in-Ok.ensures.found in
     let (kind, tag, form) = c.in-Some.ensures in
-    let same : n ≡ string_tag kind = small_tag n c.in-Ok.found.0 (string_tag kind) number tag (string_tag-lt kind) in
+    let same : n ≡ string_tag kind = HasTag-small n c.in-Ok.found.0 (string_tag kind) number tag (string_tag-lt kind) in
     let means = subst (λ z. TextContents z (chars s) v) form c.in-Ok-read.ensures.found in
     let is =
-    leaf_here octets offset (text kind (chars s)) v (subst (λ z. UniversalAt octets offset z v) same u) means in
+    IsLeafAt-universal octets offset (text kind (chars s)) v
+    (subst (λ z. UniversalAt octets offset z v) same u) means in
     let bytes : c.as_bytes.result.now ≡ s = c.as_bytes.ensures.value ∙ c.as_str.ensures.value in
     text_was_found s (subst IsUtf8 bytes c.as_bytes.ensures.utf8) (kind, is)
     (subst (λ z. ArePut z c.args.room.now c.put_octets-in-Ok-read.new.room c.put_octets-in-Ok-read.result) bytes
@@ -82,14 +86,15 @@ returns-in-Err-read c =
     let put = c.nothing_put-in-Err-read.ensures in
     let (n, u, number) = c.in-Ok.ensures.found in
     let (kind, tag, form) = c.in-Some.ensures in
-    let same : n ≡ string_tag kind = small_tag n c.in-Ok.found.0 (string_tag kind) number tag (string_tag-lt kind) in
+    let same : n ≡ string_tag kind = HasTag-small n c.in-Ok.found.0 (string_tag kind) number tag (string_tag-lt kind) in
     let told = put.status ∙ c.status_of_fault.ensures in
     elim c.in-Err-read.ensures.refused [
       | inl memory ↦ text_is_missing (inl (told ∙ ap (λ z. status_of (fault_of z)) memory)) put.offset put.count refl
       | inr fault ↦
           let own : TextFault (text_form kind) v f = subst (λ z. TextFault z v f) form fault in
           text_is_missing
-          (fault_there octets offset ((s : List ℕ) × IsTextAt octets offset s) IsTextTag (leaf_of octets offset)
+          (IsMissing-fault octets offset ((s : List ℕ) × IsTextAt octets offset s) IsTextTag
+          (IsLeafAt-text octets offset)
           c.nothing_put-in-Err-read.result.status n
           v (kind, same) u f (of_text kind same own) told)
           put.offset put.count refl

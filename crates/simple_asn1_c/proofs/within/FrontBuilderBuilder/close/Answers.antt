@@ -3,7 +3,7 @@ use Rattle.std.proofs.Common.{subst, sym}
 use Rattle.std.proofs.lemmas.Result.{on_ok_weaker}
 use Rattle.asn1_blocks.specs.Inner.ReaderSteps.{HasEndedIn, in_frame}
 use Rattle.simple_asn1_c.specs.Inner.Fronts.{holds_front}
-use Rattle.simple_asn1_c.proofs.Fronts.{front_ended}
+use Rattle.simple_asn1_c.proofs.Fronts.{HasEndedIn-front}
 use Rattle.simple_asn1_c.proofs.within.FrontBuilderBuilder.close.Goals as goal
 
 pub returns : goal.returns
@@ -15,4 +15,4 @@ returns c =
     let i = c.args.parent.now in
     on_ok_weaker c.add.result
     (λ u. subst (λ z. HasEndedIn holds_front x f c.args._depth a i b z) (sym u)
-    (front_ended x a b f i c.args._depth c.seal.ensures)) c.add.ensures
+    (HasEndedIn-front x a b f i c.args._depth c.seal.ensures)) c.add.ensures

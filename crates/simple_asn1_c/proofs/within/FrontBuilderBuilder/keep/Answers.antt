@@ -3,7 +3,7 @@ use Rattle.std.proofs.Common.{subst, sym}
 use Rattle.std.proofs.lemmas.Result.{on_ok_weaker}
 use Rattle.asn1_blocks.specs.Inner.ReaderSteps.{HasKept, in_frame}
 use Rattle.simple_asn1_c.specs.Inner.Fronts.{holds_front}
-use Rattle.simple_asn1_c.proofs.Fronts.{front_kept}
+use Rattle.simple_asn1_c.proofs.Fronts.{HasKept-front}
 use Rattle.simple_asn1_c.proofs.within.FrontBuilderBuilder.keep.Goals as goal
 
 pub returns : goal.returns
@@ -15,4 +15,4 @@ returns c =
     let i = c.args.parent.now in
     on_ok_weaker c.add.result
     (λ u. subst (λ z. HasKept holds_front x f c.args._depth a i b z) (sym u)
-    (front_kept x a b f i c.args._depth c.cut.ensures)) c.add.ensures
+    (HasKept-front x a b f i c.args._depth c.cut.ensures)) c.add.ensures

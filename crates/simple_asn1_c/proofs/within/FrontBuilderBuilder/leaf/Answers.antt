@@ -4,7 +4,7 @@ use Rattle.std.proofs.lemmas.Result.{err_from_is_err_and}
 use Rattle.std.specs.List.{slice_range}
 use Rattle.asn1_blocks.specs.Inner.ReaderSteps.{HasLeaf}
 use Rattle.simple_asn1_c.specs.Inner.Fronts.{holds_front}
-use Rattle.simple_asn1_c.proofs.Fronts.{front_leaf}
+use Rattle.simple_asn1_c.proofs.Fronts.{HasLeaf-front}
 use Rattle.simple_asn1_c.proofs.within.FrontBuilderBuilder.leaf.Goals as goal
 
 pub returns-clause-built : goal.returns-clause-built
@@ -17,7 +17,7 @@ returns-clause-built c =
     let i = c.args.items.now in
     let (limit, found, within) = c.requires.found in
     let single = c.in_ok-check_contents.ensures.encoded o (slice_range x o h.end) (h.start - o) found.encoding in
-    let built = front_leaf x h o limit c.args.depth a b i c.started-block.result c.count-entry.result found
+    let built = HasLeaf-front x h o limit c.args.depth a b i c.started-block.result c.count-entry.result found
     c.requires.leaf single c.started-block.ensures
     c.count-entry.ensures.count c.in_ok-add.ensures in
     subst (λ z. HasLeaf holds_front x o h.end c.args.depth a i b z) (sym c.in_ok-add-2.ensures) built

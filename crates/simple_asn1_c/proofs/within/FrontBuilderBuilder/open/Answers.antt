@@ -1,11 +1,11 @@
 -- For `within::FrontBuilderBuilder::open`: what it returns is right.
 use Rattle.std.proofs.Common.{refl}
-use Rattle.simple_asn1_c.proofs.Fronts.{front_opened}
+use Rattle.simple_asn1_c.proofs.Fronts.{HasOpened-front}
 use Rattle.simple_asn1_c.proofs.within.FrontBuilderBuilder.open.Goals as goal
 
 pub returns : goal.returns
 returns c =
-    front_opened c.args.octets.now c.args.header.now c.args.offset c.args.depth c.args.self.now c.add.new.self
+    HasOpened-front c.args.octets.now c.args.header.now c.args.offset c.args.depth c.args.self.now c.add.new.self
     (record { entry = c.count-entry.result; count = 0 }) c.started-block.result c.started-block.ensures
     c.count-entry.ensures.count refl
     c.in_ok-add.ensures

@@ -1,6 +1,5 @@
 -- The leaf that an encoding at an offset is, by its tag and its contents octets, and why there is none of a kind.
-use Rattle.std.proofs.Common.{◌≡◌, ◌⊎◌, ℕ, ◌<◌, ◌^◌, List, [], inl, inr, refl, sym, subst, ◌∙◌, arith, append-nil}
-use Rattle.std.proofs.lemmas.Bool.{cases_lt}
+use Rattle.std.proofs.Common.{◌≡◌, ◌⊎◌, ℕ, ◌<◌, ◌^◌, List, [], inl, inr, refl, sym, subst, ◌∙◌, append-nil}
 use Rattle.asn1_headers.proofs.Prefixes.{encoding_alone}
 use Rattle.asn1_headers.specs.declared.header.ASN1Class.TheVariants.{Universal}
 use Rattle.asn1_blocks.proofs.Leaves.{LeafContents-no_fault}
@@ -15,29 +14,24 @@ use Rattle.simple_asn1.specs.Tree.{Leaf, leaf}
 use Rattle.simple_asn1_c.specs.Status.{no_memory, no_such_value, status_of}
 use Rattle.simple_asn1_c.specs.Values.{IsLeafAt, IsMissing, UniversalAt, is_at_fault, is_of_another_kind}
 
--- a small number in a record is the tag's
-pub small_tag : (n field m : ℕ) → HasTag n field → field ≡ m → m < 64 → n ≡ m
-small_tag n field m (low, high) e s = elim (cases_lt n (2 ^ 64)) [
-  | inl lt ↦ sym (low lt) ∙ e
-  | inr ge ↦ absurd (omega (arith, high ge, e, s))
-]
-
 module _ (octets : List ℕ) (offset : ℕ) where
-  pub leaf_here : (l : Leaf) (v : List ℕ) → UniversalAt octets offset (leaf_tag l) v → LeafContents l v →
+  -- contents octets of class Universal that mean a leaf are that leaf
+  pub IsLeafAt-universal : (l : Leaf) (v : List ℕ) → UniversalAt octets offset (leaf_tag l) v → LeafContents l v →
       IsLeafAt octets offset l
-  leaf_here l v u means =
+  IsLeafAt-universal l v u means =
       let s : Encodes 0 u.whole (leaf 0 l) = (refl, u.constructed, v, u.header, u.encoding, means) in
       let some = IsBlock-not_empty u.whole (IsBlock-encodes 0 u.whole (leaf 0 l) s) in
       (0, (u.whole, u.at, record { some = some; blocks = EncodesAll-single 0 u.whole (leaf 0 l) s }))
 
   -- the encoding of a leaf that is read alone
-  pub record LeafThere (l : Leaf) : Type 0 where
+  pub record HasLeafAt (l : Leaf) : Type 0 where
     pub contents : List ℕ
     pub universal : UniversalAt octets offset (leaf_tag l) contents
     pub meaning : LeafContents l contents
 
-  pub leaf_there : (l : Leaf) → IsLeafAt octets offset l → LeafThere l
-  leaf_there l (o, (x, at, d)) =
+  -- a leaf at an offset has contents octets there
+  pub HasLeafAt-leaf : (l : Leaf) → IsLeafAt octets offset l → HasLeafAt l
+  HasLeafAt-leaf l (o, (x, at, d)) =
       let s = Encodes-single 0 x (leaf o l) d.blocks in record {
         contents = s.2;
         universal = record { whole = x; at = at; constructed = s.1; header = s.3; encoding = s.4 };
@@ -45,9 +39,9 @@ module _ (octets : List ℕ) (offset : ℕ) where
       }
 
   -- one encoding stands there
-  pub one_universal : (m n : ℕ) (v w : List ℕ) → UniversalAt octets offset m v → UniversalAt octets offset n w →
+  pub UniversalAt-unique : (m n : ℕ) (v w : List ℕ) → UniversalAt octets offset m v → UniversalAt octets offset n w →
       (m ≡ n) × (v ≡ w)
-  one_universal m n v w a b =
+  UniversalAt-unique m n v w a b =
       let same = EncodingAt-unique octets offset a.whole b.whole a.at b.at in
       let here = subst (λ z. Encoding z Universal a.constructed m v a.header) same a.encoding in
       let e = encoding_alone b.whole b.whole Universal Universal a.constructed b.constructed m n v w a.header b.header
@@ -55,48 +49,53 @@ module _ (octets : List ℕ) (offset : ℕ) where
       (e.tag, e.contents)
 
   -- contents octets at fault are the first fault
-  first_fault : (n : ℕ) (v : List ℕ) (u : UniversalAt octets offset n v) (fault : DecodeFault) → LeafFault n v fault →
+  FirstFault-leaf : (n : ℕ) (v : List ℕ) (u : UniversalAt octets offset n v) (fault : DecodeFault) →
+      LeafFault n v fault →
       FirstFault u.whole fault
-  first_fault n v u fault f =
+  FirstFault-leaf n v u fault f =
       let x = u.whole in
       (0, inr (in_contents [] x [] (sym (append-nil x)) no_blocks u.encoding f))
 
   -- a kind, whose values are leaves with one of these tags
   module _ (Value : Type 0) (IsTag : ℕ → Type 0)
       (leaf_of : Value → (l : Leaf) × IsTag (leaf_tag l) × IsLeafAt octets offset l) where
-    none_there : (s : ℕ) → ((n : ℕ) (v : List ℕ) → IsTag n → UniversalAt octets offset n v → ⊥) → s ≡ no_such_value
+    -- where no encoding has a tag of the kind, a value of it is missing
+    IsMissing-none : (s : ℕ) → ((n : ℕ) (v : List ℕ) → IsTag n → UniversalAt octets offset n v → ⊥) → s ≡ no_such_value
         → IsMissing Value IsTag octets offset s
-    none_there s none e = inr (
+    IsMissing-none s none e = inr (
       (λ value.
           let (l, t, is) = leaf_of value in
-          let w = leaf_there l is in
+          let w = HasLeafAt-leaf l is in
           none (leaf_tag l) w.contents t w.universal),
       is_of_another_kind e none,
     )
 
-    pub nothing_there : (status s : ℕ) →
+    -- where no encoding of class Universal stands, a value is missing, or memory ran out
+    pub IsMissing-nothing : (status s : ℕ) →
         (status ≡ no_memory) ⊎ ((status ≡ no_such_value) × ((n : ℕ) (v : List ℕ) → UniversalAt octets offset n v → ⊥))
         → s ≡ status → IsMissing Value IsTag octets offset s
-    nothing_there status s (inl m) e = inl (e ∙ m)
-    nothing_there status s (inr (m, none)) e = none_there s (λ n v t u. none n v u) (e ∙ m)
+    IsMissing-nothing status s (inl m) e = inl (e ∙ m)
+    IsMissing-nothing status s (inr (m, none)) e = IsMissing-none s (λ n v t u. none n v u) (e ∙ m)
 
-    pub another_there : (s n field : ℕ) (v : List ℕ) → UniversalAt octets offset n v → HasTag n field →
+    -- where an encoding with another tag stands, a value of the kind is missing
+    pub IsMissing-other_tag : (s n field : ℕ) (v : List ℕ) → UniversalAt octets offset n v → HasTag n field →
         ((m : ℕ) → IsTag m → m < 2 ^ 64)
         → (IsTag field → ⊥) → s ≡ no_such_value → IsMissing Value IsTag octets offset s
-    another_there s n field v u (exact, capped) small other e =
-        none_there s (λ m w t a.
-        let same = (one_universal m n w v a u).0 in
+    IsMissing-other_tag s n field v u (exact, capped) small other e =
+        IsMissing-none s (λ m w t a.
+        let same = (UniversalAt-unique m n w v a u).0 in
         let number : field ≡ n = exact (subst (λ z. z < 2 ^ 64) same (small m t)) in
         other (subst IsTag (same ∙ sym number) t)) e
 
-    pub fault_there : (s n : ℕ) (v : List ℕ) → IsTag n → UniversalAt octets offset n v → (fault : DecodeFault) →
+    -- where the contents octets are at fault, a value of the kind is missing for it
+    pub IsMissing-fault : (s n : ℕ) (v : List ℕ) → IsTag n → UniversalAt octets offset n v → (fault : DecodeFault) →
         LeafFault n v fault
         → s ≡ status_of fault → IsMissing Value IsTag octets offset s
-    fault_there s n v t u fault f e = inr (
+    IsMissing-fault s n v t u fault f e = inr (
       (λ value.
           let (l, tl, is) = leaf_of value in
-          let w = leaf_there l is in
-          let (tag, contents) = one_universal (leaf_tag l) n w.contents v w.universal u in
+          let w = HasLeafAt-leaf l is in
+          let (tag, contents) = UniversalAt-unique (leaf_tag l) n w.contents v w.universal u in
           LeafContents-no_fault n v fault l (sym tag) (subst (LeafContents l) contents w.meaning) f),
-      is_at_fault n t v u fault (first_fault n v u fault f) e,
+      is_at_fault n t v u fault (FirstFault-leaf n v u fault f) e,
     )
