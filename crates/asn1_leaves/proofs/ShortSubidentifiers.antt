@@ -1,5 +1,5 @@
 -- Subidentifiers none of which begins with 80 (hexadecimal) have their shortest forms.
-use Rattle.std.proofs.Common.{◌≡◌, ◌≢◌, ℕ, ◌<◌, Bool, true, List, [], ◌∷◌, ◌++◌, length, refl, sym, ap, ◌∙◌, subst, arith, nat_lt, IsTrue, ◌+◌, ◌*◌, ◌≤◌, ◌⊎◌, inl, inr}
+use Rattle.std.proofs.Common.{◌≡◌, ◌≢◌, ℕ, suc, ◌-◌, ◌<◌, Bool, true, List, [], ◌∷◌, ◌++◌, get_or, length, refl, sym, ap, ◌∙◌, subst, arith, nat_lt, IsTrue, ◌+◌, ◌*◌, ◌≤◌, ◌⊎◌, inl, inr}
 use Rattle.std.specs.List.{flat_map}
 use Rattle.std.proofs.lemmas.Bool.{cases_lt}
 use Rattle.std.proofs.lemmas.List.{drop_at, take_at}
@@ -102,3 +102,21 @@ NoneLeads-components b octets h =
     let f = AreFirstTwo-some b in
     let s = NoneLeads-subidentifiers octets true h in
     (f.0 ∷ f.1 ∷ s.0, (b, octets, refl, f.2, s.1))
+
+-- octets none of which is 80, of which the last ends a subidentifier
+pub NoneLeads-without_80 :
+    (begins : Bool) (octets : List ℕ) → ((k : ℕ) → k < length octets → get_or octets k 0 ≢ 128) →
+    (length octets ≡ 0 → IsTrue begins) → (0 < length octets → get_or octets (length octets - 1) 0 < 128) →
+    NoneLeads begins octets
+NoneLeads-without_80 begins [] none ends last = ends refl
+NoneLeads-without_80 begins (b ∷ []) none ends last =
+    let ended : IsTrue (nat_lt b 128) = grind (arith, last (omega arith)) in
+    (λ _. none 0 (omega arith), ended)
+NoneLeads-without_80 begins (b ∷ c ∷ octets) none ends last =
+    let next : length (b ∷ c ∷ octets) - 1 ≡ suc (length (c ∷ octets) - 1) = omega arith in
+    let ended : get_or (c ∷ octets) (length (c ∷ octets) - 1) 0 < 128 =
+    subst (λ z. get_or (b ∷ c ∷ octets) z 0 < 128) next (last (omega arith)) in (
+      λ _. none 0 (omega arith),
+      NoneLeads-without_80 (nat_lt b 128) (c ∷ octets) (λ k h. none (suc k) (omega (arith, h)))
+          (λ e. absurd (omega (arith, e))) (λ _. ended),
+    )

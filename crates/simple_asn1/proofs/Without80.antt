@@ -1,22 +1,84 @@
--- Octets none of which is 80 (hexadecimal) are shortest subidentifiers, if the last ends one.
-use Rattle.std.proofs.Common.{◌≡◌, ◌≢◌, ℕ, suc, ◌-◌, ◌<◌, Bool, IsTrue, List, [], ◌∷◌, get_or, length, nat_lt, refl, subst, arith}
-use Rattle.asn1_leaves.proofs.ShortSubidentifiers.{NoneLeads}
+-- Contents octets of an OBJECT IDENTIFIER none of which is 80 (hexadecimal) are canonical.
+use Rattle.std.proofs.Common.{◌≡◌, ◌≢◌, ℕ, suc, ◌+◌, ◌-◌, ◌<◌, ◌≤◌, ◌%◌, ◌^◌, true, false, List, [], ◌∷◌, ◌∙◌, ap, eqb, get_or, length, map, not, refl, replicate, sym, arith, inl, inr}
+use Rattle.std.proofs.lemmas.Bool.{both_ways, cases_lt, eqb-true, not-true}
+use Rattle.std.proofs.lemmas.List.{get_or-map, length-map}
+use Rattle.std.proofs.lemmas.List.Sums.{prefix_len_passes}
+use Rattle.std.proofs.lemmas.Simd.{get_or-chunk, leading_from_mask_l, length-chunk, mask_l-mod, zip2_splat}
+use lib.Lanes.{chunk, mask_l, top, zip2}
+use Rattle.asn1_numbers.specs.Octets.{AreOctets}
+use Rattle.asn1_headers.specs.declared.header.ASN1Class.TheVariants.{Universal}
+use Rattle.asn1_leaves.specs.Contents.ObjectIdentifier.{ObjectIdentifierContents, object_identifier_contents}
+use Rattle.asn1_leaves.specs.StringKind.{bmp, ia5, printable, teletex, universal, utf8}
+use Rattle.asn1_leaves.proofs.Leaves.ObjectIdentifier.{ObjectIdentifierContents-unended}
+use Rattle.asn1_leaves.proofs.ShortSubidentifiers.{NoneLeads-object_identifier_contents, NoneLeads-without_80}
+use Rattle.asn1_blocks.specs.Contents.{LeafContents, leaf_contents, leaf_tag}
+use Rattle.asn1_blocks.specs.Tree.{Leaf, bit_string, boolean, generalized_time, integer, null, object_identifier, octet_string, text, utc_time}
+use Rattle.asn1_blocks.proofs.Leaves.{leaf_tag-not_group_tag}
+use Rattle.simple_asn1.specs.Inner.InPlace.{AreCanonicalContents}
 
--- subidentifiers of octets none of which is 80 (hexadecimal) are shortest, if the last ends one
-pub NoneLeads-without_80 :
-    (begins : Bool) (octets : List ℕ) → ((k : ℕ) → k < length octets → get_or octets k 0 ≢ 128) →
-    (length octets ≡ 0 → IsTrue begins) → (0 < length octets → get_or octets (length octets - 1) 0 < 128) →
-    NoneLeads begins octets
-NoneLeads-without_80 begins [] none ends last = ends refl
-NoneLeads-without_80 begins (b ∷ []) none ends last =
-    let ended : IsTrue (nat_lt b 128) = grind (arith, last (omega arith)) in
-    (λ _. none 0 (omega arith), ended)
-NoneLeads-without_80 begins (b ∷ c ∷ octets) none ends last =
-    let next : length (b ∷ c ∷ octets) - 1 ≡ suc (length (c ∷ octets) - 1) = omega arith in
-    let ended : get_or (c ∷ octets) (length (c ∷ octets) - 1) 0 < 128 =
-    subst (λ z. get_or (b ∷ c ∷ octets) z 0 < 128) next (last (omega arith)) in (
-      λ _. none 0 (omega arith),
-      NoneLeads-without_80 (nat_lt b 128) (c ∷ octets) (λ k h. none (suc k) (omega (arith, h)))
-          (λ e. absurd (omega (arith, e)))
-          (λ _. ended),
-    )
+-- none of the first 16 octets is 80, where no lane of a comparison with it is set
+pub none_is_80-lanes :
+    (octets : List ℕ) (hit : ℕ → ℕ → ℕ) → 16 ≤ length octets →
+    eqb (mask_l (map (top 7) (zip2 hit (chunk 0 16 octets) (replicate 16 128))) % 2 ^ 64) 0 ≡ true →
+    top 7 (hit 128 128) ≡ true → (k : ℕ) → k < 16 → get_or octets k 0 ≢ 128
+none_is_80-lanes octets hit room none hits k small found =
+    let here = chunk 0 16 octets in
+    let long : length here ≡ 16 = length-chunk 0 16 octets (omega (arith, room)) in
+    let lanes = map (λ x. hit x 128) here in
+    let size : length lanes ≡ 16 = length-map here (λ x. hit x 128) ∙ long in
+    let mask = ap (λ l. mask_l (map (top 7) l) % 2 ^ 64) (zip2_splat hit here 16 128 long)
+    ∙ mask_l-mod (map (top 7) lanes) 64 (omega (arith, size, length-map lanes (top 7))) in
+    let whole = leading_from_mask_l (top 7) lanes (sym mask ∙ eqb-true _ 0 none) in
+    let clear : top 7 (get_or lanes k 0) ≡ false =
+    not-true _ (prefix_len_passes (λ x. not (top 7 x)) lanes k 0 (omega (arith, small, size, whole))) in
+    let here_is : 0 + k ≡ k = omega arith in
+    let lane = get_or-map (λ x. hit x 128) here k 0 0 (omega (arith, small, long))
+    ∙ ap (λ x. hit x 128) (get_or-chunk 0 16 octets k 0 (omega (arith, small))
+    ∙ ap (λ i. get_or octets i 0) here_is ∙ found) in
+    absurd (both_ways _ clear (ap (top 7) lane ∙ hits))
+
+-- octets that mean components, and none of which is 80, are those that are written of them
+without_80-components :
+    (contents : List ℕ) → AreOctets contents → ((k : ℕ) → k < length contents → get_or contents k 0 ≢ 128) →
+    (ns : List ℕ) → ObjectIdentifierContents ns contents → contents ≡ object_identifier_contents ns
+without_80-components [] all none [] p = absurd p
+without_80-components [] all none (x ∷ []) p = absurd p
+without_80-components [] all none (x ∷ y ∷ ns) p = absurd (omega (arith, ap length p.2))
+without_80-components (b ∷ octets) all none ns p =
+    elim (cases_lt (get_or octets (length octets - 1) 0) 128) [
+      | inl low ↦
+          NoneLeads-object_identifier_contents ns b octets all
+          (NoneLeads-without_80 true octets (λ k h. none (suc k) (omega (arith, h))) (λ _. refl) (λ _. low)) p
+      | inr high ↦ absurd (ObjectIdentifierContents-unended b octets high ns p)
+    ]
+
+-- octets of an OBJECT IDENTIFIER that are those that are written, whatever they mean
+identifier_leaf :
+    (contents : List ℕ) →
+    ((ns : List ℕ) → ObjectIdentifierContents ns contents → contents ≡ object_identifier_contents ns) →
+    (l : Leaf) → 6 ≡ leaf_tag l → LeafContents l contents → contents ≡ leaf_contents l
+identifier_leaf contents written (object_identifier ns) e p = written ns p
+identifier_leaf contents written (boolean b) e p = absurd (omega (arith, e))
+identifier_leaf contents written (integer n) e p = absurd (omega (arith, e))
+identifier_leaf contents written (bit_string n v) e p = absurd (omega (arith, e))
+identifier_leaf contents written (octet_string v) e p = absurd (omega (arith, e))
+identifier_leaf contents written null e p = absurd (omega (arith, e))
+identifier_leaf contents written (text utf8 cs) e p = absurd (omega (arith, e))
+identifier_leaf contents written (text printable cs) e p = absurd (omega (arith, e))
+identifier_leaf contents written (text teletex cs) e p = absurd (omega (arith, e))
+identifier_leaf contents written (text ia5 cs) e p = absurd (omega (arith, e))
+identifier_leaf contents written (text universal cs) e p = absurd (omega (arith, e))
+identifier_leaf contents written (text bmp cs) e p = absurd (omega (arith, e))
+identifier_leaf contents written (utc_time m) e p = absurd (omega (arith, e))
+identifier_leaf contents written (generalized_time m) e p = absurd (omega (arith, e))
+
+-- contents octets of an OBJECT IDENTIFIER none of which is 80 are canonical
+pub canonical_identifier :
+    (contents : List ℕ) → AreOctets contents → ((k : ℕ) → k < length contents → get_or contents k 0 ≢ 128) →
+    AreCanonicalContents Universal false 6 contents
+canonical_identifier contents all none = record {
+  no_group = λ u g e. leaf_tag-not_group_tag (object_identifier []) g e;
+  primitive = λ u l e. refl;
+  leaf = λ u l e p. identifier_leaf contents (without_80-components contents all none) l e p;
+  within = λ other e. absurd (other refl);
+}

@@ -86,9 +86,32 @@ pub fn are_meant(contents: &[u8]) -> bool
 }
 
 // Whether the octets mean components, and no subidentifier begins with 80 (hexadecimal), so that each
-// has its shortest form (X.690 8.19.2).
+// has its shortest form (X.690 8.19.2). Where none is 80, it is seen at once.
 #[inline(always)]
 pub fn are_shortest(contents: &[u8]) -> bool
+    ensures meant { IsTrue result → (components : List ℕ) × ObjectIdentifierContents components contents.now }
+    ensures shortest { IsTrue result → (components : List ℕ)
+        → ObjectIdentifierContents components contents.now
+        → contents.now ≡ object_identifier_contents components }
+{
+    let Some((_, rest)) = contents.split_first() else {
+        return false;
+    };
+    for octet in rest {
+        if *octet == 0x80 {
+            return begin_without_80(contents);
+        }
+    }
+    if rest.is_empty() {
+        return true;
+    }
+    rest[rest.len() - 1] < 0x80
+}
+
+// Whether the octets mean components, and no subidentifier begins with 80.
+#[cold]
+#[inline(never)]
+fn begin_without_80(contents: &[u8]) -> bool
     ensures meant { IsTrue result → (components : List ℕ) × ObjectIdentifierContents components contents.now }
     ensures shortest { IsTrue result → (components : List ℕ)
         → ObjectIdentifierContents components contents.now

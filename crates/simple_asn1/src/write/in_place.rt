@@ -1,9 +1,8 @@
 // A quick look at whether octets that were read are canonical. It goes over the octets, header after header, and not
 // over the blocks: in a SEQUENCE or SET without a look at where it ends, since what was read has each block end where
 // the length before it says.
-ghost use Rattle.std.specs.Prelude.{◌≡◌, ◌<◌, ◌⊎◌, ◌∷◌, List, ℕ, false, IfErr, IfOk, IfSome, IsTrue};
+ghost use Rattle.std.specs.Prelude.{◌≡◌, ◌<◌, ◌≤◌, ◌⊎◌, ◌∷◌, [], List, ℕ, false, length, take, IfErr, IfOk, IfSome, IsTrue};
 ghost use Rattle.asn1_headers.specs.Front.{IsAtFront};
-ghost use Rattle.asn1_leaves.specs.Contents.ObjectIdentifier.{ObjectIdentifierContents, object_identifier_contents};
 ghost use Rattle.simple_asn1.specs.Inner.InPlace.{AreCanonical, AreCanonicalContents, BeginsShortest, IsOfGroup, LeavesBoth};
 ghost use Rattle.asn1_headers.specs.declared.header.ASN1Class.TheVariants.{Universal};
 ghost use Rattle.asn1_headers.specs.declared.error.ASN1DecodeErr.TheVariants.{OutOfMemory};
@@ -15,6 +14,10 @@ use asn1_leaves::contents::{bit_string, boolean, generalized_time, integer, obje
 use asn1_numbers::number::big_uint::BigUint;
 use smallvec::SmallVec;
 use std::alloc::{AllocError, Global};
+use std::simd::prelude::*;
+
+// So many octets are looked at at once. Few object identifiers have more.
+const LANES: usize = 16;
 
 // Whether the header at the front of the octets has its shortest form. 80 is as short as 00.
 #[inline(always)]
@@ -64,42 +67,32 @@ pub(crate) fn are_leaf_contents_canonical(tag: u64, contents: &[u8]) -> bool
         2 => integer::are_canonical(contents),
         3 => bit_string::are_canonical(contents),
         5 => contents.is_empty(),
-        6 => are_shortest_subidentifiers(contents),
+        6 => object_identifier::are_shortest(contents),
         16 | 17 => false,
         24 => generalized_time::are_canonical(contents),
         _ => true,
     }
 }
 
-// Whether contents octets of an OBJECT IDENTIFIER have their shortest form, which is seen at once where none is 80
-// (X.690 8.19.2).
+// Whether so many octets at the front are found to be canonical contents octets of an OBJECT IDENTIFIER: none of the
+// first 16 octets is 80 (X.690 8.19.2), those behind the contents included.
 #[inline(always)]
-fn are_shortest_subidentifiers(contents: &[u8]) -> bool
-    ensures meant { IsTrue result → (components : List ℕ) × ObjectIdentifierContents components contents.now }
-    ensures shortest { IsTrue result → (components : List ℕ)
-        → ObjectIdentifierContents components contents.now
-        → contents.now ≡ object_identifier_contents components }
+pub(crate) fn begin_with_identifier(octets: &[u8], size: usize) -> bool
+    ensures short { IsTrue result → size ≤ 16 }
+    ensures within { IsTrue result → size ≤ length octets.now }
+    ensures canonical { IsTrue result
+        → AreCanonicalContents Universal false 6 (take size octets.now) }
 {
-    let Some((_, rest)) = contents.split_first() else {
+    if size > LANES || octets.len() < LANES {
         return false;
-    };
-    for octet in rest {
-        if *octet == 0x80 {
-            return object_identifier::are_shortest(contents);
-        }
     }
-    if rest.is_empty() {
-        return true;
-    }
-    if rest[rest.len() - 1] < 0x80 {
-        return true;
-    }
-    object_identifier::are_shortest(contents)
+    let are_80 = u8x16::from_slice(octets).simd_eq(u8x16::splat(0x80));
+    are_80.to_bitmask() == 0
 }
 
 // Where octets begin with a header in its shortest form: octets, maybe none, that stand inside, and those that come
 // after. Those before are canonical if both are. Most headers are of class Universal, in two octets: these have code of
-// their own. A long tag number may take memory.
+// their own, and identifiers come first. A long tag number may take memory.
 #[inline(always)]
 fn past_header<'a>(
     alloc: Global,
@@ -107,12 +100,58 @@ fn past_header<'a>(
 ) -> Result<Option<(&'a [u8], &'a [u8])>, AllocError>
     ensures { IfOk result (λ found. IfSome found (λ x. LeavesBoth octets.now x.0.now x.1.now)) }
 {
+    if let Some(after) = past_identifier(octets) {
+        return Ok(Some((&[], after)));
+    }
     match octets {
-        [0x30, length, ..] if *length < 128 => Ok(past_short_group(octets, 0x30, *length)),
-        [0x31, length, ..] if *length < 128 => Ok(past_short_group(octets, 0x31, *length)),
-        [leading, length, ..] if *leading < 31 && *length < 128 => {
-            Ok(past_short_leaf(octets, *leading, *length))
-        }
+        [leading, length, ..] if *length < 128 => past_short(alloc, octets, *leading, *length),
+        _ => past_any(alloc, octets),
+    }
+}
+
+// The octets after an OBJECT IDENTIFIER in front that is short and found to be canonical.
+#[inline(always)]
+fn past_identifier<'a>(octets: &'a [u8]) -> Option<&'a [u8]>
+    ensures { IfSome result (λ after. LeavesBoth octets.now [] after.now) }
+{
+    let [0x06, length, rest @ ..] = octets else {
+        return None;
+    };
+    let size = *length as usize;
+    if !begin_with_identifier(rest, size) {
+        return None;
+    }
+    let (_, after) = rest.split_at(size);
+    Some(after)
+}
+
+// The octets that are left to be compared where a leading octet and a length octet below 80 stand in front. Each
+// frequent tag has code of its own.
+#[inline(always)]
+fn past_short<'a>(
+    alloc: Global,
+    octets: &'a [u8],
+    leading: u8,
+    length: u8,
+) -> Result<Option<(&'a [u8], &'a [u8])>, AllocError>
+    requires front { (rest : List ℕ) × (octets.now ≡ leading ∷ length ∷ rest) }
+    requires short { length < 128 }
+    ensures { IfOk result (λ found. IfSome found (λ x. LeavesBoth octets.now x.0.now x.1.now)) }
+{
+    match leading {
+        1 => Ok(past_short_leaf(octets, 1, length)),
+        2 => Ok(past_short_leaf(octets, 2, length)),
+        3 => Ok(past_short_leaf(octets, 3, length)),
+        4 => Ok(past_short_leaf(octets, 4, length)),
+        5 => Ok(past_short_leaf(octets, 5, length)),
+        12 => Ok(past_short_leaf(octets, 12, length)),
+        19 => Ok(past_short_leaf(octets, 19, length)),
+        22 => Ok(past_short_leaf(octets, 22, length)),
+        23 => Ok(past_short_leaf(octets, 23, length)),
+        24 => Ok(past_short_leaf(octets, 24, length)),
+        0x30 => Ok(past_short_group(octets, 0x30, length)),
+        0x31 => Ok(past_short_group(octets, 0x31, length)),
+        0..=30 => Ok(past_short_leaf(octets, leading, length)),
         _ => past_any(alloc, octets),
     }
 }
@@ -207,12 +246,7 @@ pub(crate) fn are_canonical_in_place(alloc: Global, i: &[u8]) -> Result<bool, AS
     // what comes after the rest, the next of it last
     let mut outer: SmallVec<&[u8], 4> = SmallVec::new(alloc);
     'headers: loop {
-        if rest.is_empty() {
-            match outer.pop() {
-                Some(next) => rest = next,
-                None => return Ok(true),
-            }
-        } else {
+        if rest.len() >= 2 {
             let Some((inside, after)) = past_header(alloc, rest)? else {
                 return Ok(false);
             };
@@ -222,6 +256,13 @@ pub(crate) fn are_canonical_in_place(alloc: Global, i: &[u8]) -> Result<bool, AS
                 outer.push(after)?;
                 rest = inside;
             }
+        } else if rest.is_empty() {
+            match outer.pop() {
+                Some(next) => rest = next,
+                None => return Ok(true),
+            }
+        } else {
+            return Ok(false);
         }
     }
 }

@@ -1,8 +1,7 @@
 -- For `contents::object_identifier::are_shortest`: what each turn of its loop keeps.
-use Rattle.std.proofs.Common.{drop, true}
-use Rattle.asn1_leaves.proofs.ShortSubidentifiers.{NoneLeads}
+use Rattle.std.proofs.Common.{ℕ, ◌<◌, ◌≢◌, get_or}
 use Rattle.asn1_leaves.proofs.contents.object_identifier.are_shortest.Given as goal
 
--- what is left decides of all
+-- none is 80 so far
 abbrev pub invariant-loop-octet : goal.invariant-loop-octet
-invariant-loop-octet l = NoneLeads l.begins (drop l.octet-index l.rest) → NoneLeads true l.rest
+invariant-loop-octet l = (k : ℕ) → k < l.octet-index → get_or l.rest k 0 ≢ 128

@@ -17,12 +17,12 @@ All-append_last : (xs ys : List (Bor (List ℕ))) (x : Bor (List ℕ)) → ys �
     All Waits xs × Waits x
 All-append_last xs ys x e all = All-pop Waits ys xs (Some x) e all
 
-pub headers-preserved-in-Some : goal.headers-preserved-in-Some
-headers-preserved-in-Some c next outer =
+pub headers-preserved : goal.headers-preserved
+headers-preserved c next outer =
     let left = c.pop.new.self.items in
-    let items : c.headers.outer.items ≡ left ++ c.in-Some.next ∷ [] = grind (arith, common_steps) in
+    let items : c.headers.outer.items ≡ left ++ c.in-Some-pop.next ∷ [] = grind (arith, common_steps) in
     c.headers.invariant (AreCanonical-empty c.headers.rest.now (grind (arith, common_steps)))
-    (subst (All Waits) (sym items) (All-push Waits left c.in-Some.next outer next))
+    (subst (All Waits) (sym items) (All-push Waits left c.in-Some-pop.next outer next))
 
 pub returns-in-None-clause-canonical : goal.returns-in-None-clause-canonical
 returns-in-None-clause-canonical c said =
@@ -30,18 +30,17 @@ returns-in-None-clause-canonical c said =
     c.headers.invariant (AreCanonical-empty c.headers.rest.now (grind (arith, common_steps)))
     (subst (All Waits) (sym items) (All-nil Waits))
 
-pub headers-preserved-then-is_empty-2 : goal.headers-preserved-then-is_empty-2
-headers-preserved-then-is_empty-2 c after outer =
-    let leaves : LeavesBoth c.headers.rest.now c.in-Some-2.inside.now c.in-Some-2.after.now =
-    subst (λ f. IfSome f (λ x. LeavesBoth c.headers.rest.now x.0.now x.1.now)) c.in-Some-2.is c.in_ok-inside.ensures in
-    c.headers.invariant
-    (leaves.canonical (AreCanonical-empty c.in-Some-2.inside.now (grind (arith, common_steps))) after)
+pub headers-preserved-then-is_empty : goal.headers-preserved-then-is_empty
+headers-preserved-then-is_empty c after outer =
+    let leaves : LeavesBoth c.headers.rest.now c.in-Some.inside.now c.in-Some.after.now =
+    subst (λ f. IfSome f (λ x. LeavesBoth c.headers.rest.now x.0.now x.1.now)) c.in-Some.is c.in_ok-inside.ensures in
+    c.headers.invariant (leaves.canonical (AreCanonical-empty c.in-Some.inside.now (grind (arith, common_steps))) after)
     outer
 
-pub headers-preserved : goal.headers-preserved
-headers-preserved c inside outer =
-    let waits = c.in-Some-2.after in
-    let leaves : LeavesBoth c.headers.rest.now c.in-Some-2.inside.now waits.now =
-    subst (λ f. IfSome f (λ x. LeavesBoth c.headers.rest.now x.0.now x.1.now)) c.in-Some-2.is c.in_ok-inside.ensures in
+pub headers-preserved-else-is_empty : goal.headers-preserved-else-is_empty
+headers-preserved-else-is_empty c inside outer =
+    let waits = c.in-Some.after in
+    let leaves : LeavesBoth c.headers.rest.now c.in-Some.inside.now waits.now =
+    subst (λ f. IfSome f (λ x. LeavesBoth c.headers.rest.now x.0.now x.1.now)) c.in-Some.is c.in_ok-inside.ensures in
     let pushed = All-append_last c.headers.outer.items c.push.new.self.items waits c.in_ok-push.ensures.ok outer in
     c.headers.invariant (leaves.canonical inside pushed.1) pushed.0

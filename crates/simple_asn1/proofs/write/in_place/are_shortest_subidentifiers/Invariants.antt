@@ -1,7 +1,0 @@
--- For `write::in_place::are_shortest_subidentifiers`: what each turn of its loop keeps.
-use Rattle.std.proofs.Common.{ℕ, ◌<◌, ◌≢◌, get_or}
-use Rattle.simple_asn1.proofs.write.in_place.are_shortest_subidentifiers.Given as goal
-
--- none is 80 so far
-abbrev pub invariant-loop-octet : goal.invariant-loop-octet
-invariant-loop-octet l = (k : ℕ) → k < l.octet-index → get_or l.rest k 0 ≢ 128
