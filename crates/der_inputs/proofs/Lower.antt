@@ -8,7 +8,8 @@ use Rattle.der_html.specs.Page.{Shows}
 use Rattle.der_inputs.specs.Forms.{IsShown, IsTitle, look_by}
 use Rattle.der_inputs.specs.Json.{IsOctetsJson, is_all_read}
 use Rattle.der_json.specs.Json.{IsJsonOf, IsStrictJsonOf}
-use Rattle.der_lines.specs.Dump.{Adds, IsLine, IsNote}
+use Rattle.der_pieces.specs.Texts.{Adds}
+use Rattle.der_lines.specs.Dump.{IsLine, IsNote}
 use Rattle.der_lines.specs.declared.document.Verdict.{Verdict}
 use Rattle.der_rows.proofs.Printed.{printed_to_end, pushes_alone}
 use Rattle.der_rows.specs.Printing.{IsPrinted, Pushes}

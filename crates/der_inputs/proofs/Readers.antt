@@ -5,7 +5,7 @@ use Rattle.std.specs.Prelude.{Option, Result, Ok, Err}
 use Rattle.std.proofs.lemmas.List.{drop-set-lt, map-append, take_more}
 use Rattle.std.proofs.lemmas.Grind.{take-set_at}
 use Rattle.std.proofs.Math.Seq.{drop-cons}
-use Rattle.der_lines.specs.Dump.{Adds}
+use Rattle.der_pieces.specs.Texts.{Adds}
 use Rattle.der_inputs.proofs.Texts.{one_more}
 use Rattle.der_inputs.specs.Inputs.{AreReadToEnds, Input, IsReadToEnd}
 use Rattle.der_inputs.specs.Texts.{AreTexts}

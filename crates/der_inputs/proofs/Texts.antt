@@ -5,7 +5,7 @@ use Rattle.std.proofs.lemmas.List.{map-append, take_more}
 use Rattle.std.proofs.lemmas.List.Concat.{flat_map-cons}
 use Rattle.std.proofs.lemmas.List.Sums.{fold-append}
 use Rattle.std.specs.List.{flat_map}
-use Rattle.der_lines.specs.Dump.{Adds}
+use Rattle.der_pieces.specs.Texts.{Adds}
 use Rattle.der_inputs.specs.Findings.{Finding}
 use Rattle.der_inputs.specs.Outcomes.{all_read, both_read}
 use Rattle.der_inputs.specs.Texts.{AreTexts}

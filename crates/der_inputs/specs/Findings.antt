@@ -8,9 +8,9 @@ use Rattle.der_forms.specs.Texts.{text_of}
 use Rattle.der_forms.specs.Objects.{Object, document_of, objects_of}
 use Rattle.der_forms.specs.declared.objects.Ending.{Ending}
 use Rattle.der_forms.specs.declared.objects.Ending.TheVariants.{Closed}
-use Rattle.der_lines.specs.Elements.{HasContents}
-use Rattle.der_lines.specs.Seek.{BeginsAt, HasNoBlockAt}
-use Rattle.der_lines.specs.StringOctets.{HoldsNoOctets, HoldsOctets}
+use Rattle.der_elements.specs.Elements.{HasContents}
+use Rattle.der_elements.specs.Seek.{BeginsAt, HasNoBlockAt}
+use Rattle.der_elements.specs.StringOctets.{HoldsNoOctets, HoldsOctets}
 
 -- octets under their label, if they have one; or that there are none to be read
 pub record Finding : Type 0 where

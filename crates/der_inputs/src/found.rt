@@ -6,14 +6,14 @@ ghost use Rattle.der_forms.specs.Shown.{shown_object};
 ghost use Rattle.der_inputs.specs.Findings.{IsBlockAt, IsContentsAt, IsValueAt, findings_in, findings_of, of_object};
 ghost use Rattle.der_inputs.specs.Findings.{unlabelled};
 ghost use Rattle.der_inputs.specs.Parts.{finding_in, octets_in};
-ghost use Rattle.der_lines.specs.Elements.{HasContents, IsElement};
-ghost use Rattle.der_lines.specs.StringOctets.{HoldsNoOctets, HoldsOctets};
+ghost use Rattle.der_elements.specs.Elements.{HasContents, IsElement};
+ghost use Rattle.der_elements.specs.StringOctets.{HoldsNoOctets, HoldsOctets};
 
+use der_elements::{NoBlock, NoString, behind_header, block_at, string_octets};
 use der_forms::{
     Form, FormFault, Lines, PemFault, PemObject, document_of, fault_of_end, form_of, next_object,
     text_of,
 };
-use der_lines::{NoBlock, NoString, behind_header, block_at, string_octets};
 use std::alloc::{AllocError, Global};
 
 // Octets under their label, if they have one, or why there are none to be read.

@@ -1,7 +1,7 @@
 // Lines of JSON of what is found.
 ghost use Rattle.std.specs.Prelude.{◌≡◌, IfOk, OnOk};
 ghost use Rattle.std.specs.Option.{option_map};
-ghost use Rattle.der_lines.specs.Dump.{Adds};
+ghost use Rattle.der_pieces.specs.Texts.{Adds};
 ghost use Rattle.der_inputs.specs.Json.{IsFoundJson, IsJson, IsOctetsJson, IsWords, is_all_read};
 ghost use Rattle.der_inputs.specs.Parts.{finding_in, octets_in};
 ghost use Rattle.der_json.specs.Json.{told_of};

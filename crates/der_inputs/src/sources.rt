@@ -2,7 +2,7 @@
 ghost use Rattle.std.specs.Prelude.{◌≡◌, ◌⊎◌, List, ℕ, IfOk, IfErr, IfSome, IsErr, IsSome, length, map};
 ghost use Rattle.std.specs.Io.KnownBytes.{Appends, IsAtEnd, Keeps};
 ghost use Rattle.std.specs.Option.{option_map};
-ghost use Rattle.der_lines.specs.Dump.{Adds};
+ghost use Rattle.der_pieces.specs.Texts.{Adds};
 ghost use Rattle.der_inputs.specs.Forms.{IsFramed, form_by};
 ghost use Rattle.der_inputs.specs.Inputs.{AreReadToEnds, IsInputText, IsNamedText, IsPart, IsReadToEnd, IsTaskText};
 ghost use Rattle.der_inputs.specs.Inputs.{input_of, wanted_by};

@@ -5,7 +5,7 @@ use Rattle.serde_json.specs.Written.{comma_if, compact_text, items_text}
 use Rattle.serde_json.specs.Data.{Data}
 use Rattle.der_json.specs.Json.{items_of}
 use Rattle.der_json.specs.Rows.{texts}
-use Rattle.der_lines.specs.Marks.{are_some}
+use Rattle.der_pieces.specs.Marks.{are_some}
 
 module _ {A : Type 0} (json : A → Data) where
   -- one more, behind others

@@ -6,7 +6,7 @@ use Rattle.std.specs.Prelude.{Option, None, Some}
 use Rattle.serde_json.specs.Data.{Data, Items, Members, number, string, unsigned}
 use Rattle.serde_json.specs.View.{view}
 use Rattle.serde_json.specs.Written.{compact_text, items_text, members_text}
-use Rattle.der_lines.specs.Marks.{Told}
+use Rattle.der_pieces.specs.Marks.{Told}
 use Rattle.der_json.specs.Json.{Departed, ToldFault, items_of, rule_json, blocks_if, boolean_or_null, number_or_null, text_or_null, fault_if, member_if, row_json, rules_if}
 use Rattle.der_json.specs.Rows.{blocks_text, fault_text, first_members, last_members, row_of, rules_text, told_text}
 use Rattle.der_json.specs.declared.object.Object.{Object}

@@ -20,18 +20,19 @@ use Rattle.asn1_blocks.proofs.OneReading.{IsBlock-encodes}
 use Rattle.hex.specs.Hex.{encode_lower}
 use Rattle.serde_json.specs.Data.{Data, Items, null, string}
 use Rattle.serde_json.specs.View.{view}
-use Rattle.der_lines.specs.Dump.{is_stray_form, taken}
-use Rattle.der_lines.specs.Headers.{is_gone_into}
-use Rattle.der_lines.specs.Steps.{header_front}
-use Rattle.der_lines.specs.Pieces.{IsFault, IsKind, IsLeafMeaning, IsMeaning, IsNamed, IsNameless, IsOpenedFault, kind_front}
-use Rattle.der_lines.specs.declared.faults.Fault.{Fault as PieceFault}
-use Rattle.der_lines.specs.declared.leaf.Meaning.{Meaning}
-use Rattle.der_lines.specs.declared.leaf.Meaning.TheVariants.{Nothing, Text, Time, Value}
-use Rattle.der_lines.specs.declared.piece.Kind.{Kind}
-use Rattle.der_lines.specs.declared.piece.Kind.TheVariants.{Cut, EndOfContents, Leaf, Opened, Unreadable}
-use Rattle.der_lines.proofs.Pieces.{front_encoding}
+use Rattle.der_elements.specs.Headers.{is_stray_form}
+use Rattle.der_elements.specs.Ends.{taken}
+use Rattle.der_elements.specs.Headers.{is_gone_into}
+use Rattle.der_pieces.specs.Steps.{header_front}
+use Rattle.der_pieces.specs.Pieces.{IsFault, IsKind, IsLeafMeaning, IsMeaning, IsNamed, IsNameless, IsOpenedFault, kind_front}
+use Rattle.der_pieces.specs.declared.faults.Fault.{Fault as PieceFault}
+use Rattle.der_pieces.specs.declared.leaf.Meaning.{Meaning}
+use Rattle.der_pieces.specs.declared.leaf.Meaning.TheVariants.{Nothing, Text, Time, Value}
+use Rattle.der_pieces.specs.declared.piece.Kind.{Kind}
+use Rattle.der_pieces.specs.declared.piece.Kind.TheVariants.{Cut, EndOfContents, Leaf, Opened, Unreadable}
+use Rattle.der_pieces.proofs.Pieces.{front_encoding}
 use Rattle.der_json.specs.Json.{AreShown, IsJudged, as_text, as_time, IsOpenedValue, IsRowOf, cut_short, fault_told, in_their_form}
-use Rattle.der_lines.specs.Segments.{AreSegmentsOf}
+use Rattle.der_elements.specs.Segments.{AreSegmentsOf}
 use Rattle.der_json.specs.Json.{of_none, of_segments}
 use Rattle.der_json.specs.Json.{named_fault, of_encoding, of_end, of_stray_form, of_unreadable, with_contents, with_encodings}
 use Rattle.der_json.specs.Json.{Departed, with_no_value, with_value, words_fault}

@@ -7,18 +7,18 @@ use Rattle.std.specs.Prelude.{IfSome, Option, None, Some, option_map}
 use Rattle.std.specs.List.{AllZip}
 use Rattle.serde_json.specs.Data.{Items}
 use Rattle.serde_json.specs.Written.{comma_if, compact_text, items_text}
-use Rattle.der_lines.specs.Dump.{AreFrontsOf, Front, StandAt}
-use Rattle.der_lines.specs.Pieces.{Passes, fault_offset, front_of, kind_contents, kind_header}
-use Rattle.der_lines.specs.Steps.{IsAhead}
-use Rattle.der_lines.specs.declared.faults.Fault.{Fault as PieceFault}
-use Rattle.der_lines.specs.declared.nested.Nested.{Nested}
-use Rattle.der_lines.specs.declared.piece.Piece.{Piece}
-use Rattle.der_lines.specs.declared.place.Place.{Place}
-use Rattle.der_lines.specs.declared.walk.Walk.{Walk}
+use Rattle.der_pieces.specs.Fronts.{AreFrontsOf, Front, StandAt}
+use Rattle.der_pieces.specs.Pieces.{Passes, fault_offset, front_of, kind_contents, kind_header}
+use Rattle.der_pieces.specs.Steps.{IsAhead}
+use Rattle.der_pieces.specs.declared.faults.Fault.{Fault as PieceFault}
+use Rattle.der_pieces.specs.declared.nested.Nested.{Nested}
+use Rattle.der_pieces.specs.declared.piece.Piece.{Piece}
+use Rattle.der_pieces.specs.declared.place.Place.{Place}
+use Rattle.der_pieces.specs.declared.walk.Walk.{Walk}
 use Rattle.der_json.specs.Json.{AreInside, AreRows, Departed, IsInside, IsRow, Row, ToldFault, earlier_of, fault_offsets, fault_told}
 use Rattle.der_json.specs.Json.{first_fault, items_of, mark_of, marks_at, marks_of, row_json, told_offset}
 use Rattle.der_json.specs.Rows.{AreRowsAt, IsArray, IsNestedJson, IsObject, found_marks, row_of, texts, told_at}
-use Rattle.der_lines.specs.Marks.{are_some, told_of}
+use Rattle.der_pieces.specs.Marks.{are_some, told_of}
 use Rattle.der_json.specs.declared.object.Object.{Object}
 use Rattle.der_json.specs.declared.rows.Found.{Found}
 use Rattle.der_json.proofs.Arrays.{all_texts, one_text, some_more}

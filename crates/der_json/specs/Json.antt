@@ -26,10 +26,11 @@ use Rattle.asn1_blocks.specs.Grammar.{Encodes}
 use Rattle.asn1_blocks.specs.Tree.{Leaf, Tree, leaf, group, explicit, unknown, boolean, integer, bit_string}
 use Rattle.asn1_blocks.specs.Tree.{octet_string, null as null_leaf, object_identifier, text as text_leaf}
 use Rattle.asn1_blocks.specs.Tree.{utc_time, generalized_time}
-use Rattle.der_lines.specs.Dump.{AreFrontsOf, Front, IsBerTime, StandAt, is_stray_form, is_wide, size_in}
-use Rattle.der_lines.specs.Headers.{is_gone_into}
-use Rattle.der_lines.specs.Marks.{Told, told_rules}
-use Rattle.der_lines.specs.Segments.{AreSegmentsOf}
+use Rattle.der_pieces.specs.Fronts.{AreFrontsOf, Front, IsBerTime, StandAt, is_wide, size_in}
+use Rattle.der_elements.specs.Headers.{is_stray_form}
+use Rattle.der_elements.specs.Headers.{is_gone_into}
+use Rattle.der_pieces.specs.Marks.{Told, told_rules}
+use Rattle.der_elements.specs.Segments.{AreSegmentsOf}
 use Rattle.der_values.specs.Strings.{has_text, has_words, is_string}
 use Rattle.der_values.specs.Times.{AreFractionOf, IsMomentText}
 use Rattle.der_json.specs.declared.fault.Fault.{Fault}

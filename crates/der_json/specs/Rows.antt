@@ -15,17 +15,17 @@ use Rattle.asn1_blocks.specs.Tree.{Tree}
 use Rattle.serde_json.specs.Data.{Data, Items, Members, array, null, number, string, unsigned}
 use Rattle.serde_json.specs.View.{view}
 use Rattle.serde_json.specs.Written.{comma_if, compact_text, has_float, items_text, members_text}
-use Rattle.der_lines.specs.Headers.{is_gone_into}
-use Rattle.der_lines.specs.Marks.{Told, told_of, told_rules}
-use Rattle.der_lines.specs.Pieces.{IsKind, front_of, kind_header}
-use Rattle.der_lines.specs.declared.faults.Fault.{Fault as PieceFault}
-use Rattle.der_lines.specs.declared.leaf.Meaning.{Meaning}
-use Rattle.der_lines.specs.declared.leaf.Meaning.TheVariants.{Nothing, Text, Time, Value}
-use Rattle.der_lines.specs.declared.nested.Nested.{Nested}
-use Rattle.der_lines.specs.declared.piece.Kind.{Kind}
-use Rattle.der_lines.specs.declared.piece.Kind.TheVariants.{Cut, EndOfContents, Leaf, Opened, Unreadable}
-use Rattle.der_lines.specs.declared.piece.Piece.{Piece}
-use Rattle.der_lines.specs.declared.place.Place.{Place}
+use Rattle.der_elements.specs.Headers.{is_gone_into}
+use Rattle.der_pieces.specs.Marks.{Told, told_of, told_rules}
+use Rattle.der_pieces.specs.Pieces.{IsKind, front_of, kind_header}
+use Rattle.der_pieces.specs.declared.faults.Fault.{Fault as PieceFault}
+use Rattle.der_pieces.specs.declared.leaf.Meaning.{Meaning}
+use Rattle.der_pieces.specs.declared.leaf.Meaning.TheVariants.{Nothing, Text, Time, Value}
+use Rattle.der_pieces.specs.declared.nested.Nested.{Nested}
+use Rattle.der_pieces.specs.declared.piece.Kind.{Kind}
+use Rattle.der_pieces.specs.declared.piece.Kind.TheVariants.{Cut, EndOfContents, Leaf, Opened, Unreadable}
+use Rattle.der_pieces.specs.declared.piece.Piece.{Piece}
+use Rattle.der_pieces.specs.declared.place.Place.{Place}
 use Rattle.der_values.specs.Strings.{has_text}
 use Rattle.der_json.specs.Json.{AreInside, AreRows, AreRowsOf, Departed, IsOpenedValue, IsRowOf, IsTextValue, IsValueOf, Row, ToldFault}
 use Rattle.der_json.specs.Json.{boolean_or_null, fault_json, fault_told, first_fault, items_of, marks_of, natural_json}

@@ -6,7 +6,7 @@ ghost use Rattle.der_json.specs.Json.{fault_json, fault_told, named_fault};
 ghost use Rattle.der_json.specs.Rows.{told_at};
 
 use asn1_headers::error::ASN1DecodeErr;
-use der_lines::faults;
+use der_pieces::faults;
 use serde_json::{Value, json};
 use std::alloc::{AllocError, Global};
 

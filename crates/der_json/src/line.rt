@@ -1,7 +1,7 @@
 // A document as a line of JSON.
 ghost use Rattle.std.specs.Prelude.{◌≡◌, ◌++◌, ◌∷◌, [], IfOk, OnOk, option_map};
 ghost use Rattle.std.specs.Option.{is_none};
-ghost use Rattle.der_lines.specs.Dump.{Adds};
+ghost use Rattle.der_pieces.specs.Texts.{Adds};
 ghost use Rattle.der_json.specs.Json.{IsEmptyLine, IsJsonOf, fault_told, first_text, line_text, refusal_json};
 ghost use Rattle.der_json.specs.Json.{told_of};
 ghost use Rattle.der_json.specs.Rows.{IsRowsLine, end_text, told_text};
@@ -11,9 +11,9 @@ use crate::member::push_text;
 use crate::object::push_fault_object;
 use crate::rows::{Found, push_rows};
 use asn1_headers::error::ASN1DecodeErr;
-use der_lines::Style;
-use der_lines::place::outermost;
 use der_names::Names;
+use der_pieces::place::outermost;
+use der_pieces::style::Style;
 use std::alloc::{AllocError, Global};
 
 /// Where octets are from, as far as a line tells it. Each text that is there is the member of its name, behind the

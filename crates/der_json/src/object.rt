@@ -2,14 +2,14 @@
 ghost use Rattle.std.specs.Prelude.{◌≡◌, ◌++◌, false, IfOk, OnOk, map, option_map, string_bytes};
 ghost use Rattle.serde_json.specs.View.{view};
 ghost use Rattle.serde_json.specs.Written.{comma_if, compact_text, has_float, items_text};
-ghost use Rattle.der_lines.specs.Marks.{told_of};
+ghost use Rattle.der_pieces.specs.Marks.{told_of};
 ghost use Rattle.der_json.specs.Json.{boolean_or_null as boolean_or_null_is, fault_json, fault_told, items_of, rule_json};
 ghost use Rattle.der_json.specs.Json.{number_or_null as number_or_null_is, text_or_null as text_or_null_is};
 ghost use Rattle.der_json.specs.Rows.{IsExact, fault_text, first_members, last_members, rules_text, told_text};
 
 use crate::fault::{Fault, fault_value};
 use crate::member::{push_member, push_text};
-use der_lines::marks::ToldRule;
+use der_pieces::marks::ToldRule;
 use serde_json::{Value, json};
 use std::alloc::{AllocError, Global};
 

@@ -2,19 +2,20 @@
 ghost use Rattle.std.specs.Prelude.{◌≡◌, ◌++◌, ◌+◌, ◌<◌, IfOk, IfSome, OnOk, Option, map, option_map};
 ghost use Rattle.serde_json.specs.Data.{Items};
 ghost use Rattle.serde_json.specs.Written.{compact_text};
-ghost use Rattle.der_lines.specs.Dump.{Adds};
-ghost use Rattle.der_lines.specs.Marks.{told_of};
+ghost use Rattle.der_pieces.specs.Texts.{Adds};
+ghost use Rattle.der_pieces.specs.Marks.{told_of};
 ghost use Rattle.der_json.specs.Json.{earlier_of, fault_told, marks_at, row_json};
 ghost use Rattle.der_json.specs.Rows.{IsArray, IsExact, IsNestedJson, blocks_text, found_marks, row_of, told_marks};
 
 use crate::fault::Fault;
 use crate::object::{Object, push_comma};
 use crate::piece::object_of;
-use der_lines::marks::ToldRule;
-use der_lines::nested::Nested;
-use der_lines::place::{Place, sum_of};
-use der_lines::walk::Walk;
+use der_elements::sum::sum_of;
 use der_names::Names;
+use der_pieces::marks::ToldRule;
+use der_pieces::nested::Nested;
+use der_pieces::place::Place;
+use der_pieces::walk::Walk;
 use std::alloc::{AllocError, Global};
 
 // A rule that is broken, by an encoding at the offset of the document.

@@ -2,7 +2,7 @@
 ghost use Rattle.std.specs.Prelude.{◌≡◌, ◌++◌, ◌&&◌, false, IfOk, OnOk};
 ghost use Rattle.serde_json.specs.View.{view};
 ghost use Rattle.serde_json.specs.Written.{items_text};
-ghost use Rattle.der_lines.specs.Dump.{Adds};
+ghost use Rattle.der_pieces.specs.Texts.{Adds};
 ghost use Rattle.der_json.specs.Json.{IsStrictJsonOf, departed_json, is_der, items_of, marks_text};
 ghost use Rattle.der_json.specs.Json.{told_of};
 ghost use Rattle.der_json.specs.Rows.{departed_of, told_marks};

@@ -2,15 +2,16 @@
 use Rattle.std.proofs.Common.{◌≡◌, ℕ, Bool, true, false, List, [], ◌∷◌, ◌++◌, take, refl, sym, ap, ◌∙◌, subst, append-nil}
 use Rattle.std.specs.Prelude.{Option, None, Some, Result, Ok, Err, IfOk}
 use Rattle.std.specs.declared.alloc.AllocError.{AllocError}
-use Rattle.der_lines.specs.Dump.{AreFaultLines, AreMarked, Front, IsDump, IsDumpOfSome, StandsInside, down_to}
+use Rattle.der_lines.specs.Dump.{AreFaultLines, AreMarked, IsDump, IsDumpOfSome, StandsInside, down_to}
+use Rattle.der_pieces.specs.Fronts.{Front}
 use Rattle.der_lines.specs.Dump.{verdict_of, wrong_offsets}
 use Rattle.der_lines.specs.Steps.{IsFirstFault, IsLast, IsWholeDump, counted, mark_offsets, marks_by, outer}
 use Rattle.der_lines.specs.declared.document.Verdict.{Verdict}
 use Rattle.der_lines.specs.declared.document.Verdict.TheVariants.{Refused}
 use Rattle.der_lines.specs.declared.encodings.Found.{Found}
 use Rattle.der_lines.specs.declared.encodings.Marked.{Marked}
-use Rattle.der_lines.specs.declared.faults.Fault.{Fault}
-use Rattle.der_lines.specs.declared.place.Place.{Place}
+use Rattle.der_pieces.specs.declared.faults.Fault.{Fault}
+use Rattle.der_pieces.specs.declared.place.Place.{Place}
 use Rattle.der_rows.proofs.Printed.{printed_both}
 use Rattle.der_rows.specs.Printing.{IsPrinted}
 use Rattle.der_rows.specs.declared.printer.Printer.{Printer}

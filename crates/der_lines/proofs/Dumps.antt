@@ -6,9 +6,13 @@ use Rattle.std.proofs.lemmas.Bool.{eqb-false}
 use Rattle.std.proofs.lemmas.List.Elements.{All-append, All-cons, All-nil}
 use Rattle.std.specs.Fmt.{decimal}
 use Rattle.std.specs.Prelude.{Option}
-use Rattle.der_lines.specs.Dump.{Adds, AreFaultLines, Front, IsBlockLine, IsDump, IsFaultLine, IsLine}
-use Rattle.der_lines.specs.Dump.{StandAt, StandsInside, block_line, down_to, inside_line, is_too_deep, no_lines}
-use Rattle.der_lines.specs.Marks.{Told, mark_text, told_rules, words_text}
+use Rattle.der_pieces.specs.Texts.{Adds}
+use Rattle.der_lines.specs.Dump.{AreFaultLines, IsBlockLine, IsDump, IsFaultLine, IsLine}
+use Rattle.der_pieces.specs.Fronts.{Front}
+use Rattle.der_pieces.specs.Fronts.{StandAt, is_too_deep}
+use Rattle.der_lines.specs.Dump.{StandsInside, block_line, down_to, inside_line, no_lines}
+use Rattle.der_pieces.specs.Marks.{Told, told_rules}
+use Rattle.der_lines.specs.MarkText.{mark_text, words_text}
 use Rattle.der_lines.specs.Steps.{IsLineOf, IsLineUnless, outer}
 use Rattle.der_rows.proofs.Printed.{pushes_none}
 use Rattle.der_rows.specs.Printing.{IsPrintedAs, Prints}

@@ -1,18 +1,22 @@
 -- How far the lines of octets were put.
-use Rattle.std.proofs.Common.{◌≡◌, ◌⊎◌, inl, inr, ℕ, ◌+◌, ◌-◌, Bool, true, false, List, [], ◌∷◌, ◌++◌}
-use Rattle.std.proofs.Common.{drop, slice_range, refl, sym, ap, ◌∙◌, subst, append_assoc, append-nil, arith}
-use Rattle.std.proofs.lemmas.List.{take-append-drop}
+use Rattle.std.proofs.Common.{◌≡◌, ◌⊎◌, inl, inr, ℕ, ◌+◌, Bool, true, false, List, [], ◌∷◌, ◌++◌, slice_range, refl, sym, ap, ◌∙◌, subst, append_assoc, append-nil, arith}
 use Rattle.std.specs.Prelude.{Option, None, Some}
-use Rattle.der_lines.specs.Dump.{AreFrontsOf, AreMarked, Front, IsDump, IsLater, StandAt, StandsInside, marked_offset, no_lines, no_more}
-use Rattle.der_lines.specs.Pieces.{IsPieceDump, Passes, StandsInPiece, fault_offset, front_of, kind_contents, kind_front, kind_header, shown_front}
-use Rattle.der_lines.specs.Steps.{IsAhead, IsFirstFault, IsWholeDump, counted, earlier_fault, mark_offsets, outer}
+use Rattle.der_pieces.specs.Fronts.{AreFrontsOf, Front, StandAt}
+use Rattle.der_lines.specs.Dump.{AreMarked, IsDump, IsLater, StandsInside, marked_offset, no_lines, no_more}
+use Rattle.der_lines.specs.PieceRows.{IsPieceDump, StandsInPiece, shown_front, IsNestedDump}
+use Rattle.der_pieces.specs.Pieces.{Passes, fault_offset, front_of, kind_contents, kind_front, kind_header}
+use Rattle.der_pieces.specs.Steps.{IsAhead}
+use Rattle.der_lines.specs.Steps.{IsFirstFault, IsWholeDump, counted, earlier_fault, mark_offsets, outer}
 use Rattle.der_lines.specs.declared.encodings.Found.{Found}
-use Rattle.der_lines.specs.declared.faults.Fault.{Fault}
-use Rattle.der_lines.specs.declared.piece.Piece.{Piece}
-use Rattle.der_lines.specs.declared.place.Place.{Place}
-use Rattle.der_lines.specs.declared.walk.Walk.{Walk}
+use Rattle.der_pieces.specs.declared.faults.Fault.{Fault}
+use Rattle.der_pieces.specs.declared.piece.Piece.{Piece}
+use Rattle.der_pieces.specs.declared.place.Place.{Place}
+use Rattle.der_pieces.specs.declared.walk.Walk.{Walk}
 use Rattle.der_lines.proofs.Dumps.{dump_join, dump_map, inside_deeper, outer_join, outer_none, start_dump}
 use Rattle.der_lines.proofs.Told.{counted_join, counted_none, marked_join, marked_map, marked_one}
+use Rattle.der_pieces.proofs.Walks.{left_stands}
+use Rattle.der_rows.specs.Printing.{IsPrinted}
+use Rattle.der_rows.specs.declared.printer.Printer.{Printer}
 
 abbrev pub IsAmong : List Front → Front → Type 0
 IsAmong fronts f = (earlier others : List Front) × (fronts ≡ earlier ++ f ∷ others)
@@ -69,15 +73,6 @@ so_far_more :
 so_far_more base octets fronts g p (inl (f, (earlier, others, e), l)) =
     inl (f, (earlier, others ++ g ∷ [], ap (λ z. z ++ g ∷ []) e ∙ append_assoc earlier (f ∷ others) (g ∷ [])), l)
 so_far_more base octets fronts g p (inr inside) = inr inside
-
--- what is left stands at the offset
-pub left_stands : (octets left : List ℕ) (offset end : ℕ) → left ≡ slice_range octets offset end →
-    StandAt octets offset left
-left_stands octets left offset end e =
-    let rest = drop offset octets in (
-      drop (end - offset) rest,
-      sym (take-append-drop (end - offset) rest) ∙ ap (λ z. z ++ drop (end - offset) rest) (sym e),
-    )
 
 told_more :
     (faults own : List ℕ) (first told : Option Fault) → IsFirstFault faults first → IsFirstFault own told →
@@ -262,3 +257,33 @@ shown_all place octets walk found text ended s =
           (λ p h. closed place.base octets s.fronts s.faults p all h) (outer place.is_inside place.most_depth s.fronts)
           text s.dump;
     }
+
+-- the lines of encodings inside contents octets, and their marks
+pub nested_adds :
+    (inside : Place) (left : List ℕ) (piece : Piece) (octets : List ℕ) (before : ℕ) (told : Found) (a b : Printer) →
+    StandAt (slice_range left (kind_header piece.kind) (kind_header piece.kind + kind_contents piece.kind)) before
+    octets →
+    inside.is_inside ≡ true → inside.base ≡ piece.place.base + (piece.offset + kind_header piece.kind) + before →
+    IsPrinted (IsWholeDump inside octets told) a b →
+    IsPrinted (IsNestedDump left piece (mark_offsets told.marks.items)) a b
+nested_adds inside left piece octets before told a b stand is_inside further (faults, (text, e, put)) =
+    let header = kind_header piece.kind in
+    let base = piece.place.base + (piece.offset + header) in
+    let contents = slice_range left header (header + kind_contents piece.kind) in
+    let deeper : (f : Front) → StandsInside inside.base octets f → StandsInPiece left piece f =
+    λ f s. inside_deeper contents octets base before inside.base f stand further s in
+    let marks = mark_offsets told.marks.items in (
+      faults,
+      (
+        text,
+        e,
+        (
+          dump_map (StandsInside inside.base octets) (StandsInPiece left piece) deeper [] text
+              (subst (λ z. IsDump (StandsInside inside.base octets) (outer z inside.most_depth put.fronts) text)
+              is_inside put.dump),
+          marked_map (StandsInside inside.base octets) (StandsInPiece left piece) deeper [] marks
+              (subst (λ z. AreMarked (StandsInside inside.base octets) (counted z put.fronts) marks) is_inside
+              put.marks),
+        ),
+      ),
+    )

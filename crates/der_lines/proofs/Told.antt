@@ -1,11 +1,10 @@
 -- Marks after marks, and what a mark says.
-use Rattle.std.proofs.Common.{◌≡◌, ◌+◌, ◌<◌, ℕ, Bool, true, false, List, [], ◌∷◌, ◌++◌, map, refl, sym, ap, ◌∙◌}
-use Rattle.std.proofs.Common.{append_assoc, append-nil, get_or, length, take}
+use Rattle.std.proofs.Common.{◌≡◌, ◌+◌, ◌<◌, ℕ, Bool, true, false, List, [], ◌∷◌, ◌++◌, map, refl, sym, ap, ◌∙◌, append_assoc, append-nil, get_or, length, take}
 use Rattle.std.proofs.lemmas.List.{map-append, take_more}
-use Rattle.der_lines.specs.Dump.{AreMarked, Front, marked_offset, no_more, one, one_inside}
-use Rattle.asn1_departures.specs.declared.rule.Rule.{Rule}
-use Rattle.der_lines.specs.Marks.{Told, are_some, rule_told, separator, told_of, words_text}
-use Rattle.der_lines.specs.declared.marks.ToldRule.{ToldRule}
+use Rattle.der_lines.specs.Dump.{AreMarked, marked_offset, no_more, one, one_inside}
+use Rattle.der_pieces.specs.Fronts.{Front}
+use Rattle.der_pieces.specs.Marks.{Told, are_some}
+use Rattle.der_lines.specs.MarkText.{separator, words_text}
 use Rattle.der_lines.specs.Steps.{counted}
 
 -- marks after marks
@@ -84,17 +83,3 @@ put_at told rules i d later before middle comma after within some m c e =
           (ap (λ z. words_text false xs ++ (separator z ++ y.words)) some ∙ sym (words_more xs y)))))
           ∙ ap (λ z. before ++ words_text false z) (sym more),
     )
-
--- one more was told, of those at an index
-pub told_at :
-    (rules : List Rule) (i : ℕ) (d : Rule) (old new : List ToldRule) (result : ToldRule) → i < length rules →
-    told_of result ≡ rule_told (get_or rules i d) → new ≡ old ++ result ∷ [] →
-    map told_of old ≡ map rule_told (take i rules) → map told_of new ≡ map rule_told (take (i + 1) rules)
-told_at rules i d old new result within is e before =
-    let rule = get_or rules i d in
-    let more : map rule_told (take (i + 1) rules) ≡ map rule_told (take i rules) ++ rule_told rule ∷ [] =
-    ap (map rule_told) (take_more rules i d within) ∙ map-append rule_told (take i rules) (rule ∷ []) in
-    ap (map told_of) e
-    ∙ (map-append told_of old (result ∷ [])
-    ∙ (ap (λ z. z ++ told_of result ∷ []) before
-    ∙ (ap (λ z. map rule_told (take i rules) ++ z ∷ []) is ∙ sym more)))

@@ -1,12 +1,4 @@
 pub mod Dump
-pub mod Elements
-pub mod Headers
-pub mod Pieces
-pub mod Seek
-pub mod SeekSteps
-pub mod StringSteps
-pub mod Segments
-pub mod StringOctets
+pub mod MarkText
+pub mod PieceRows
 pub mod Steps
-pub mod LengthForm
-pub mod Marks

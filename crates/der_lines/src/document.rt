@@ -5,13 +5,11 @@ ghost use Rattle.der_lines.specs.Steps.{IsLast, mark_offsets, marks_by as marks_
 ghost use Rattle.der_rows.specs.Printing.{IsPrinted};
 
 use crate::encodings::{Found, Marked, push_encodings};
-use crate::faults::push_fault_line;
-use crate::lines::push_fault;
-use crate::marks::push_words;
-use crate::place::outermost;
-use crate::style::Style;
+use crate::lines::{push_fault, push_fault_line, push_words};
 use asn1_headers::error::ASN1DecodeErr;
 use der_names::Names;
+use der_pieces::place::outermost;
+use der_pieces::style::Style;
 use der_rows::Printer;
 use std::alloc::{AllocError, Global};
 

@@ -1,22 +1,23 @@
 // The rows of octets, one for each piece, and of what stands inside octets of strings.
-ghost use Rattle.std.specs.Prelude.{◌≡◌, ◌+◌, ◌<◌, ◌++◌, ℕ, List, false, IfOk, IfSome, OnOk, is_some};
+ghost use Rattle.std.specs.Prelude.{◌≡◌, ◌<◌, ◌++◌, ℕ, List, false, IfOk, IfSome, OnOk, is_some};
 ghost use Rattle.der_lines.specs.Dump.{marked_offset};
-ghost use Rattle.der_lines.specs.Pieces.{IsHolding, IsNestedDump, IsPieceDump, kind_words, row_faults, shown_front};
+ghost use Rattle.der_pieces.specs.Pieces.{IsHolding, kind_words};
+ghost use Rattle.der_lines.specs.PieceRows.{IsNestedDump, IsPieceDump, row_faults, shown_front};
 ghost use Rattle.der_rows.specs.Printing.{IsPrinted, IsPrintedAs};
 ghost use Rattle.der_lines.specs.Steps.{IsStart, IsWholeDump, earlier_fault, mark_offsets};
 
-use crate::faults::Fault;
-use crate::header::holds_encodings;
-use crate::leaf::Meaning;
 use crate::lines::push_mark;
-use crate::marks::ToldRule;
-use crate::piece::{Kind, Piece};
-use crate::place::{Place, is_too_deep, sum_of};
-use crate::scalars::write_after_space;
-use crate::strings::joined_value;
-use crate::values::{ValueStyle, cut_text, opened_text, read_text};
-use crate::walk::Walk;
+use crate::values::{ValueStyle, cut_text, joined_value, opened_text, read_text};
+use der_elements::header::holds_encodings;
+use der_elements::sum::sum_of;
 use der_names::Names;
+use der_pieces::faults::Fault;
+use der_pieces::leaf::Meaning;
+use der_pieces::marks::ToldRule;
+use der_pieces::piece::{Kind, Piece};
+use der_pieces::place::{Place, is_too_deep};
+use der_pieces::scalars::write_after_space;
+use der_pieces::walk::Walk;
 use der_rows::{Printer, Row};
 use std::alloc::{AllocError, Global};
 

@@ -20,39 +20,18 @@
 //! [`push_fault_line`] prints the line of a fault that others find.
 //!
 //! [`push_label`] and [`push_refusal`] put the other lines of what is written: `=` and the label of a document, `!` and
-//! why there is none. [`block_at`] finds a block by its offset, [`behind_header`] its contents octets, and
-//! [`string_octets`] the octets that a string holds.
-//!
-//! The modules are for `der_json`, which goes over the same pieces, and says of them what lines say.
+//! why there is none.
 //!
 //! The only error is that memory ran out; what was pushed before it stays.
 #![tactic(auto)]
 
-pub mod cursor;
 mod document;
-mod element;
 mod encodings;
-pub mod faults;
-pub mod header;
-pub mod leaf;
 mod lines;
-pub mod marks;
-pub mod nested;
 mod notes;
-pub mod piece;
-pub mod place;
-mod scalars;
-mod seek;
-mod string_value;
-pub mod strings;
-mod style;
-pub mod values;
-pub mod walk;
+mod values;
 
+pub use der_pieces::style::Style;
 pub use document::{Verdict, push_document, push_strict_document};
-pub use element::behind_header;
-pub use faults::push_fault_line;
+pub use lines::push_fault_line;
 pub use notes::{push_label, push_refusal};
-pub use seek::{NoBlock, block_at};
-pub use string_value::{NoString, string_octets};
-pub use style::Style;

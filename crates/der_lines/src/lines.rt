@@ -1,11 +1,14 @@
 // Lines that are not of pieces, and the mark of a piece that is not DER.
-ghost use Rattle.std.specs.Prelude.{◌≡◌, ◌++◌, OnOk};
+ghost use Rattle.std.specs.Prelude.{◌≡◌, ◌++◌, OnOk, false, map};
 ghost use Rattle.der_lines.specs.Dump.{IsFaultLine, IsLine, IsNote};
-ghost use Rattle.der_lines.specs.Marks.{mark_text, told_rules};
+ghost use Rattle.der_lines.specs.MarkText.{mark_text, separator, words_text};
+ghost use Rattle.der_pieces.specs.Marks.{told_of, told_rules};
 ghost use Rattle.der_rows.specs.Printing.{IsPrinted};
 ghost use Rattle.der_rows.specs.Rows.{note_mark};
 
-use crate::marks::{Breaches, push_words};
+use asn1_headers::error::ASN1DecodeErr;
+use der_pieces::faults::fault_words;
+use der_pieces::marks::{Breaches, ToldRule};
 use der_rows::{NoteKind, Printer};
 use std::alloc::{AllocError, Global};
 
@@ -37,5 +40,50 @@ pub fn push_fault(offset: usize, words: &[u8], printer: &mut Printer) -> Result<
     ensures { OnOk result (IsPrinted (IsLine (IsFaultLine offset)) printer.old printer.new) }
 {
     printer.push_fault(offset, words)?;
+    Ok(())
+}
+
+/// Prints the line of a fault: its offset, and what it is in words.
+///
+/// # Errors
+/// Memory ran out.
+pub fn push_fault_line(
+    alloc: Global,
+    offset: usize,
+    fault: &ASN1DecodeErr,
+    printer: &mut Printer,
+) -> Result<(), AllocError>
+    ensures { OnOk result (IsPrinted (IsLine (IsFaultLine offset)) printer.old printer.new) }
+{
+    let words = fault_words(alloc, fault)?;
+    push_fault(offset, words.as_bytes(), printer)
+}
+
+// Puts what is wrong, with a comma and a space between two.
+pub fn push_words(told: &[ToldRule], out: &mut Vec<u8>) -> Result<(), AllocError>
+    ensures { OnOk result (out.new.items ≡ out.old.items ++ words_text false (map told_of told.now)) }
+{
+    let mut is_later = false;
+    for rule in told {
+        push_separator(is_later, out)?;
+        push_text(rule, out)?;
+        is_later = true;
+    }
+    Ok(())
+}
+
+fn push_text(rule: &ToldRule, out: &mut Vec<u8>) -> Result<(), AllocError>
+    ensures { OnOk result (out.new.items ≡ out.old.items ++ rule.now.text.now) }
+{
+    out.extend_from_slice(rule.text.as_bytes())?;
+    Ok(())
+}
+
+fn push_separator(is_later: bool, out: &mut Vec<u8>) -> Result<(), AllocError>
+    ensures { OnOk result (out.new.items ≡ out.old.items ++ separator is_later) }
+{
+    if is_later {
+        out.extend_from_slice(b", ")?;
+    }
     Ok(())
 }

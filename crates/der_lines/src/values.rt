@@ -1,22 +1,20 @@
-// What is said of encodings behind the sizes: the tag in words, and the values of contents octets.
-ghost use Rattle.std.specs.Prelude.{◌≡◌, IfOk, option_map, string_bytes};
-ghost use Rattle.der_lines.specs.Dump.{tag_number as tag_number_is, tag_words as tag_words_are};
-ghost use Rattle.asn1_headers.specs.Names.{type_name as type_name_is};
+// What is said of encodings behind their tags: the values of contents octets.
 
-use crate::header::{holds_encodings, universal_tag};
-use crate::leaf::Meaning;
-use crate::scalars::{write_after_space, write_as, write_hex, write_quoted};
 use asn1_headers::error::ASN1DecodeErr;
 use asn1_headers::front::Header;
-use asn1_headers::header::ASN1Class;
-use asn1_headers::types::type_name;
 use asn1_leaves::contents::text::TextForm;
 use asn1_leaves::contents::{generalized_time, text, utc_time};
 use asn1_leaves::oid::OID;
 use asn1_numbers::number::big_int::BigInt;
-use asn1_numbers::number::big_uint::BigUint;
+use der_elements::header::{holds_encodings, universal_tag};
 use der_names::Names;
 use der_names::identifier::{identifier_of, number_of};
+use der_pieces::leaf::{Meaning, Read, read_contents};
+use der_pieces::place::Place;
+use der_pieces::scalars::{
+    LEAST_HEX, LEAST_TEXT, is_text, write_after_space, write_as, write_hex, write_quoted,
+};
+use der_pieces::strings::joined_string;
 use der_values::{
     Role, address_text, bit_names, fraction_digits, general_name, moment_text, string_of,
     value_text as other_value,
@@ -24,12 +22,6 @@ use der_values::{
 use jiff::civil::DateTime;
 use std::alloc::{AllocError, Global};
 use std::str;
-
-// How many octets of a string, or of another class, are shown as text at least: fewer may well be a number.
-pub const LEAST_TEXT: usize = 5;
-
-// From how many octets on an integer is also shown by them.
-pub const LEAST_HEX: usize = 5;
 
 // How a value is written.
 #[derive(Clone, Copy, Drop)]
@@ -40,31 +32,6 @@ pub struct ValueStyle {
     pub is_full: bool,
     // what they are in an extension
     pub role: Role,
-}
-
-// The tag in words.
-pub fn tag_words(alloc: Global, class: ASN1Class, tag: &BigUint) -> Result<String, AllocError>
-    ensures { IfOk result (λ words. string_bytes words ≡ tag_words_are class tag.now) }
-{
-    if let Some(name) = name_of(class, tag) {
-        return String::from_str(alloc, name);
-    }
-    let number = tag_number(alloc, tag)?;
-    match class {
-        ASN1Class::Universal => format!(in alloc; "[UNIVERSAL {number}]"),
-        ASN1Class::Application => format!(in alloc; "[APPLICATION {number}]"),
-        ASN1Class::ContextSpecific => format!(in alloc; "[{number}]"),
-        ASN1Class::Private => format!(in alloc; "[PRIVATE {number}]"),
-    }
-}
-
-fn tag_number(alloc: Global, tag: &BigUint) -> Result<String, AllocError>
-    ensures { IfOk result (λ words. string_bytes words ≡ tag_number_is tag.now) }
-{
-    match tag.to_u128() {
-        Some(n) => format!(in alloc; "{n}"),
-        None => String::from_str(alloc, "beyond 2^128"),
-    }
 }
 
 // What is said of an encoding that is gone into, behind its tag: what it is in an extension. That it is constructed is
@@ -130,6 +97,31 @@ pub fn read_text(
         Meaning::Value | Meaning::Nothing => {
             value_text(alloc, names, universal_tag(header), contents, style)
         }
+    }
+}
+
+// The value of a whole encoding with these contents octets, as it stands behind a tag: of a string that is constructed,
+// if its segments are well-formed. A string that is itself a segment has none: else segments in segments would be
+// joined again and again.
+pub fn joined_value(
+    alloc: Global,
+    names: &Names,
+    header: &Header,
+    contents: &[u8],
+    place: Place,
+) -> Result<Option<String>, AllocError> {
+    let Some((header, joined)) = joined_string(alloc, header, contents, place)? else {
+        return Ok(None);
+    };
+    let Read { meaning, .. } = read_contents(alloc, &header, &joined, 0)?;
+    let style = ValueStyle {
+        is_opened: false,
+        is_full: place.is_full,
+        role: Role::Plain,
+    };
+    match meaning {
+        Meaning::Nothing => Ok(None),
+        meaning => Ok(Some(read_text(alloc, names, &header, &joined, &meaning, style)?)),
     }
 }
 
@@ -367,16 +359,6 @@ fn write_components(
     }
 }
 
-// The name of a type that has one.
-pub fn name_of(class: ASN1Class, tag: &BigUint) -> Option<&'static str>
-    ensures { option_map (λ name. name.now) result ≡ type_name_is class tag.now }
-{
-    match tag.to_u64() {
-        Some(n) => type_name(class, n),
-        None => None,
-    }
-}
-
 // Octets, and what they are as text, if they are at least so many and may be text.
 fn write_unknown(
     out: &mut String,
@@ -389,11 +371,6 @@ fn write_unknown(
         write_ascii(out, octets)?;
     }
     Ok(())
-}
-
-// Whether the octets are printable characters of ASCII.
-pub fn is_text(octets: &[u8]) -> bool {
-    octets.iter().all(|b| *b >= b' ' && *b < 127)
 }
 
 fn write_ascii(out: &mut String, octets: &[u8]) -> Result<(), AllocError> {

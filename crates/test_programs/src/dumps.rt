@@ -1,5 +1,6 @@
 // What is put of a document that is too long for a row, of a label on two lines, and of half a header.
-use der_lines::{Style, behind_header, push_document, push_label};
+use der_elements::behind_header;
+use der_lines::{Style, push_document, push_label};
 use der_names::Names;
 use der_rows::{Look, Printer};
 use std::alloc::Global;

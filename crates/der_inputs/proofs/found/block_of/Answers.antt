@@ -1,6 +1,6 @@
 -- For `found::block_of`: what it returns is right.
 use Rattle.std.proofs.Common.{inr, subst}
-use Rattle.der_lines.specs.Seek.{HasNoBlockAt}
+use Rattle.der_elements.specs.Seek.{HasNoBlockAt}
 use Rattle.der_inputs.proofs.found.block_of.Goals as goal
 
 pub returns : goal.returns

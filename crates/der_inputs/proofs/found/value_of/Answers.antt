@@ -3,7 +3,7 @@ use Rattle.std.specs.Prelude.{IfOk, MatchOption, Some}
 use Rattle.der_inputs.specs.Findings.{IsBlockAt}
 use Rattle.der_inputs.specs.Parts.{octets_in}
 use Rattle.der_inputs.proofs.Blocks.{if_ok, value_in}
-use Rattle.der_lines.specs.StringOctets.{HoldsNoOctets, HoldsOctets}
+use Rattle.der_elements.specs.StringOctets.{HoldsNoOctets, HoldsOctets}
 use Rattle.der_inputs.proofs.found.value_of.Goals as goal
 
 pub returns-in-Ok : goal.returns-in-Ok

@@ -1,6 +1,6 @@
 -- For `sources::push_sources`: what each turn of its loop keeps.
 use Rattle.std.proofs.Common.{◌≡◌, drop, map, take}
-use Rattle.der_lines.specs.Dump.{Adds}
+use Rattle.der_pieces.specs.Texts.{Adds}
 use Rattle.der_inputs.specs.Inputs.{AreReadToEnds, IsInputText, input_of}
 use Rattle.der_inputs.specs.Parts.{wanted_of}
 use Rattle.der_inputs.specs.Texts.{AreTexts}

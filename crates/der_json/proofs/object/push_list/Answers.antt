@@ -3,7 +3,7 @@ use Rattle.std.proofs.Common.{[], append-nil, arith, map, refl, subst, sym, â—Œâ
 use Rattle.std.proofs.lemmas.List.{take_all}
 use Rattle.der_json.specs.Json.{rule_json}
 use Rattle.der_json.specs.Rows.{texts}
-use Rattle.der_lines.specs.Marks.{told_of}
+use Rattle.der_pieces.specs.Marks.{told_of}
 use Rattle.der_json.proofs.Arrays.{all_texts, one_read}
 use Rattle.der_json.proofs.Members.{put_same}
 use Rattle.der_json.proofs.object.push_list.Goals as goal

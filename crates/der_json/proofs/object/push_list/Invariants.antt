@@ -2,7 +2,7 @@
 use Rattle.std.proofs.Common.{◌≡◌, ◌++◌, false, map, take}
 use Rattle.der_json.specs.Json.{rule_json}
 use Rattle.der_json.specs.Rows.{texts}
-use Rattle.der_lines.specs.Marks.{are_some, told_of}
+use Rattle.der_pieces.specs.Marks.{are_some, told_of}
 use Rattle.der_json.proofs.object.push_list.Given as goal
 
 -- the objects of those before this one are put

@@ -2,7 +2,7 @@
 use Rattle.std.proofs.Common.{◌≡◌, ◌++◌, ◌<◌, ◌∙◌, ap, append-nil, arith, length, map, sym}
 use Rattle.std.proofs.lemmas.Grind.{common_steps}
 use Rattle.std.proofs.lemmas.List.{length-map}
-use Rattle.der_lines.specs.Marks.{told_of}
+use Rattle.der_pieces.specs.Marks.{told_of}
 use Rattle.der_json.proofs.Members.{no_rules, rules_put}
 use Rattle.der_json.proofs.object.push_rules.Goals as goal
 

@@ -4,8 +4,8 @@ use Rattle.std.proofs.lemmas.List.{append-nil}
 use Rattle.std.specs.Prelude.{None, Some}
 use Rattle.der_json.specs.Json.{AreInside, AreRows, items_of, row_json}
 use Rattle.der_json.specs.Rows.{IsNestedJson, blocks_text, first_members, found_marks, last_members, told_marks}
-use Rattle.der_lines.specs.Pieces.{Passes}
-use Rattle.der_lines.specs.Steps.{IsAhead}
+use Rattle.der_pieces.specs.Pieces.{Passes}
+use Rattle.der_pieces.specs.Steps.{IsAhead}
 use Rattle.der_json.proofs.Members.{blocks_put, object_text, put_after}
 use Rattle.der_json.proofs.Walk.{rows_all, rows_more, rows_none}
 use Rattle.der_json.proofs.rows.+rows.Goals as goal

@@ -1,6 +1,6 @@
 -- For the cycle `rows` of `rows`: what each turn of its loop keeps and what grows less, so that it ends.
 use Rattle.std.proofs.Common.{◌+◌, ◌*◌}
-use Rattle.der_lines.specs.Steps.{to_go}
+use Rattle.der_elements.specs.Steps.{to_go}
 use Rattle.der_json.proofs.Walk.{RowsTo}
 use Rattle.der_json.proofs.rows.+rows.Given as goal
 

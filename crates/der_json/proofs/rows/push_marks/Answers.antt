@@ -3,8 +3,8 @@ use Rattle.std.proofs.Common.{◌≡◌, ◌+◌, ◌<◌, ◌++◌, ◌∷◌, 
 use Rattle.std.proofs.lemmas.List.{map-append, take_all, take_more}
 use Rattle.der_json.specs.Json.{marks_at}
 use Rattle.der_json.specs.Rows.{departed_of, told_marks}
-use Rattle.der_lines.specs.Marks.{told_of}
-use Rattle.der_lines.specs.declared.marks.ToldRule.{ToldRule}
+use Rattle.der_pieces.specs.Marks.{told_of}
+use Rattle.der_pieces.specs.declared.marks.ToldRule.{ToldRule}
 use Rattle.der_json.specs.declared.rows.Departure.{Departure}
 use Rattle.der_json.proofs.rows.push_marks.Goals as goal
 

@@ -2,7 +2,7 @@
 use Rattle.std.proofs.Common.{◌≡◌, ◌++◌, map, take}
 use Rattle.der_json.specs.Json.{marks_at}
 use Rattle.der_json.specs.Rows.{told_marks}
-use Rattle.der_lines.specs.Marks.{told_of}
+use Rattle.der_pieces.specs.Marks.{told_of}
 use Rattle.der_json.proofs.rows.push_marks.Given as goal
 
 -- those before this one are kept

@@ -2,7 +2,7 @@
 use Rattle.std.proofs.Common.{◌≡◌, ◌++◌, false, take}
 use Rattle.der_json.specs.Json.{departed_json}
 use Rattle.der_json.specs.Rows.{texts, told_marks}
-use Rattle.der_lines.specs.Marks.{are_some}
+use Rattle.der_pieces.specs.Marks.{are_some}
 use Rattle.der_json.proofs.strict.push_list.Given as goal
 
 -- the objects of those before this one are put

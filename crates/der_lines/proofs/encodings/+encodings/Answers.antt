@@ -3,11 +3,13 @@ use Rattle.std.proofs.Common.{◌≡◌, ◌+◌, [], ap, arith, refl, subst, sy
 use Rattle.std.specs.Prelude.{None}
 use Rattle.der_lines.specs.Dump.{no_lines, no_more}
 use Rattle.std.proofs.lemmas.Result.{IfOk-weaker}
-use Rattle.der_lines.specs.Pieces.{IsPieceDump, Passes, kind_header, row_faults}
-use Rattle.der_lines.specs.Steps.{IsAhead, earlier_fault, mark_offsets}
+use Rattle.der_lines.specs.PieceRows.{IsPieceDump, row_faults}
+use Rattle.der_pieces.specs.Pieces.{Passes, kind_header}
+use Rattle.der_pieces.specs.Steps.{IsAhead}
+use Rattle.der_lines.specs.Steps.{earlier_fault, mark_offsets}
 use Rattle.der_rows.proofs.Printed.{printed_as, printed_both, printed_none}
 use Rattle.der_lines.proofs.Fronts.{ShownTo, shown_all, shown_more, shown_none}
-use Rattle.der_lines.proofs.Pieces.{nested_adds}
+use Rattle.der_lines.proofs.Fronts.{nested_adds}
 use Rattle.der_lines.proofs.encodings.+encodings.Goals as goal
 
 pub push_encodings-loop-walk-init : goal.push_encodings-loop-walk-init

@@ -1,7 +1,8 @@
 -- For the cycle `encodings` of `encodings`: what each turn of its loop keeps and what grows less, so that it ends.
 use Rattle.std.proofs.Common.{◌+◌, ◌*◌}
 use Rattle.der_rows.specs.Printing.{IsPrinted}
-use Rattle.der_lines.specs.Steps.{mark_offsets, to_go}
+use Rattle.der_lines.specs.Steps.{mark_offsets}
+use Rattle.der_elements.specs.Steps.{to_go}
 use Rattle.der_lines.proofs.Fronts.{ShownTo}
 use Rattle.der_lines.proofs.encodings.+encodings.Given as goal
 

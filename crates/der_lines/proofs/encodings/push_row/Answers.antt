@@ -1,9 +1,10 @@
 -- For `encodings::push_row`: what it returns is right.
 use Rattle.std.proofs.Common.{◌≡◌, ◌∙◌, ◌∷◌, [], ◌++◌, ap, refl, subst, sym}
 use Rattle.std.specs.Option.{is_some}
-use Rattle.der_lines.specs.Dump.{is_too_deep}
-use Rattle.der_lines.specs.Marks.{mark_text, told_rules}
-use Rattle.der_lines.specs.Pieces.{shown_front}
+use Rattle.der_pieces.specs.Fronts.{is_too_deep}
+use Rattle.der_lines.specs.MarkText.{mark_text}
+use Rattle.der_pieces.specs.Marks.{told_rules}
+use Rattle.der_lines.specs.PieceRows.{shown_front}
 use Rattle.der_lines.proofs.Dumps.{nothing_deep, row_line_of, row_printed}
 use Rattle.der_rows.specs.Printing.{Prints}
 use Rattle.der_rows.specs.Rows.{row_line}

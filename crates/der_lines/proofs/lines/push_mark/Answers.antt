@@ -2,7 +2,8 @@
 use Rattle.std.proofs.Common.{◌≡◌, ◌++◌, ◌<◌, ◌∙◌, ap, append-nil, arith, false, length, map, sym}
 use Rattle.std.proofs.lemmas.Grind.{common_steps}
 use Rattle.std.proofs.lemmas.List.{length-map}
-use Rattle.der_lines.specs.Marks.{mark_text, told_of, words_text}
+use Rattle.der_lines.specs.MarkText.{mark_text, words_text}
+use Rattle.der_pieces.specs.Marks.{told_of}
 use Rattle.der_lines.proofs.Dumps.{mark_put, no_mark}
 use Rattle.der_lines.proofs.lines.push_mark.Goals as goal
 

@@ -1,7 +1,7 @@
 -- For `show::Show::push_all`: what each turn of its loop keeps.
 use Rattle.std.proofs.Common.{◌≡◌, List, map, take}
 use Rattle.std.specs.Option.{option_map}
-use Rattle.der_lines.specs.Dump.{Adds}
+use Rattle.der_pieces.specs.Texts.{Adds}
 use Rattle.der_inputs.specs.Inputs.{IsFindingText}
 use Rattle.der_inputs.specs.Outcomes.{all_read}
 use Rattle.der_inputs.specs.Parts.{finding_in, wanted_of}

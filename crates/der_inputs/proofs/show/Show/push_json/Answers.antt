@@ -4,7 +4,7 @@ use Rattle.std.proofs.lemmas.Grind.{common_steps}
 use Rattle.std.specs.Prelude.{IfOk}
 use Rattle.std.specs.Option.{option_map}
 use Rattle.std.specs.Str.Lossy.{utf8_lossy}
-use Rattle.der_lines.specs.Dump.{Adds}
+use Rattle.der_pieces.specs.Texts.{Adds}
 use Rattle.der_inputs.specs.Json.{IsFoundJson}
 use Rattle.der_inputs.specs.Parts.{finding_in, octets_in}
 use Rattle.der_json.specs.Json.{origin_members}

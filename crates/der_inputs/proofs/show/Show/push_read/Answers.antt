@@ -1,6 +1,6 @@
 -- For `show::Show::push_read`: what it returns is right.
 use Rattle.std.proofs.Common.{subst, sym}
-use Rattle.der_lines.specs.Dump.{Adds}
+use Rattle.der_pieces.specs.Texts.{Adds}
 use Rattle.der_inputs.specs.Json.{IsOctetsJson}
 use Rattle.der_json.specs.Json.{told_of}
 use Rattle.der_inputs.proofs.Lower.{read_pushed, strictly_pushed}

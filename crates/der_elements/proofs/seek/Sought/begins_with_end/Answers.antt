@@ -1,0 +1,11 @@
+-- For `seek::Sought::begins_with_end`: what it returns is right.
+use Rattle.std.proofs.Common.{◌∙◌}
+use Rattle.der_elements.proofs.Seeking.{ends_none, ends_some}
+use Rattle.der_elements.proofs.seek.Sought.begins_with_end.Goals as goal
+
+pub returns-then-self-gt0 : goal.returns-then-self-gt0
+returns-then-self-gt0 c =
+    c.begins_with_end.ensures ∙ ends_some c.args.self.depth c.args.self.octets.now c.if-self-gt0.true
+
+pub returns-else-self-gt0 : goal.returns-else-self-gt0
+returns-else-self-gt0 c = ends_none c.args.self.depth c.args.self.octets.now c.if-self-gt0.false

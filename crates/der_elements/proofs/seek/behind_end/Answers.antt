@@ -1,0 +1,20 @@
+-- For `seek::behind_end`: what it returns is right (`found`), `split_at` may be called, and no sum or product is too
+-- large.
+use Rattle.std.proofs.Common.{◌≡◌, ◌+◌, ◌-◌, suc, arith}
+use Rattle.der_elements.specs.Seek.{behind_end}
+use Rattle.der_elements.proofs.Seeking.{ended_is}
+use Rattle.der_elements.proofs.seek.behind_end.Goals as goal
+
+pub split_at-requires : goal.split_at-requires
+split_at-requires c = (ended_is c.args.sought.depth c.args.sought.octets.now c.requires.end).2
+
+pub overflow_sub-result-2 : goal.overflow_sub-result-2
+overflow_sub-result-2 c = (ended_is c.args.sought.depth c.args.sought.octets.now c.requires.end).0
+
+pub returns-clause-found : goal.returns-clause-found
+returns-clause-found c =
+    let sought = c.args.sought in
+    let (some, ends, two) = ended_is sought.depth sought.octets.now c.requires.end in
+    let around : sought.depth ≡ suc (sought.depth - 1) = omega (arith, some) in
+    let later : sought.distance ≡ 2 + (sought.distance - 2) = omega arith in
+    behind_end around ends c.split_at.ensures.back later

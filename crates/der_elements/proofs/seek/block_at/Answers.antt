@@ -1,0 +1,56 @@
+-- For `seek::block_at`: its loop keeps its invariant and what it returns is right (`none`, `why`, `found`).
+use Rattle.std.proofs.Common.{◌≡◌, arith}
+use Rattle.der_elements.specs.SeekSteps.{LeadsNowhere, LeadsOn}
+use Rattle.der_elements.proofs.Seeking.{found_at, if_ok, none_at, reaches_nowhere, reaches_there, why_at}
+use Rattle.der_elements.proofs.seek.block_at.Goals as goal
+
+pub loop-sought-preserved : goal.loop-sought-preserved
+loop-sought-preserved c around others =
+    let sought = c.loop-sought.sought in
+    let nearer = c.in-Some.nearer in
+    let leads : LeadsOn sought nearer = rw c.in-Some.is at c.in_ok-nearer.ensures.found in
+    let next =
+    reaches_there sought.depth sought.octets.now sought.distance nearer.depth nearer.octets.now nearer.distance
+    c.loop-sought-test.true leads around others in
+    let same = c.loop-sought.invariant around others in
+    (λ h. next.0 (same.0 h), λ h. same.1 (next.1 h))
+
+pub returns-in_default-clause-none : goal.returns-in_default-clause-none
+returns-in_default-clause-none c block h =
+    let sought = c.loop-sought.sought in
+    let none : LeadsNowhere sought = rw c.in_default.is at c.in_ok-nearer.ensures.found in
+    reaches_nowhere sought.depth sought.octets.now sought.distance c.loop-sought-test.true none h.around h.others
+    ((c.loop-sought.invariant h.around h.others).0 h.reached)
+
+pub returns-in_default-clause-why : goal.returns-in_default-clause-why
+returns-in_default-clause-why c around others h =
+    let sought = c.loop-sought.sought in
+    let none : LeadsNowhere sought = rw c.in_default.is at c.in_ok-nearer.ensures.found in
+    absurd (reaches_nowhere sought.depth sought.octets.now sought.distance c.loop-sought-test.true none around others
+    ((c.loop-sought.invariant around others).0 h))
+
+pub returns-clause-found : goal.returns-clause-found
+returns-clause-found c =
+    let sought = c.loop-sought.sought in
+    let here : sought.distance ≡ 0 = omega (arith, c.loop-sought-test.false) in
+    if_ok c.block_here.result
+    (found_at c.args.octets.now sought.octets.now c.args.offset sought.depth sought.distance here
+    c.loop-sought.invariant)
+    c.block_here.ensures
+
+pub returns-clause-none : goal.returns-clause-none
+returns-clause-none c =
+    let sought = c.loop-sought.sought in
+    let here : sought.distance ≡ 0 = omega (arith, c.loop-sought-test.false) in
+    if_ok c.block_here.result
+    (none_at c.args.octets.now sought.octets.now c.args.offset sought.depth sought.distance here
+    c.loop-sought.invariant)
+    c.block_here.ensures
+
+pub returns-clause-why : goal.returns-clause-why
+returns-clause-why c =
+    let sought = c.loop-sought.sought in
+    let here : sought.distance ≡ 0 = omega (arith, c.loop-sought-test.false) in
+    if_ok c.block_here.result
+    (why_at c.args.octets.now sought.octets.now c.args.offset sought.depth sought.distance here c.loop-sought.invariant)
+    c.block_here.ensures

@@ -1,9 +1,0 @@
--- For `strings::join`: what it returns is right (`refused`).
-use Rattle.std.proofs.Common.{◌≡◌, rules}
-use Rattle.der_lines.proofs.Segments.{no_bits}
-use Rattle.der_lines.proofs.strings.join.Goals as goal
-
-pub returns-then-tag-eq-BIT_STRING-clause-refused : goal.returns-then-tag-eq-BIT_STRING-clause-refused
-returns-then-tag-eq-BIT_STRING-clause-refused c =
-    let three : c.args.tag ≡ 3 = search rules in
-    no_bits c.join_bits.result c.args.tag c.args.joined.now.items c.args.segment.now three c.join_bits.ensures.refused

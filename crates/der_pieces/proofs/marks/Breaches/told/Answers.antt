@@ -1,0 +1,10 @@
+-- For `marks::Breaches::told`: what it returns is right.
+use Rattle.std.proofs.Common.{◌++◌, ◌∙◌, ap, map}
+use Rattle.der_pieces.specs.Marks.{rule_told, spare_if}
+use Rattle.der_pieces.proofs.marks.Breaches.told.Goals as goal
+
+pub returns : goal.returns
+returns c =
+    let spare = spare_if c.args.self.now.has_spare_bits in
+    c.in_ok-push_spare.ensures
+    ∙ ap (λ z. z ++ spare) (c.in_ok-told.ensures ∙ ap (map rule_told) c.deref.ensures.value)

@@ -1,0 +1,25 @@
+-- For `piece::leaf`: what it returns is right.
+use Rattle.std.proofs.Common.{refl}
+use Rattle.der_pieces.proofs.Pieces.{leaf_judged, whole_rules, whole_starts}
+use Rattle.der_pieces.proofs.piece.leaf.Goals as goal
+
+pub returns : goal.returns
+returns c =
+    let r = c.requires in
+    let left = c.args.left.now in
+    let offset = c.args.offset in
+    let header = c.args.header in
+    let rules = c.in_ok-breaches.breaches.rules.items in
+    let first = whole_rules left header rules r.whole c.in_ok-breaches.ensures.rules in
+    let read = c.in_ok-meaning.ensures r.front in
+    record {
+      starts = λ depth. whole_starts left offset depth rules header c.size_of.result c.step_of-step.result _ r.front
+          r.form
+          (leaf_judged left offset depth rules header c.in_ok-meaning.field-0.meaning _ r.front r.whole r.closed read)
+          first c.step_of-step.ensures c.size_of.ensures;
+      kind = (r.front, r.whole, r.closed, refl, read);
+      offset_is = refl;
+      place_is = refl;
+      holding = c.in_ok-nested.ensures;
+      no_list = c.in_ok-breaches.ensures.spare;
+    }

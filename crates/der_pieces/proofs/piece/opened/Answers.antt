@@ -1,0 +1,25 @@
+-- For `piece::opened`: what it returns is right.
+use Rattle.std.proofs.Common.{ap, refl, slice_range}
+use Rattle.der_pieces.proofs.Pieces.{opened_judged, whole_rules, whole_starts}
+use Rattle.der_pieces.proofs.piece.opened.Goals as goal
+
+pub returns : goal.returns
+returns c =
+    let r = c.requires in
+    let left = c.args.left.now in
+    let offset = c.args.offset in
+    let header = c.args.header in
+    let rules = c.in_ok-breaches.breaches.rules.items in
+    let first = whole_rules left header rules r.whole c.in_ok-breaches.ensures.rules in
+    let fault = c.in_ok-fault.ensures r.front in
+    record {
+      starts = λ depth. whole_starts left offset depth rules header c.size_of-size.result c.step_of-step.result _
+          r.front
+          r.form (opened_judged left offset depth rules header _ r.front r.whole r.opened fault) first
+          c.step_of-step.ensures c.size_of-size.ensures;
+      kind = (r.front, r.whole, r.opened, ap (λ z. slice_range left header.size z) c.size_of-size.ensures, fault);
+      offset_is = refl;
+      place_is = refl;
+      holding = tt;
+      no_list = c.in_ok-breaches.ensures.spare;
+    }

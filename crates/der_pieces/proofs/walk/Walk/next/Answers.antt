@@ -1,0 +1,55 @@
+-- For `walk::Walk::next`: what it returns is right.
+use Rattle.std.proofs.Common.{◌∙◌, ◌<◌, ◌≤◌, ◌+◌, ap, arith, length, refl, subst, sym}
+use Rattle.der_pieces.specs.Fronts.{StandAt}
+use Rattle.der_pieces.specs.Pieces.{IsHolding, IsKind, fault_offset, front_of}
+use Rattle.der_elements.specs.Steps.{to_go}
+use Rattle.der_pieces.proofs.Walks.{ahead_back, ahead_none, next_takes, step_goes}
+use Rattle.der_elements.proofs.Cursors.{depth_is, left_less, step_kept, step_less}
+use Rattle.der_pieces.proofs.Walks.{left_stands}
+use Rattle.der_pieces.proofs.walk.Walk.next.Goals as goal
+
+pub returns-in_default : goal.returns-in_default
+returns-in_default c =
+    ahead_none c.args.self.now.cursor c.next.new.self c.next.ensures.octets c.next.ensures.offset c.next.ensures.ended
+    c.in_default.ensures.none
+
+pub returns : goal.returns
+returns c =
+    let k = c.args.self.now.cursor in
+    let m = c.next.new.self in
+    let n = c.go.new.self in
+    let e = c.in-Some.ensures in
+    let left = c.in-Some.left in
+    let at = e.left in
+    let levels = length at.around in
+    let h = c.in_ok-place.ensures in
+    let piece = c.in_ok-piece.piece in
+    let p = c.in_ok-piece.ensures in
+    let goes = c.in_ok-go.ensures in
+    let f = front_of levels piece in
+    let own = fault_offset piece.fault in
+    let starts = p.starts levels in
+    let less : to_go n < to_go m =
+    step_less m n left piece.step at (next_takes m.offset levels left f piece.step own starts) goes in
+    let no_more : to_go m ≤ to_go k = left_less k m e.octets e.offset e.ended in
+    let position = left_stands m.octets.now left.octets.now m.offset at.end.offset at.octets_are in
+    record {
+      levels = levels;
+      left = left.octets.now;
+      ahead = λ later more ahead. ahead_back k m _ _ e.octets e.offset e.ended
+          (step_goes m n left f piece.step own later more at starts goes ahead);
+      position = subst (λ z. StandAt k.octets.now z left.octets.now) (sym p.offset_is)
+          (subst (λ z. StandAt z m.offset left.octets.now) e.octets position);
+      kind = subst (λ z. IsKind left.octets.now z piece.kind piece.fault) (sym p.offset_is) p.kind;
+      inside = ap (λ z. z.is_inside) p.place_is ∙ h.same;
+      base = ap (λ z. z.base) p.place_is ∙ h.base;
+      depth = ap (λ z. z.depth) p.place_is ∙ (h.depth
+          ∙ ap (λ z. c.args.self.now.place.depth + z) (c.depth-depth.ensures ∙ depth_is m left at));
+      documents = ap (λ z. z.documents) p.place_is ∙ h.documents;
+      most = ap (λ z. z.most_depth) p.place_is ∙ h.most;
+      holding = subst (λ z. IsHolding left.octets.now piece.kind z piece.nested) (sym p.place_is) p.holding;
+      no_list = λ out. p.no_list (sym (ap (λ z. z.is_inside) p.place_is) ∙ out);
+      less = omega (arith, less, no_more);
+      same_octets = step_kept m n piece.step goes ∙ e.octets;
+      same_place = refl;
+    }

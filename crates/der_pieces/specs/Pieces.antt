@@ -1,0 +1,188 @@
+-- The pieces in which octets are gone over: encodings, end-of-contents octets, and octets that begin with no header.
+-- Private contracts alone name these.
+use Rattle.std.specs.Prelude.{◌≡◌, ◌⊎◌, ℕ, ◌+◌, ◌<◌, ◌≤◌, Bool, true, false, List, [], ◌∷◌, ◌++◌, codes, drop, length, IfSome, MatchOption, Option, None, Some, option_map, slice_range}
+use Rattle.asn1_departures.specs.declared.rule.Rule.{Rule}
+use Rattle.asn1_headers.specs.Fault.{DecodeFault, incomplete}
+use Rattle.asn1_headers.specs.Front.{IsAtFront}
+use Rattle.asn1_headers.specs.Header.{Encoding}
+use Rattle.asn1_headers.specs.Names.{fault_name}
+use Rattle.asn1_headers.specs.declared.front.Header.{Header}
+use Rattle.asn1_headers.specs.declared.header.ASN1Class.{ASN1Class}
+use Rattle.asn1_headers.specs.declared.header.ASN1Class.TheVariants.{Universal}
+use Rattle.asn1_blocks.specs.Contents.{LeafFault}
+use Rattle.asn1_blocks.specs.Grammar.{Encodes}
+use Rattle.asn1_blocks.specs.Tree.{Tree}
+use Rattle.der_pieces.specs.Fronts.{Front, IsBerTime, StandAt, is_wide, tag_words}
+use Rattle.der_elements.specs.Headers.{is_stray_form, is_gone_into}
+use Rattle.der_elements.specs.Ends.{taken}
+use Rattle.der_pieces.specs.Steps.{IsAhead, StartsNext, StartsWith}
+use Rattle.der_elements.specs.Steps.{to_go}
+use Rattle.der_elements.specs.declared.cursor.Left.{Left}
+use Rattle.der_elements.specs.declared.cursor.Step.{Step}
+use Rattle.der_pieces.specs.declared.faults.Fault.{Fault}
+use Rattle.der_pieces.specs.declared.leaf.Meaning.{Meaning}
+use Rattle.der_pieces.specs.declared.leaf.Meaning.TheVariants.{Nothing, Text, Time, Value}
+use Rattle.der_pieces.specs.declared.nested.Nested.{Nested}
+use Rattle.der_pieces.specs.declared.piece.Kind.{Kind}
+use Rattle.der_pieces.specs.declared.piece.Kind.TheVariants.{Cut, EndOfContents, Leaf, Opened, Unreadable}
+use Rattle.der_pieces.specs.declared.piece.Piece.{Piece}
+use Rattle.der_pieces.specs.declared.place.Place.{Place}
+use Rattle.der_pieces.specs.declared.walk.Walk.{Walk}
+
+-- the fault stands at the offset and has this name
+abbrev pub IsNamed : ℕ → DecodeFault → Fault → Type 0
+IsNamed offset found fault =
+    (fault.offset ≡ offset) × (option_map (λ t. t.now) fault.code ≡ Some (fault_name found))
+
+-- there is one, which is so
+abbrev pub IsFault : (Fault → Type 0) → Option Fault → Type 0
+IsFault Is told = MatchOption told ⊥ Is
+
+-- it has no name
+abbrev pub IsNameless : ℕ → Fault → Type 0
+IsNameless offset fault = (fault.offset ≡ offset) × (fault.code ≡ None)
+
+-- the offset of what is wrong, if anything is
+abbrev pub fault_offset : Option Fault → List ℕ
+fault_offset None = []
+fault_offset (Some fault) = fault.offset ∷ []
+
+-- contents octets of an encoding with these fields mean a block
+abbrev pub IsRight : ASN1Class → Bool → ℕ → List ℕ → Type 0
+IsRight class constructed tag contents =
+    (octets : List ℕ) (header : ℕ) → Encoding octets class constructed tag contents header
+    → (b : Tree ℕ) × Encodes 0 octets b
+
+-- what contents octets of an encoding with these fields mean, and what is wrong with them, at the offset
+abbrev pub IsMeaning : ASN1Class → Bool → ℕ → List ℕ → ℕ → Meaning → Option Fault → Type 0
+IsMeaning class constructed tag contents offset (Text form text) fault = (is_wide class tag ≡ true) × (fault ≡ None)
+IsMeaning class constructed tag contents offset (Time text) fault = IsBerTime class tag contents × (fault ≡ None)
+IsMeaning class constructed tag contents offset Value fault = IsRight class constructed tag contents × (fault ≡ None)
+IsMeaning class constructed tag contents offset Nothing fault =
+    (class ≡ Universal)
+    × ((found : DecodeFault) × LeafFault tag contents found × IsFault (IsNamed offset found) fault)
+
+-- so of the encoding that is not gone into, with the header, which begins the octets and stands at the offset. These
+-- octets stand behind its identifier octets
+abbrev pub IsLeafMeaning : List ℕ → Header → List ℕ → ℕ → Meaning → Option Fault → Type 0
+IsLeafMeaning left header behind offset meaning fault =
+    ((is_stray_form header.constructed behind ≡ true) × (meaning ≡ Nothing) × IsFault (IsNameless offset) fault)
+    ⊎ ((is_stray_form header.constructed behind ≡ false)
+    × IsMeaning header.class header.constructed header.tag
+    (slice_range left header.size (header.size + header.announced)) offset meaning fault)
+
+-- what is wrong with one that is gone into
+abbrev pub IsOpenedFault : Bool → ℕ → Option Fault → Type 0
+IsOpenedFault stray offset fault =
+    ((stray ≡ true) × IsFault (IsNameless offset) fault) ⊎ ((stray ≡ false) × (fault ≡ None))
+
+-- this begins the octets, which stand at the offset, and this is wrong with it
+abbrev pub IsKind : List ℕ → ℕ → Kind → Option Fault → Type 0
+IsKind left offset (EndOfContents size) fault =
+    ((size ≡ 2) × (fault ≡ None)) ⊎ ((size ≡ 0) × IsFault (IsNamed offset incomplete) fault)
+IsKind left offset (Unreadable octets) fault =
+    (octets.now ≡ left) × ((found : DecodeFault) × IsFault (IsNamed offset found) fault)
+IsKind left offset (Cut header contents) fault =
+    IsAtFront left header × (length left < header.size + header.announced)
+    × (contents.now ≡ drop header.size left) × IsFault (IsNamed offset incomplete) fault
+IsKind left offset (Opened header contents) fault =
+    (front : IsAtFront left header) × (header.size + header.announced ≤ length left)
+    × (is_gone_into header.class header.constructed header.tag ≡ true)
+    × (contents.now
+    ≡ slice_range left header.size (taken header.is_indefinite (header.size + header.announced) (length left)))
+    × IsOpenedFault (is_stray_form header.constructed (drop (length front.identifier) left)) offset fault
+IsKind left offset (Leaf header contents meaning) fault =
+    (front : IsAtFront left header) × (header.size + header.announced ≤ length left)
+    × (is_gone_into header.class header.constructed header.tag ≡ false)
+    × (contents.now ≡ slice_range left header.size (header.size + header.announced))
+    × IsLeafMeaning left header (drop (length front.identifier) left) offset meaning fault
+
+-- how many octets its header has, or end-of-contents octets
+abbrev pub kind_header : Kind → ℕ
+kind_header (EndOfContents size) = size
+kind_header (Unreadable octets) = 0
+kind_header (Cut header contents) = header.size
+kind_header (Opened header contents) = header.size
+kind_header (Leaf header contents meaning) = header.size
+
+-- how many contents octets it announces, or has
+abbrev pub kind_contents : Kind → ℕ
+kind_contents (EndOfContents size) = 0
+kind_contents (Unreadable octets) = length octets.now
+kind_contents (Cut header contents) = header.announced
+kind_contents (Opened header contents) = header.announced
+kind_contents (Leaf header contents meaning) = header.announced
+
+-- whether its length is of the indefinite form
+abbrev pub kind_indefinite : Kind → Bool
+kind_indefinite (EndOfContents size) = false
+kind_indefinite (Unreadable octets) = false
+kind_indefinite (Cut header contents) = header.is_indefinite
+kind_indefinite (Opened header contents) = header.is_indefinite
+kind_indefinite (Leaf header contents meaning) = header.is_indefinite
+
+-- what it is in words
+abbrev pub kind_words : Kind → List ℕ
+kind_words (EndOfContents size) = codes "end-of-contents"
+kind_words (Unreadable octets) = codes "unreadable"
+kind_words (Cut header contents) = tag_words header.class header.tag
+kind_words (Opened header contents) = tag_words header.class header.tag
+kind_words (Leaf header contents meaning) = tag_words header.class header.tag
+
+-- what the line of a piece of the kind begins with, at the offset, inside so many encodings
+abbrev pub kind_front : ℕ → ℕ → List Rule → Bool → Kind → Front
+kind_front offset depth rules spare kind = record {
+  offset = offset;
+  header = kind_header kind;
+  contents = kind_contents kind;
+  indefinite = kind_indefinite kind;
+  depth = depth;
+  words = kind_words kind;
+  rules = rules;
+  has_spare_bits = spare;
+}
+
+-- so in the octets that it is a piece of, by which no list of named bits is told
+abbrev pub front_of : ℕ → Piece → Front
+front_of depth piece = kind_front piece.offset depth piece.breaches.rules.items false piece.kind
+
+-- encodings inside its contents octets
+abbrev pub IsHolding : List ℕ → Kind → Place → Option Nested → Type 0
+IsHolding left kind place nested =
+    IfSome nested (λ n. (0 < place.documents)
+    × StandAt (slice_range left (kind_header kind) (kind_header kind + kind_contents kind)) n.before n.octets.now)
+
+-- the piece begins octets that stand at the offset, and starts so
+pub record IsPieceAs (Starts : ℕ → Front → Step → List ℕ → Type 0) (left : List ℕ) (offset : ℕ) (place : Place)
+    (piece : Piece) : Type 0 where
+  pub starts : (depth : ℕ) → Starts depth (front_of depth piece) piece.step (fault_offset piece.fault)
+  pub kind : IsKind left offset piece.kind piece.fault
+  pub offset_is : piece.offset ≡ offset
+  pub place_is : piece.place ≡ place
+  pub holding : IsHolding left piece.kind place piece.nested
+  pub no_list : place.is_inside ≡ false → piece.breaches.has_spare_bits ≡ false
+
+abbrev pub IsFirstPiece : List ℕ → ℕ → Place → Piece → Type 0
+IsFirstPiece left offset = IsPieceAs (StartsWith left offset) left offset
+
+abbrev pub IsPiece : Left → ℕ → Place → Piece → Type 0
+IsPiece left offset = IsPieceAs (StartsNext left offset) left.octets.now offset
+
+-- a walk came from one place to the next by the piece
+pub record Passes (old new : Walk) (piece : Piece) : Type 0 where
+  pub levels : ℕ
+  pub left : List ℕ
+  pub ahead : (later : List Front) (more : List ℕ) → IsAhead new.cursor later more
+      → IsAhead old.cursor (front_of levels piece ∷ later) (fault_offset piece.fault ++ more)
+  pub position : StandAt old.cursor.octets.now piece.offset left
+  pub kind : IsKind left piece.offset piece.kind piece.fault
+  pub inside : piece.place.is_inside ≡ old.place.is_inside
+  pub base : piece.place.base ≡ old.place.base
+  pub depth : piece.place.depth ≡ old.place.depth + levels
+  pub documents : piece.place.documents ≡ old.place.documents
+  pub most : piece.place.most_depth ≡ old.place.most_depth
+  pub holding : IsHolding left piece.kind piece.place piece.nested
+  pub no_list : piece.place.is_inside ≡ false → piece.breaches.has_spare_bits ≡ false
+  pub less : to_go new.cursor < to_go old.cursor
+  pub same_octets : new.cursor.octets.now ≡ old.cursor.octets.now
+  pub same_place : new.place ≡ old.place

@@ -1,0 +1,187 @@
+// What of DER an encoding breaks, and how the mark at the end of its line says it.
+ghost use Rattle.std.specs.Prelude.{◌≡◌, ◌++◌, ◌∷◌, ◌+◌, ◌<◌, ◌≤◌, [], IfOk, OnOk, false, length, map};
+ghost use Rattle.asn1_headers.specs.Front.{IsAtFront};
+ghost use Rattle.der_pieces.specs.Marks.{name_of as name_of_is, rule_told as rule_told_is, spare_if, told_of, told_rules, spare_told as spare_told_is};
+ghost use Rattle.der_pieces.specs.Steps.{AreRulesFound};
+
+use crate::place::Place;
+use asn1_departures::{Rule, broken_rules};
+use asn1_headers::front::Header;
+use der_values::{NamedBits, Role};
+use std::alloc::{AllocError, Global};
+
+// What of DER an encoding breaks.
+#[derive(Drop)]
+pub struct Breaches {
+    // the rules of the library that it breaks by itself
+    pub rules: Vec<Rule>,
+    // whether it is a list of named bits that ends with a 0, as far as an extension tells that it is such a list
+    pub has_spare_bits: bool,
+}
+
+// What is told of a rule that is broken.
+#[derive(Clone, Copy, Drop)]
+pub struct ToldRule {
+    // the rule's name in a program
+    pub name: &'static str,
+    // the clauses that say it
+    pub section: &'static str,
+    // what is wrong
+    pub text: &'static str,
+}
+
+impl Breaches {
+    // Of what breaks nothing.
+    pub fn none(alloc: Global) -> Breaches
+        ensures rules { result.rules.items ≡ [] }
+        ensures spare { result.has_spare_bits ≡ false }
+    {
+        Breaches {
+            rules: Vec::new(alloc),
+            has_spare_bits: false,
+        }
+    }
+
+    // What is told of each.
+    pub fn told(&self, alloc: Global) -> Result<Vec<ToldRule>, AllocError>
+        ensures { IfOk result (λ told. map told_of told.items
+            ≡ told_rules self.now.rules.items self.now.has_spare_bits) }
+    {
+        let mut told = rules_told(alloc, &self.rules)?;
+        push_spare(self.has_spare_bits, &mut told)?;
+        Ok(told)
+    }
+}
+
+fn rules_told(alloc: Global, rules: &[Rule]) -> Result<Vec<ToldRule>, AllocError>
+    ensures { IfOk result (λ told. map told_of told.items ≡ map rule_told_is rules.now) }
+{
+    let mut told = Vec::new(alloc);
+    for rule in rules {
+        told.push(rule_told(*rule))?;
+    }
+    Ok(told)
+}
+
+fn push_spare(is_spare: bool, told: &mut Vec<ToldRule>) -> Result<(), AllocError>
+    ensures { OnOk result (map told_of told.new.items ≡ map told_of told.old.items ++ spare_if is_spare) }
+{
+    if is_spare {
+        push_told(spare_told(), told)
+    } else {
+        Ok(())
+    }
+}
+
+fn push_told(rule: ToldRule, told: &mut Vec<ToldRule>) -> Result<(), AllocError>
+    ensures { OnOk result (map told_of told.new.items ≡ map told_of told.old.items ++ told_of rule ∷ []) }
+{
+    told.push(rule)?;
+    Ok(())
+}
+
+fn rule_told(rule: Rule) -> ToldRule
+    ensures { told_of result ≡ rule_told_is rule }
+{
+    ToldRule {
+        name: name_of(rule),
+        section: rule.section(),
+        text: rule.text(),
+    }
+}
+
+fn spare_told() -> ToldRule
+    ensures { told_of result ≡ spare_told_is }
+{
+    ToldRule {
+        name: "NamedBits",
+        section: "11.2.2",
+        text: "named bits that end with 0",
+    }
+}
+
+// What of DER the whole encoding breaks that begins the octets and stands at the place.
+pub fn find_breaches(
+    alloc: Global,
+    left: &[u8],
+    header: &Header,
+    place: Place,
+) -> Result<Breaches, AllocError>
+    requires front { IsAtFront left.now header.now }
+    requires whole { header.now.size + header.now.announced ≤ length left.now }
+    ensures rules { IfOk result (λ breaches. AreRulesFound left.now header.now breaches.rules.items) }
+    ensures spare { IfOk result (λ breaches. place.is_inside ≡ false → breaches.has_spare_bits ≡ false) }
+{
+    let contents = &left[header.size..header.size + header.announced];
+    Ok(Breaches {
+        rules: broken_rules(alloc, left, header)?,
+        has_spare_bits: has_spare_bits(place, header, contents),
+    })
+}
+
+// Whether contents octets at the place are a list of named bits that ends with a 0.
+fn has_spare_bits(place: Place, header: &Header, contents: &[u8]) -> bool
+    ensures { place.is_inside ≡ false → result ≡ false }
+{
+    if !place.is_inside {
+        return false;
+    }
+    match place.role(header) {
+        Role::Bits(NamedBits::KeyUsage | NamedBits::ReasonFlags) => {
+            !header.constructed && ends_with_zero(contents)
+        }
+        _ => false,
+    }
+}
+
+// Whether the last bit of a BIT STRING is 0.
+fn ends_with_zero(contents: &[u8]) -> bool {
+    match contents {
+        [unused, octets @ ..] if *unused < 8 => has_zero(octets, *unused),
+        _ => false,
+    }
+}
+
+fn has_zero(octets: &[u8], unused: u8) -> bool
+    requires { unused < 8 }
+{
+    match octets.last() {
+        Some(octet) => *octet / (1 << unused) % 2 == 0,
+        None => false,
+    }
+}
+
+// The name of a rule in a program.
+fn name_of(rule: Rule) -> &'static str
+    ensures { result.now ≡ name_of_is rule }
+{
+    match rule {
+        Rule::LongIdentifier => "LongIdentifier",
+        Rule::PaddedTag => "PaddedTag",
+        Rule::IndefiniteLength => "IndefiniteLength",
+        Rule::LongLength => "LongLength",
+        Rule::ReservedTag => "ReservedTag",
+        Rule::NotConstructed => "NotConstructed",
+        Rule::NotPrimitive => "NotPrimitive",
+        Rule::ConstructedString => "ConstructedString",
+        Rule::BooleanSize => "BooleanSize",
+        Rule::BooleanValue => "BooleanValue",
+        Rule::NoInteger => "NoInteger",
+        Rule::PaddedInteger => "PaddedInteger",
+        Rule::BinaryReal => "BinaryReal",
+        Rule::DecimalReal => "DecimalReal",
+        Rule::SpecialReal => "SpecialReal",
+        Rule::UnusedCount => "UnusedCount",
+        Rule::UnusedOfNone => "UnusedOfNone",
+        Rule::UnusedBits => "UnusedBits",
+        Rule::NullContents => "NullContents",
+        Rule::Subidentifiers => "Subidentifiers",
+        Rule::Iri => "Iri",
+        Rule::Characters => "Characters",
+        Rule::UtcTime => "UtcTime",
+        Rule::GeneralizedTime => "GeneralizedTime",
+        Rule::Time => "Time",
+        Rule::Order => "Order",
+        Rule::NotEncodings => "NotEncodings",
+    }
+}

@@ -1,0 +1,140 @@
+// Encodings inside octets of strings.
+ghost use Rattle.std.specs.Prelude.{◌+◌, ◌<◌, ◌≤◌, IfOk, IfSome, length};
+ghost use Rattle.der_pieces.specs.Fronts.{StandAt};
+ghost use Rattle.der_elements.specs.Steps.{Takes};
+
+use crate::leaf::is_right;
+use crate::place::Place;
+use asn1_headers::front::Header;
+use der_elements::cursor::{Cursor, Left, Step};
+use der_elements::header::{holds_encodings, size_of, step_of, universal_tag, whole_header};
+use std::alloc::{AllocError, Global};
+
+// Octets of a string which are encodings, and how many contents octets stand before them.
+#[derive(Clone, Copy)]
+pub struct Nested<'a> {
+    pub octets: &'a [u8],
+    pub before: usize,
+}
+
+// The encodings inside contents octets of a string that stands at the place, if they are to be shown.
+pub fn nested_in<'a>(
+    alloc: Global,
+    header: &Header,
+    contents: &'a [u8],
+    place: Place,
+) -> Result<Option<Nested<'a>>, AllocError>
+    ensures { IfOk result (λ nested. IfSome nested (λ n.
+        (0 < place.documents) × StandAt contents.now n.before n.octets.now)) }
+{
+    if !place.shows_inside() {
+        return Ok(None);
+    }
+    match octets_inside(header, contents) {
+        Some(nested) if hold_encodings(alloc, nested.octets)? => Ok(Some(nested)),
+        _ => Ok(None),
+    }
+}
+
+// The octets of a string in which encodings may stand: those of an OCTET STRING, and of a BIT STRING without unused
+// bits.
+fn octets_inside<'a>(header: &Header, contents: &'a [u8]) -> Option<Nested<'a>>
+    ensures { IfSome result (λ h. StandAt contents.now h.before h.octets.now) }
+{
+    match (universal_tag(header), contents) {
+        (Some(4), octets) => Some(Nested { octets, before: 0 }),
+        (Some(3), [0, octets @ ..]) => Some(Nested { octets, before: 1 }),
+        _ => None,
+    }
+}
+
+// Whether octets are encodings to their end, by their headers, each of which may be of a known type; and one of them is
+// gone into, or all have a value: octets that are no encodings may look like some by chance.
+fn hold_encodings(alloc: Global, octets: &[u8]) -> Result<bool, AllocError> {
+    if octets.is_empty() {
+        return Ok(false);
+    }
+    let mut kind = Kind::Values;
+    let mut cursor = Cursor::over(alloc, octets, false)?;
+    while let Some(left) = cursor.next() {
+        let is_outermost = cursor.depth() == 0;
+        let Some(seen) = look_at(alloc, left, is_outermost, kind)? else {
+            return Ok(false);
+        };
+        cursor.go(seen.step)?;
+        kind = seen.kind;
+    }
+    Ok(!matches!(kind, Kind::Unlikely))
+}
+
+// What encodings were found to be.
+#[derive(Clone, Copy, Drop)]
+enum Kind {
+    // all have a value, and none is gone into
+    Values,
+    // one is gone into
+    Tree,
+    // one has no value, and none is gone into
+    Unlikely,
+}
+
+// How it is gone on after an encoding, and of which kind those up to it are.
+#[derive(Clone, Copy, Drop)]
+struct Seen {
+    step: Step,
+    kind: Kind,
+}
+
+// What is seen of the encoding that begins what is left. `None` where none begins it, or an outermost one that may be
+// of no known type.
+fn look_at(
+    alloc: Global,
+    left: Left<'_>,
+    is_outermost: bool,
+    kind: Kind,
+) -> Result<Option<Seen>, AllocError>
+    ensures { IfOk result (λ found. IfSome found (λ seen. Takes seen.step left.entry)) }
+{
+    if left.begins_with_end() {
+        let step = Step::Out(2);
+        return Ok(Some(Seen { step, kind }));
+    }
+    let Some(header) = whole_header(alloc, left.octets)? else {
+        return Ok(None);
+    };
+    if is_outermost && !may_begin_known(left.octets, &header) {
+        return Ok(None);
+    }
+    let step = step_of(&header, size_of(left.octets, &header));
+    let kind = kind_with(alloc, left.octets, header, kind)?;
+    Ok(Some(Seen { step, kind }))
+}
+
+// Of which kind encodings are with one more, which begins the octets.
+fn kind_with(alloc: Global, octets: &[u8], header: Header, kind: Kind) -> Result<Kind, AllocError>
+    requires { header.size + header.announced ≤ length octets.now }
+{
+    if holds_encodings(&header) {
+        return Ok(Kind::Tree);
+    }
+    if !matches!(kind, Kind::Values) {
+        return Ok(kind);
+    }
+    let contents = &octets[header.size..header.size + header.announced];
+    if is_right(alloc, &header, contents)? {
+        Ok(Kind::Values)
+    } else {
+        Ok(Kind::Unlikely)
+    }
+}
+
+// Whether a leading octet is of class Universal and of a type that has a name (X.680 8.4, table 1), or of a constructed
+// encoding of another class that holds octets.
+fn may_begin_known(octets: &[u8], header: &Header) -> bool {
+    match octets.first() {
+        Some(0x00 | 0x0F | 0x1F | 0x20 | 0x2F | 0x3F) => false,
+        Some(b) if *b < 0x40 => true,
+        Some(b) => *b & 0x20 != 0 && (header.announced > 0 || header.is_indefinite),
+        None => false,
+    }
+}

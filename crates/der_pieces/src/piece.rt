@@ -1,0 +1,371 @@
+// The pieces of octets, read once for lines and for JSON.
+ghost use Rattle.std.specs.Prelude.{◌≡◌, ◌↔◌, ◌+◌, ◌<◌, ◌≤◌, drop, false, length, string_bytes, true, IfOk, IsTrue};
+ghost use Rattle.asn1_headers.specs.Front.{HasIndefiniteForm, HasNoHeader, IsAtFront};
+ghost use Rattle.der_elements.specs.Ends.{begins_with_end};
+ghost use Rattle.der_elements.specs.Headers.{is_stray_form, is_gone_into};
+ghost use Rattle.der_pieces.specs.Pieces.{IsFirstPiece, IsLeafMeaning, IsNameless, IsOpenedFault, IsPiece, kind_contents, kind_header, kind_indefinite, kind_words};
+
+use crate::faults::{Fault, fault_at};
+use crate::leaf::{Meaning, Read, read_contents};
+use crate::marks::{Breaches, find_breaches};
+use crate::nested::{Nested, nested_in};
+use crate::place::Place;
+use crate::strings::string_tag;
+use crate::tag::tag_words;
+use asn1_headers::error::ASN1DecodeErr;
+use asn1_headers::front::{Header, read_header};
+use asn1_headers::header::HeaderCount;
+use der_elements::cursor::{Left, Step};
+use der_elements::header::{has_stray_form, holds_encodings, size_of, step_of};
+use der_elements::sum::sum_of;
+use der_values::Extension;
+use std::alloc::{AllocError, Global};
+
+// What stands at the front of octets.
+#[derive(Drop)]
+pub enum Kind<'a> {
+    // end-of-contents octets: how many there are, 2, or 0 where they are missing
+    EndOfContents(usize),
+    // octets that begin with no header
+    Unreadable(&'a [u8]),
+    // an encoding that is cut short, with its contents octets as far as they are there
+    Cut(Header, &'a [u8]),
+    // a whole encoding that is gone into, with its contents octets; in the indefinite form with all that is left
+    Opened(Header, &'a [u8]),
+    // another whole encoding, with its contents octets and what they mean
+    Leaf(Header, &'a [u8], Meaning),
+}
+
+// A piece of octets.
+#[derive(Drop)]
+pub struct Piece<'a> {
+    // where the octets stand that it is a piece of, and inside how many encodings it stands
+    pub place: Place,
+    // how many octets stand before it among these
+    pub offset: usize,
+    pub kind: Kind<'a>,
+    // what of DER it breaks
+    pub breaches: Breaches,
+    pub fault: Option<Fault>,
+    // how it is gone on after it
+    pub step: Step,
+    // the encodings inside its contents octets
+    pub nested: Option<Nested<'a>>,
+}
+
+impl<'a> Piece<'a> {
+    // How many octets stand before it in the document.
+    pub fn document_offset(&self) -> Result<usize, AllocError>
+        ensures { IfOk result (λ n. n ≡ self.now.place.base + self.now.offset) }
+    {
+        sum_of(self.place.base, self.offset)
+    }
+
+    // How many octets its header has.
+    pub fn header_size(&self) -> usize
+        ensures { result ≡ kind_header self.now.kind }
+    {
+        match &self.kind {
+            Kind::EndOfContents(size) => *size,
+            Kind::Unreadable(_) => 0,
+            Kind::Cut(header, _) | Kind::Opened(header, _) | Kind::Leaf(header, _, _) =>
+                header.size,
+        }
+    }
+
+    // How many contents octets it announces, or has.
+    pub fn contents_size(&self) -> usize
+        ensures { result ≡ kind_contents self.now.kind }
+    {
+        match &self.kind {
+            Kind::EndOfContents(_) => 0,
+            Kind::Unreadable(octets) => octets.len(),
+            Kind::Cut(header, _) | Kind::Opened(header, _) | Kind::Leaf(header, _, _) => {
+                header.announced
+            }
+        }
+    }
+
+    // Whether its length is of the indefinite form.
+    pub fn is_indefinite(&self) -> bool
+        ensures { result ≡ kind_indefinite self.now.kind }
+    {
+        match &self.kind {
+            Kind::EndOfContents(_) | Kind::Unreadable(_) => false,
+            Kind::Cut(header, _) | Kind::Opened(header, _) | Kind::Leaf(header, _, _) => {
+                header.is_indefinite
+            }
+        }
+    }
+
+    // What it is in words.
+    pub fn words(&self, alloc: Global) -> Result<String, AllocError>
+        ensures { IfOk result (λ words. string_bytes words ≡ kind_words self.now.kind) }
+    {
+        match &self.kind {
+            Kind::EndOfContents(_) => String::from_str(alloc, "end-of-contents"),
+            Kind::Unreadable(_) => String::from_str(alloc, "unreadable"),
+            Kind::Cut(header, _) | Kind::Opened(header, _) | Kind::Leaf(header, _, _) => {
+                tag_words(alloc, header.class, &header.tag)
+            }
+        }
+    }
+
+    // Whether it is a whole string that is constructed.
+    pub fn is_string(&self) -> bool {
+        match &self.kind {
+            Kind::Opened(header, _) => string_tag(header).is_some(),
+            _ => false,
+        }
+    }
+
+    // The extension whose value a string is that comes next.
+    pub fn extension(&self) -> Extension {
+        match &self.kind {
+            Kind::Leaf(header, contents, _) => self.place.next_after(header, contents),
+            _ => Extension::Other,
+        }
+    }
+}
+
+// The piece that begins what is left of contents octets, which stands at the offset.
+pub fn read_piece<'a>(
+    alloc: Global,
+    left: Left<'a>,
+    offset: usize,
+    place: Place,
+) -> Result<Piece<'a>, AllocError>
+    requires { left.is_indefinite ≡ false → 0 < length left.octets.now }
+    ensures { IfOk result (λ piece. IsPiece left.entry offset place piece) }
+{
+    if left.octets.is_empty() {
+        return missing_end(alloc, left, offset, place);
+    }
+    if left.begins_with_end() {
+        return Ok(end(alloc, left, offset, place));
+    }
+    first_piece(alloc, left.octets, offset, place)
+}
+
+// End-of-contents octets.
+fn end<'a>(alloc: Global, _left: Left<'a>, offset: usize, place: Place) -> Piece<'a>
+    requires within { _left.is_indefinite ≡ true }
+    requires there { begins_with_end _left.octets.now ≡ true }
+    ensures { IsPiece _left.entry offset place result }
+{
+    Piece {
+        place,
+        offset,
+        kind: Kind::EndOfContents(2),
+        breaches: Breaches::none(alloc),
+        fault: None,
+        step: Step::Out(2),
+        nested: None,
+    }
+}
+
+// End-of-contents octets that are missing.
+fn missing_end<'a>(
+    alloc: Global,
+    _left: Left<'a>,
+    offset: usize,
+    place: Place,
+) -> Result<Piece<'a>, AllocError>
+    requires within { _left.is_indefinite ≡ true }
+    requires none { length _left.octets.now ≡ 0 }
+    ensures { IfOk result (λ piece. IsPiece _left.entry offset place piece) }
+{
+    let fault = Fault {
+        offset,
+        code: Some("Incomplete"),
+        words: String::from_str(alloc, "end-of-contents is missing (Incomplete)")?,
+    };
+    Ok(Piece {
+        place,
+        offset,
+        kind: Kind::EndOfContents(0),
+        breaches: Breaches::none(alloc),
+        fault: Some(fault),
+        step: Step::Out(0),
+        nested: None,
+    })
+}
+
+// The piece that begins octets, which stand at the offset.
+fn first_piece<'a>(
+    alloc: Global,
+    left: &'a [u8],
+    offset: usize,
+    place: Place,
+) -> Result<Piece<'a>, AllocError>
+    requires { 0 < length left.now }
+    ensures { IfOk result (λ piece. IsFirstPiece left.now offset place piece) }
+{
+    let header = match read_header(alloc, left, &mut HeaderCount::new()) {
+        Ok(header) => header,
+        Err(ASN1DecodeErr::OutOfMemory) => return Err(AllocError),
+        Err(error) => return unreadable(alloc, left, &error, offset, place),
+    };
+    if header.announced > left.len() - header.size {
+        return cut(alloc, left, header, offset, place);
+    }
+    if holds_encodings(&header) {
+        return opened(alloc, left, header, offset, place);
+    }
+    leaf(alloc, left, header, offset, place)
+}
+
+// Octets that begin with no header.
+fn unreadable<'a>(
+    alloc: Global,
+    left: &'a [u8],
+    error: &ASN1DecodeErr,
+    offset: usize,
+    place: Place,
+) -> Result<Piece<'a>, AllocError>
+    requires some { 0 < length left.now }
+    requires none { HasNoHeader left.now }
+    ensures { IfOk result (λ piece. IsFirstPiece left.now offset place piece) }
+{
+    Ok(Piece {
+        place,
+        offset,
+        kind: Kind::Unreadable(left),
+        breaches: Breaches::none(alloc),
+        fault: Some(fault_at(alloc, offset, error)?),
+        step: Step::Past(left.len()),
+        nested: None,
+    })
+}
+
+// An encoding that is cut short.
+fn cut<'a>(
+    alloc: Global,
+    left: &'a [u8],
+    header: Header,
+    offset: usize,
+    place: Place,
+) -> Result<Piece<'a>, AllocError>
+    requires front { IsAtFront left.now header }
+    requires cut { length left.now < header.size + header.announced }
+    requires form { IsTrue header.is_indefinite ↔ HasIndefiniteForm left.now }
+    ensures { IfOk result (λ piece. IsFirstPiece left.now offset place piece) }
+{
+    let (_, contents) = left.split_at(header.size);
+    let step = step_of(&header, left.len());
+    Ok(Piece {
+        place,
+        offset,
+        kind: Kind::Cut(header, contents),
+        breaches: Breaches::none(alloc),
+        fault: Some(fault_at(alloc, offset, &ASN1DecodeErr::Incomplete)?),
+        step,
+        nested: None,
+    })
+}
+
+// A whole encoding that is gone into.
+fn opened<'a>(
+    alloc: Global,
+    left: &'a [u8],
+    header: Header,
+    offset: usize,
+    place: Place,
+) -> Result<Piece<'a>, AllocError>
+    requires front { IsAtFront left.now header }
+    requires whole { header.size + header.announced ≤ length left.now }
+    requires opened { is_gone_into header.class header.constructed header.tag ≡ true }
+    requires form { IsTrue header.is_indefinite ↔ HasIndefiniteForm left.now }
+    ensures { IfOk result (λ piece. IsFirstPiece left.now offset place piece) }
+{
+    let size = size_of(left, &header);
+    let contents = &left[header.size..size];
+    let breaches = find_breaches(alloc, left, &header, place)?;
+    let fault = opened_fault(alloc, left, &header, offset)?;
+    let step = step_of(&header, size);
+    Ok(Piece {
+        place,
+        offset,
+        kind: Kind::Opened(header, contents),
+        breaches,
+        fault,
+        step,
+        nested: None,
+    })
+}
+
+// What is wrong with one: it is primitive, and its length has the indefinite form.
+fn opened_fault(
+    alloc: Global,
+    left: &[u8],
+    header: &Header,
+    offset: usize,
+) -> Result<Option<Fault>, AllocError>
+    requires { IsAtFront left.now header.now }
+    ensures { IfOk result (λ fault. (front : IsAtFront left.now header.now) →
+        IsOpenedFault (is_stray_form header.now.constructed (drop (length front.identifier) left.now)) offset fault) }
+{
+    if has_stray_form(left, header) {
+        return Ok(Some(stray_fault(alloc, offset)?));
+    }
+    Ok(None)
+}
+
+// That a primitive encoding has a length of the indefinite form, which is read as 0.
+fn stray_fault(alloc: Global, offset: usize) -> Result<Fault, AllocError>
+    ensures { IfOk result (IsNameless offset) }
+{
+    Ok(Fault {
+        offset,
+        code: None,
+        words: String::from_str(alloc, "indefinite length of a primitive element")?,
+    })
+}
+
+// Another whole encoding.
+fn leaf<'a>(
+    alloc: Global,
+    left: &'a [u8],
+    header: Header,
+    offset: usize,
+    place: Place,
+) -> Result<Piece<'a>, AllocError>
+    requires front { IsAtFront left.now header }
+    requires whole { header.size + header.announced ≤ length left.now }
+    requires closed { is_gone_into header.class header.constructed header.tag ≡ false }
+    requires form { IsTrue header.is_indefinite ↔ HasIndefiniteForm left.now }
+    ensures { IfOk result (λ piece. IsFirstPiece left.now offset place piece) }
+{
+    let contents = &left[header.size..header.size + header.announced];
+    let breaches = find_breaches(alloc, left, &header, place)?;
+    let nested = nested_in(alloc, &header, contents, place)?;
+    let Read { meaning, fault } = read_leaf(alloc, left, &header, offset)?;
+    let step = step_of(&header, size_of(left, &header));
+    Ok(Piece {
+        place,
+        offset,
+        kind: Kind::Leaf(header, contents, meaning),
+        breaches,
+        fault,
+        step,
+        nested,
+    })
+}
+
+// What its contents octets mean.
+fn read_leaf(alloc: Global, left: &[u8], header: &Header, offset: usize) -> Result<Read, AllocError>
+    requires front { IsAtFront left.now header.now }
+    requires whole { header.now.size + header.now.announced ≤ length left.now }
+    requires closed { is_gone_into header.now.class header.now.constructed header.now.tag ≡ false }
+    ensures { IfOk result (λ read. (front : IsAtFront left.now header.now) →
+        IsLeafMeaning left.now header.now (drop (length front.identifier) left.now) offset read.meaning read.fault) }
+{
+    if has_stray_form(left, header) {
+        return Ok(Read {
+            meaning: Meaning::Nothing,
+            fault: Some(stray_fault(alloc, offset)?),
+        });
+    }
+    let contents = &left[header.size..header.size + header.announced];
+    read_contents(alloc, header, contents, offset)
+}

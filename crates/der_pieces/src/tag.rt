@@ -1,0 +1,44 @@
+// Tags in words.
+ghost use Rattle.std.specs.Prelude.{◌≡◌, IfOk, option_map, string_bytes};
+ghost use Rattle.asn1_headers.specs.Names.{type_name as type_name_is};
+ghost use Rattle.der_pieces.specs.Fronts.{tag_number as tag_number_is, tag_words as tag_words_are};
+
+use asn1_headers::header::ASN1Class;
+use asn1_headers::types::type_name;
+use asn1_numbers::number::big_uint::BigUint;
+use std::alloc::{AllocError, Global};
+
+// The tag in words.
+pub fn tag_words(alloc: Global, class: ASN1Class, tag: &BigUint) -> Result<String, AllocError>
+    ensures { IfOk result (λ words. string_bytes words ≡ tag_words_are class tag.now) }
+{
+    if let Some(name) = name_of(class, tag) {
+        return String::from_str(alloc, name);
+    }
+    let number = tag_number(alloc, tag)?;
+    match class {
+        ASN1Class::Universal => format!(in alloc; "[UNIVERSAL {number}]"),
+        ASN1Class::Application => format!(in alloc; "[APPLICATION {number}]"),
+        ASN1Class::ContextSpecific => format!(in alloc; "[{number}]"),
+        ASN1Class::Private => format!(in alloc; "[PRIVATE {number}]"),
+    }
+}
+
+fn tag_number(alloc: Global, tag: &BigUint) -> Result<String, AllocError>
+    ensures { IfOk result (λ words. string_bytes words ≡ tag_number_is tag.now) }
+{
+    match tag.to_u128() {
+        Some(n) => format!(in alloc; "{n}"),
+        None => String::from_str(alloc, "beyond 2^128"),
+    }
+}
+
+// The name of a type that has one.
+pub fn name_of(class: ASN1Class, tag: &BigUint) -> Option<&'static str>
+    ensures { option_map (λ name. name.now) result ≡ type_name_is class tag.now }
+{
+    match tag.to_u64() {
+        Some(n) => type_name(class, n),
+        None => None,
+    }
+}

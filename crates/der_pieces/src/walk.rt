@@ -1,0 +1,59 @@
+// Going over the pieces of octets, in the order of their lines.
+ghost use Rattle.std.specs.Prelude.{◌≡◌, ℕ, List, [], IfOk, MatchOption};
+ghost use Rattle.der_pieces.specs.Fronts.{AreFrontsOf, Front};
+ghost use Rattle.der_pieces.specs.Pieces.{Passes};
+ghost use Rattle.der_pieces.specs.Steps.{IsAhead};
+
+use crate::piece::{Piece, read_piece};
+use crate::place::Place;
+use crate::strings::{is_in_string, string_around};
+use der_elements::cursor::Cursor;
+use der_values::Extension;
+use std::alloc::{AllocError, Global};
+
+// How far the pieces of octets were gone over, which stand at the place.
+#[derive(Drop)]
+pub struct Walk<'a> {
+    pub cursor: Cursor<'a>,
+    pub place: Place,
+    // the extension whose value the next string is
+    pub extension: Extension,
+    // inside how many encodings the outermost string is that is open and constructed, if there is one
+    pub string: Option<usize>,
+}
+
+impl<'a> Walk<'a> {
+    // Over the pieces of octets.
+    pub fn over(alloc: Global, octets: &'a [u8], place: Place) -> Result<Walk<'a>, AllocError>
+        ensures octets { IfOk result (λ walk. walk.cursor.octets.now ≡ octets.now) }
+        ensures place { IfOk result (λ walk. walk.place ≡ place) }
+        ensures ahead { IfOk result (λ walk. (fronts : List Front) (faults : List ℕ)
+            → IsAhead walk.cursor fronts faults → AreFrontsOf octets.now fronts faults) }
+    {
+        Ok(Walk {
+            cursor: Cursor::over(alloc, octets, false)?,
+            place,
+            extension: Extension::Other,
+            string: None,
+        })
+    }
+
+    // The next piece. `None` behind the last.
+    pub fn next(&mut self, alloc: Global) -> Result<Option<Piece<'a>>, AllocError>
+        ensures { IfOk result (λ found. MatchOption found
+            (IsAhead self.old.cursor [] [])
+            (Passes self.old self.new)) }
+    {
+        let Some(left) = self.cursor.next() else {
+            return Ok(None);
+        };
+        let depth = self.cursor.depth();
+        let is_segment = is_in_string(self.string, depth);
+        let place = self.place.deeper(depth, self.extension, is_segment)?;
+        let piece = read_piece(alloc, left, self.cursor.offset, place)?;
+        self.cursor.go(piece.step)?;
+        self.extension = piece.extension();
+        self.string = string_around(self.string, depth, piece.is_string());
+        Ok(Some(piece))
+    }
+}
