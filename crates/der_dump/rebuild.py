@@ -18,7 +18,6 @@ a constructed string is in its segments.
 After an error nothing is written, and the exit status is 1. What JSON does not tell is written as DER has it, without
 an error, where it is as long:
 
-- a BMPString is UTF-16 and a UniversalString UTF-32, also of text that was UTF-8
 - a REAL has base 2 and an odd mantissa, or the form NR3
 - the fraction of a GeneralizedTime has its point
 """
@@ -27,14 +26,14 @@ import re
 import sys
 
 CLASSES = {"universal": 0x00, "application": 0x40, "context-specific": 0x80, "private": 0xC0}
-# how the characters of a string may be encoded: as X.690 has it, then as the library reads it
+# how the characters of a string may be encoded, the likeliest first
 ENCODINGS = {
     "UTF8String": ["utf-8"],
     "PrintableString": ["latin-1"],
     "TeletexString": ["utf-8", "latin-1"],
     "IA5String": ["latin-1"],
-    "UniversalString": ["utf-32-be", "utf-8"],
-    "BMPString": ["utf-16-be", "utf-8"],
+    "UniversalString": ["utf-32-be"],
+    "BMPString": ["utf-16-be"],
 }
 
 

@@ -27,7 +27,7 @@ use Rattle.der_pieces.specs.Steps.{header_front}
 use Rattle.der_pieces.specs.Pieces.{IsFault, IsKind, IsLeafMeaning, IsMeaning, IsNamed, IsNameless, IsOpenedFault, kind_front}
 use Rattle.der_pieces.specs.declared.faults.Fault.{Fault as PieceFault}
 use Rattle.der_pieces.specs.declared.leaf.Meaning.{Meaning}
-use Rattle.der_pieces.specs.declared.leaf.Meaning.TheVariants.{Nothing, Text, Time, Value}
+use Rattle.der_pieces.specs.declared.leaf.Meaning.TheVariants.{NoCharacters, Nothing, Text, Time, Value}
 use Rattle.der_pieces.specs.declared.piece.Kind.{Kind}
 use Rattle.der_pieces.specs.declared.piece.Kind.TheVariants.{Cut, EndOfContents, Leaf, Opened, Unreadable}
 use Rattle.der_pieces.proofs.Pieces.{front_encoding}
@@ -35,7 +35,7 @@ use Rattle.der_json.specs.Json.{AreShown, IsJudged, as_text, as_time, IsOpenedVa
 use Rattle.der_elements.specs.Segments.{AreSegmentsOf}
 use Rattle.der_json.specs.Json.{of_none, of_segments}
 use Rattle.der_json.specs.Json.{named_fault, of_encoding, of_end, of_stray_form, of_unreadable, with_contents, with_encodings}
-use Rattle.der_json.specs.Json.{Departed, with_no_value, with_value, words_fault}
+use Rattle.der_json.specs.Json.{Departed, with_no_value, with_value, without_characters, words_fault}
 use Rattle.asn1_departures.specs.declared.rule.Rule.{Rule}
 use Rattle.der_json.specs.Rows.{IsHeaderTag, IsLeafValueOf, IsMeantValue, IsPieceValue, IsTagOf, kind_size}
 use Rattle.der_json.specs.Rows.{row_of, told_at, wrong_octets}
@@ -104,7 +104,9 @@ meaning_there :
     IfSome fault (λ f. f.offset ≡ offset)
 meaning_there class constructed tag contents offset (Text form text) fault (wide, none) = there_none offset fault none
 meaning_there class constructed tag contents offset (Time text) fault (time, none) = there_none offset fault none
-meaning_there class constructed tag contents offset Value fault (right, none) = there_none offset fault none
+meaning_there class constructed tag contents offset Value fault (right, others, none) = there_none offset fault none
+meaning_there class constructed tag contents offset NoCharacters fault (right, wide, none) =
+    there_none offset fault none
 meaning_there class constructed tag contents offset Nothing fault (u, (found, wrong, is)) =
     there_named offset found fault is
 
@@ -161,14 +163,17 @@ meant_opened header contents joined (Text form text) fault value octets k u segm
     of_segments u joined segments 0 octets (in_their_form wide words v o refl)
 meant_opened header contents joined (Time text) fault value octets k u segments (time, none) (words, v, o) =
     of_segments u joined segments 0 octets (as_time time words v o refl)
-meant_opened header contents joined Value fault value octets k u segments (right, none) (inl (universal, text, v)) =
+meant_opened header contents joined Value fault value octets k u segments (right, others, none)
+    (inl (universal, text, v)) =
     of_segments u joined segments 0 octets (as_text universal text v refl)
-meant_opened header contents joined Value fault value octets k u segments (right, none)
+meant_opened header contents joined Value fault value octets k u segments (right, others, none)
     (inr (other, inl (nothing, wrong), o)) =
     of_none nothing
-meant_opened header contents joined Value fault value octets k u segments (right, none)
+meant_opened header contents joined Value fault value octets k u segments (right, others, none)
     (inr (other, inr (tree, turn, v), o)) =
-    of_segments u joined segments 0 octets (with_value other tree turn v o refl)
+    of_segments u joined segments 0 octets (with_value other others tree turn v o refl)
+meant_opened header contents joined NoCharacters fault value octets k u segments (right, wide, none) (v, o) =
+    of_segments u joined segments 0 octets (without_characters wide v o refl)
 meant_opened header contents joined Nothing fault value octets k u segments is v = absurd v
 
 -- the value of segments joined
@@ -270,8 +275,8 @@ module _ (left : List ℕ) (offset depth : ℕ) (rules : List Rule) (object : Ob
   meaning_shown header h (Text form text) whole (wide, none) (words, v, d) =
       in_their_form wide words v d (no_fault none)
   meaning_shown header h (Time text) whole (time, none) (words, v, d) = as_time time words v d (no_fault none)
-  meaning_shown header h Value whole (right, none) (inl (u, text, v)) = as_text u text v (no_fault none)
-  meaning_shown header h Value whole (right, none) (inr (other, inl (nothing, (u, (found, wrong))), d)) =
+  meaning_shown header h Value whole (right, others, none) (inl (u, text, v)) = as_text u text v (no_fault none)
+  meaning_shown header h Value whole (right, others, none) (inr (other, inl (nothing, (u, (found, wrong))), d)) =
       let contents = slice_range left header.size (header.size + header.announced) in
       let octets = take (header.size + header.announced) left in
       let encoding = front_encoding left contents header.size header.announced header.class header.constructed
@@ -280,8 +285,10 @@ module _ (left : List ℕ) (offset depth : ℕ) (rules : List Rule) (object : Ob
       let (b, encodes) = right octets header.size encoding in
       absurd (right_no_fault octets header.class header.constructed header.tag contents header.size b found u encoding
       encodes wrong)
-  meaning_shown header h Value whole (right, none) (inr (other, inr (tree, turn, v), d)) =
-      with_value other tree turn v d (no_fault none)
+  meaning_shown header h Value whole (right, others, none) (inr (other, inr (tree, turn, v), d)) =
+      with_value other others tree turn v d (no_fault none)
+  meaning_shown header h NoCharacters whole (right, wide, none) (v, d) =
+      without_characters wide v d (no_fault none)
   meaning_shown header h Nothing whole (u, (found, wrong, is)) (v, d) =
       let (words, told) = told_named offset object.offset found fault is in
       with_no_value u found words wrong v

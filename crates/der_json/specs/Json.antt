@@ -26,7 +26,7 @@ use Rattle.asn1_blocks.specs.Grammar.{Encodes}
 use Rattle.asn1_blocks.specs.Tree.{Leaf, Tree, leaf, group, explicit, unknown, boolean, integer, bit_string}
 use Rattle.asn1_blocks.specs.Tree.{octet_string, null as null_leaf, object_identifier, text as text_leaf}
 use Rattle.asn1_blocks.specs.Tree.{utc_time, generalized_time}
-use Rattle.der_pieces.specs.Fronts.{AreFrontsOf, Front, IsBerTime, StandAt, is_wide, size_in}
+use Rattle.der_pieces.specs.Fronts.{AreFrontsOf, Front, IsBerTime, StandAt, has_wide_characters, is_wide, size_in}
 use Rattle.der_elements.specs.Headers.{is_stray_form}
 use Rattle.der_elements.specs.Headers.{is_gone_into}
 use Rattle.der_pieces.specs.Marks.{Told, told_rules}
@@ -160,13 +160,17 @@ pub data IsTextValue (tag : ℕ) (contents : List ℕ) (value : Data) (octets : 
       IsTextValue tag contents value octets
 
 -- what is shown of contents octets of a primitive encoding at the offset: the characters of a string that the library
--- takes for UTF-8; the text of a time of BER; a text of a type that it does not read; their value; or null, where they
--- have none, these octets in hex digits, and what is wrong with them
+-- takes for UTF-8, or null and these octets in hex digits where they are none; the text of a time of BER; a text of a
+-- type that it does not read; their value; or null, where they have none, these octets in hex digits, and what is wrong
+-- with them
 pub data AreShown (offset : ℕ) (class : ASN1Class) (tag : ℕ) (contents : List ℕ) (value : Data)
     (octets : Option (List ℕ)) (fault : Option ToldFault) : Type 0 where
   in_their_form :
       is_wide class tag ≡ true → (text : List ℕ) → value ≡ string text → octets ≡ None → fault ≡ None →
       AreShown offset class tag contents value octets fault
+  without_characters :
+      has_wide_characters class tag contents ≡ true → value ≡ null → octets ≡ Some (encode_lower contents) →
+      fault ≡ None → AreShown offset class tag contents value octets fault
   as_time :
       IsBerTime class tag contents → (text : List ℕ) → value ≡ string text → octets ≡ None → fault ≡ None →
       AreShown offset class tag contents value octets fault
@@ -174,7 +178,7 @@ pub data AreShown (offset : ℕ) (class : ASN1Class) (tag : ℕ) (contents : Lis
       class ≡ Universal → has_text tag ≡ true → IsTextValue tag contents value octets → fault ≡ None →
       AreShown offset class tag contents value octets fault
   with_value :
-      is_text_type class tag ≡ false → (tree : Tree ℕ) →
+      is_text_type class tag ≡ false → has_wide_characters class tag contents ≡ false → (tree : Tree ℕ) →
       ((all : List ℕ) (header : ℕ) → Encoding all class false tag contents header → Encodes 0 all tree) →
       IsValueOf class tag contents tree value → octets ≡ None → fault ≡ None →
       AreShown offset class tag contents value octets fault

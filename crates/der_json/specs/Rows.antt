@@ -20,7 +20,7 @@ use Rattle.der_pieces.specs.Marks.{Told, told_of, told_rules}
 use Rattle.der_pieces.specs.Pieces.{IsKind, front_of, kind_header}
 use Rattle.der_pieces.specs.declared.faults.Fault.{Fault as PieceFault}
 use Rattle.der_pieces.specs.declared.leaf.Meaning.{Meaning}
-use Rattle.der_pieces.specs.declared.leaf.Meaning.TheVariants.{Nothing, Text, Time, Value}
+use Rattle.der_pieces.specs.declared.leaf.Meaning.TheVariants.{NoCharacters, Nothing, Text, Time, Value}
 use Rattle.der_pieces.specs.declared.nested.Nested.{Nested}
 use Rattle.der_pieces.specs.declared.piece.Kind.{Kind}
 use Rattle.der_pieces.specs.declared.piece.Kind.TheVariants.{Cut, EndOfContents, Leaf, Opened, Unreadable}
@@ -81,6 +81,7 @@ IsMeantValue class tag contents (Text form text) value octets =
 IsMeantValue class tag contents (Time text) value octets =
     (words : List ℕ) × (value ≡ string words) × (octets ≡ None)
 IsMeantValue class tag contents Value value octets = IsRightValue class tag contents value octets
+IsMeantValue class tag contents NoCharacters value octets = (value ≡ null) × (octets ≡ Some (encode_lower contents))
 IsMeantValue class tag contents Nothing value octets = ⊥
 
 -- what a fault of a piece tells, which stands at the offset of the document
@@ -133,6 +134,8 @@ IsLeafValueOf header contents (Text form text) fault value octets =
 IsLeafValueOf header contents (Time text) fault value octets =
     (words : List ℕ) × (value ≡ string words) × (octets ≡ None)
 IsLeafValueOf header contents Value fault value octets = IsRightValue header.class header.tag contents value octets
+IsLeafValueOf header contents NoCharacters fault value octets =
+    (value ≡ null) × (octets ≡ Some (encode_lower contents))
 IsLeafValueOf header contents Nothing fault value octets = (value ≡ null) × (octets ≡ wrong_octets fault contents)
 
 -- and of a piece, with its contents octets where they have no value

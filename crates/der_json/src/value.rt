@@ -189,6 +189,7 @@ pub fn meant_value(
         Meaning::Text(_, text) => Ok(Some(Shown::of(text_value(alloc, text)?))),
         Meaning::Time(text) => Ok(Some(Shown::of(text_value(alloc, text)?))),
         Meaning::Value => Ok(Some(right_value(alloc, header, contents)?)),
+        Meaning::NoCharacters => Ok(Some(Shown::of_octets(alloc, contents)?)),
         Meaning::Nothing => Ok(None),
     }
 }

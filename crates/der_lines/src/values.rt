@@ -94,6 +94,11 @@ pub fn read_text(
             Ok(said)
         }
         Meaning::Time(text) => format!(in alloc; " {text}"),
+        Meaning::NoCharacters => {
+            let mut said = String::new(alloc);
+            write_unknown(&mut said, contents, 1, style)?;
+            Ok(said)
+        }
         Meaning::Value | Meaning::Nothing => {
             value_text(alloc, names, universal_tag(header), contents, style)
         }

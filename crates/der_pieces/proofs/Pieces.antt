@@ -12,7 +12,7 @@ use Rattle.asn1_headers.specs.declared.header.ASN1Class.{ASN1Class}
 use Rattle.der_pieces.specs.Fronts.{IsFirst, IsJudged, cut_short, of_cut, of_stray_form, of_whole, with_encodings, with_no_value, with_value, Front}
 use Rattle.der_elements.specs.Ends.{begins_with_end, taken}
 use Rattle.der_elements.specs.Headers.{is_stray_form, is_gone_into}
-use Rattle.der_pieces.specs.Pieces.{IsFault, IsFirstPiece, IsLeafMeaning, IsMeaning, IsNamed, IsNameless, IsOpenedFault, IsPiece, fault_offset, front_of}
+use Rattle.der_pieces.specs.Pieces.{IsFault, IsFirstPiece, IsLeafMeaning, IsMeaning, IsNamed, IsNameless, IsOpenedFault, IsRight, IsPiece, fault_offset, front_of}
 use Rattle.der_pieces.specs.Steps.{AreFirstRules, AreRulesFound, StartsNext, StartsWith, header_front}
 use Rattle.der_elements.specs.Steps.{IsTaken}
 use Rattle.der_elements.specs.declared.cursor.Left.{Left}
@@ -20,7 +20,7 @@ use Rattle.der_elements.specs.declared.cursor.Step.{Step}
 use Rattle.der_elements.specs.declared.cursor.Step.TheVariants.{Into, Out, Past}
 use Rattle.der_pieces.specs.declared.faults.Fault.{Fault}
 use Rattle.der_pieces.specs.declared.leaf.Meaning.{Meaning}
-use Rattle.der_pieces.specs.declared.leaf.Meaning.TheVariants.{Nothing, Text, Time, Value}
+use Rattle.der_pieces.specs.declared.leaf.Meaning.TheVariants.{NoCharacters, Nothing, Text, Time, Value}
 use Rattle.der_pieces.specs.declared.piece.Piece.{Piece}
 use Rattle.der_pieces.specs.declared.place.Place.{Place}
 use Rattle.der_elements.proofs.Seeking.{header_size}
@@ -159,6 +159,21 @@ opened_judged left offset depth rules header fault h l o (inl (stray, is)) =
 opened_judged left offset depth rules header fault h l o (inr (stray, none)) =
     with_encodings l o stray (ap fault_offset none)
 
+right_judged :
+    (left : List ℕ) (offset depth : ℕ) (rules : List Rule) (header : Header) (fault : Option Fault)
+    (h : IsAtFront left header) → header.size + header.announced ≤ length left →
+    is_gone_into header.class header.constructed header.tag ≡ false →
+    is_stray_form header.constructed (drop (length h.identifier) left) ≡ false →
+    IsRight header.class header.constructed header.tag
+    (slice_range left header.size (header.size + header.announced)) → fault ≡ None →
+    IsJudgedAs left offset depth rules header h (fault_offset fault)
+right_judged left offset depth rules header fault h l o stray right none =
+    with_value l o stray
+    (inr (inr (right (take (header.size + header.announced) left) header.size
+    (front_encoding left (slice_range left header.size (header.size + header.announced)) header.size header.announced
+    header.class header.constructed header.tag h l refl))))
+    (ap fault_offset none)
+
 meaning_judged :
     (left : List ℕ) (offset depth : ℕ) (rules : List Rule) (header : Header) (meaning : Meaning) (fault : Option Fault)
     (h : IsAtFront left header) → header.size + header.announced ≤ length left →
@@ -171,12 +186,10 @@ meaning_judged left offset depth rules header (Text form text) fault h l o stray
     with_value l o stray (inl wide) (ap fault_offset none)
 meaning_judged left offset depth rules header (Time text) fault h l o stray (time, none) =
     with_value l o stray (inr (inl time)) (ap fault_offset none)
-meaning_judged left offset depth rules header Value fault h l o stray (right, none) =
-    with_value l o stray
-    (inr (inr (right (take (header.size + header.announced) left) header.size
-    (front_encoding left (slice_range left header.size (header.size + header.announced)) header.size header.announced
-    header.class header.constructed header.tag h l refl))))
-    (ap fault_offset none)
+meaning_judged left offset depth rules header Value fault h l o stray (right, others, none) =
+    right_judged left offset depth rules header fault h l o stray right none
+meaning_judged left offset depth rules header NoCharacters fault h l o stray (right, wide, none) =
+    right_judged left offset depth rules header fault h l o stray right none
 meaning_judged left offset depth rules header Nothing fault h l o stray (u, (found, wrong, is)) =
     with_no_value l o u found wrong (named_at offset found fault is)
 

@@ -12,7 +12,7 @@ use Rattle.asn1_headers.specs.declared.header.ASN1Class.TheVariants.{Universal}
 use Rattle.asn1_blocks.specs.Contents.{LeafFault}
 use Rattle.asn1_blocks.specs.Grammar.{Encodes}
 use Rattle.asn1_blocks.specs.Tree.{Tree}
-use Rattle.der_pieces.specs.Fronts.{Front, IsBerTime, StandAt, is_wide, tag_words}
+use Rattle.der_pieces.specs.Fronts.{Front, IsBerTime, StandAt, has_wide_characters, is_wide, tag_words}
 use Rattle.der_elements.specs.Headers.{is_stray_form, is_gone_into}
 use Rattle.der_elements.specs.Ends.{taken}
 use Rattle.der_pieces.specs.Steps.{IsAhead, StartsNext, StartsWith}
@@ -21,7 +21,7 @@ use Rattle.der_elements.specs.declared.cursor.Left.{Left}
 use Rattle.der_elements.specs.declared.cursor.Step.{Step}
 use Rattle.der_pieces.specs.declared.faults.Fault.{Fault}
 use Rattle.der_pieces.specs.declared.leaf.Meaning.{Meaning}
-use Rattle.der_pieces.specs.declared.leaf.Meaning.TheVariants.{Nothing, Text, Time, Value}
+use Rattle.der_pieces.specs.declared.leaf.Meaning.TheVariants.{NoCharacters, Nothing, Text, Time, Value}
 use Rattle.der_pieces.specs.declared.nested.Nested.{Nested}
 use Rattle.der_pieces.specs.declared.piece.Kind.{Kind}
 use Rattle.der_pieces.specs.declared.piece.Kind.TheVariants.{Cut, EndOfContents, Leaf, Opened, Unreadable}
@@ -57,7 +57,10 @@ IsRight class constructed tag contents =
 abbrev pub IsMeaning : ASN1Class → Bool → ℕ → List ℕ → ℕ → Meaning → Option Fault → Type 0
 IsMeaning class constructed tag contents offset (Text form text) fault = (is_wide class tag ≡ true) × (fault ≡ None)
 IsMeaning class constructed tag contents offset (Time text) fault = IsBerTime class tag contents × (fault ≡ None)
-IsMeaning class constructed tag contents offset Value fault = IsRight class constructed tag contents × (fault ≡ None)
+IsMeaning class constructed tag contents offset Value fault =
+    IsRight class constructed tag contents × (has_wide_characters class tag contents ≡ false) × (fault ≡ None)
+IsMeaning class constructed tag contents offset NoCharacters fault =
+    IsRight class constructed tag contents × (has_wide_characters class tag contents ≡ true) × (fault ≡ None)
 IsMeaning class constructed tag contents offset Nothing fault =
     (class ≡ Universal)
     × ((found : DecodeFault) × LeafFault tag contents found × IsFault (IsNamed offset found) fault)

@@ -1,9 +1,9 @@
 // Contents octets of primitive encodings: what they mean, or what is wrong with them.
-ghost use Rattle.std.specs.Prelude.{◌≡◌, false, true, None, IfOk, IfSome, MatchOption};
+ghost use Rattle.std.specs.Prelude.{◌≡◌, ℕ, false, true, None, IfOk, IfSome, MatchOption};
 ghost use Rattle.asn1_headers.specs.Fault.{fault_of};
 ghost use Rattle.asn1_headers.specs.declared.header.ASN1Class.TheVariants.{Universal};
 ghost use Rattle.asn1_blocks.specs.Contents.{LeafFault};
-ghost use Rattle.der_pieces.specs.Fronts.{IsBerTime, is_wide};
+ghost use Rattle.der_pieces.specs.Fronts.{IsBerTime, has_wide_characters as has_wide_characters_is, is_wide};
 ghost use Rattle.der_elements.specs.Headers.{is_gone_into};
 ghost use Rattle.der_pieces.specs.Pieces.{IsMeaning, IsRight};
 
@@ -27,6 +27,8 @@ pub enum Meaning {
     Time(String),
     // a block
     Value,
+    // no characters of the type, where the library takes the octets for UTF-8
+    NoCharacters,
     // nothing, since something is wrong with them
     Nothing,
 }
@@ -57,7 +59,7 @@ pub fn read_contents(
     }
     let Some(error) = check(alloc, header, contents)? else {
         return Ok(Read {
-            meaning: Meaning::Value,
+            meaning: right_meaning(header, contents),
             fault: None,
         });
     };
@@ -74,15 +76,33 @@ pub fn read_contents(
     })
 }
 
+// What contents octets mean in which the library finds nothing wrong.
+fn right_meaning(header: &Header, contents: &[u8]) -> Meaning
+    ensures { (offset : ℕ) → IsRight header.now.class header.now.constructed header.now.tag contents.now
+        → IsMeaning header.now.class header.now.constructed header.now.tag contents.now offset result None }
+{
+    if has_wide_characters(header, contents) {
+        Meaning::NoCharacters
+    } else {
+        Meaning::Value
+    }
+}
+
 // Whether contents octets mean something.
 pub fn is_right(alloc: Global, header: &Header, contents: &[u8]) -> Result<bool, AllocError>
     requires { is_gone_into header.now.class header.now.constructed header.now.tag ≡ false }
 {
     Ok(
         characters_of(alloc, header, contents)?.is_some()
-            || check(alloc, header, contents)?.is_none()
+            || is_right_value(alloc, header, contents)?
             || time_of(alloc, header, contents)?.is_some(),
     )
+}
+
+fn is_right_value(alloc: Global, header: &Header, contents: &[u8]) -> Result<bool, AllocError>
+    requires { is_gone_into header.now.class header.now.constructed header.now.tag ≡ false }
+{
+    Ok(check(alloc, header, contents)?.is_none() && !has_wide_characters(header, contents))
 }
 
 // The text of a time of BER that is none of DER.
@@ -154,4 +174,16 @@ fn form_of(header: &Header, contents: &[u8]) -> Option<Characters>
         return Some(Characters::Utf16);
     }
     None
+}
+
+// Whether X.690 has characters of four or of two octets there, which the library takes for UTF-8.
+fn has_wide_characters(header: &Header, contents: &[u8]) -> bool
+    ensures { result ≡ has_wide_characters_is header.now.class header.now.tag contents.now }
+{
+    match header.class {
+        ASN1Class::Universal => {
+            !contents.is_empty() && (has_tag(&header.tag, 28) || has_tag(&header.tag, 30))
+        }
+        ASN1Class::Application | ASN1Class::ContextSpecific | ASN1Class::Private => false,
+    }
 }
