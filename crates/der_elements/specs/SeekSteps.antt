@@ -6,18 +6,18 @@ use Rattle.der_elements.specs.Elements.{AreElements, ElementAt}
 use Rattle.der_elements.specs.Seek.{IsWhyNone, LeadsTo, ends_contents}
 use Rattle.der_elements.specs.declared.seek.NoBlock.{NoBlock}
 use Rattle.der_elements.specs.declared.seek.NoBlock.TheVariants.{CutShort, EndOfContents, Nothing, Unreadable}
-use Rattle.der_elements.specs.declared.seek.Sought.{Sought}
+use Rattle.der_elements.specs.declared.seek.Target.{Target}
 
 -- what begins at the distance begins where it is looked for next
-abbrev pub LeadsOn : Sought → Sought → Type 0
-LeadsOn sought next =
-    LeadsTo sought.depth sought.octets.now sought.distance next.depth next.octets.now next.distance
+abbrev pub LeadsOn : Target → Target → Type 0
+LeadsOn target next =
+    LeadsTo target.depth target.octets.now target.distance next.depth next.octets.now next.distance
 
 -- nothing begins there
-abbrev pub LeadsNowhere : Sought → Type 0
-LeadsNowhere sought =
+abbrev pub LeadsNowhere : Target → Type 0
+LeadsNowhere target =
     (around : ℕ) (others : List ℕ) (later : ℕ) →
-    LeadsTo sought.depth sought.octets.now sought.distance around others later → ⊥
+    LeadsTo target.depth target.octets.now target.distance around others later → ⊥
 
 -- the block that begins octets, which stand inside so many contents octets of the indefinite form; or why none does
 abbrev pub StandsThere : ℕ → List ℕ → Result (Bor (List ℕ)) NoBlock → Type 0

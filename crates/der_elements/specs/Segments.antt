@@ -63,7 +63,7 @@ pub data AreSegments (tag : ℕ) (octets : List ℕ) : ℕ → List End → List
       (end_at (offset + taken indefinite (size + announced) (length left)) indefinite ∷ ends) before after →
       AreSegments tag octets offset ends before after
 
--- so are contents octets to their end
+-- contents octets are segments to their end, which joined are these
 abbrev pub AreSegmentsOf : ℕ → List ℕ → Bool → List ℕ → Type 0
 AreSegmentsOf tag contents indefinite joined =
     AreSegments tag contents 0 (end_at (length contents) indefinite ∷ []) (no_segments tag) joined

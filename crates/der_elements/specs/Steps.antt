@@ -63,7 +63,8 @@ IsTaken header size (Past all) =
     (is_gone_into header.class header.constructed header.tag ≡ false) × (all ≡ size)
 IsTaken header size (Out all) = ⊥
 
--- the octets begin with a segment of a string with the tag, and it is gone on by the step; or with the end of one
+-- the octets begin with a segment of a string with the tag, or with the end of one, and a cursor goes on behind it by
+-- the step
 abbrev pub IsSegment : ℕ → Left → Step → List ℕ → List ℕ → Type 0
 IsSegment tag left (Into header size indefinite) before after =
     ((left.is_indefinite && begins_with_end left.octets.now) ≡ false)

@@ -35,7 +35,7 @@ impl<'a> Left<'a> {
     }
 }
 
-// How it is gone on after what stands at the front of what is left.
+// How a cursor goes on behind what stands at the front of what is left.
 #[derive(Clone, Copy, Drop)]
 pub enum Step {
     // into the contents octets of an encoding: how many octets its header has, how many it takes at most, and whether

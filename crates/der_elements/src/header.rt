@@ -67,7 +67,7 @@ pub fn size_of(octets: &[u8], header: &Header) -> usize
     }
 }
 
-// How it is gone on after an encoding that takes so many octets at most.
+// How a cursor goes on behind an encoding that takes so many octets at most.
 pub fn step_of(header: &Header, size: usize) -> Step
     ensures { IsTaken header.now size result }
 {

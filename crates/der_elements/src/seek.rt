@@ -21,7 +21,7 @@ const OCTET_STRING: u8 = 4;
 // What is looked for begins so many octets further on in octets, which stand inside so many contents octets of the
 // indefinite form.
 #[derive(Clone, Copy)]
-struct Sought<'a> {
+struct Target<'a> {
     octets: &'a [u8],
     distance: usize,
     depth: usize,
@@ -60,30 +60,30 @@ pub fn block_at(
     ensures none { IfOk result (λ found. IfErr found (λ _. HasNoBlockAt octets.now offset)) }
     ensures why { IfOk result (λ found. IfErr found (LacksBlock octets.now offset)) }
 {
-    let mut sought = Sought {
+    let mut target = Target {
         octets,
         distance: offset,
         depth: 0,
     };
-    while sought.distance > 0 {
-        let Some(nearer) = go_nearer(alloc, sought)? else {
+    while target.distance > 0 {
+        let Some(nearer) = next_target(alloc, target)? else {
             return Ok(Err(NoBlock::Nothing));
         };
-        sought = nearer;
+        target = nearer;
     }
-    block_here(alloc, sought)
+    block_here(alloc, target)
 }
 
 // The block that begins where what is looked for stands.
-fn block_here(alloc: Global, sought: Sought<'_>) -> Result<Result<&[u8], NoBlock>, AllocError>
-    ensures { IfOk result (StandsThere sought.entry.depth sought.entry.octets.now) }
+fn block_here(alloc: Global, target: Target<'_>) -> Result<Result<&[u8], NoBlock>, AllocError>
+    ensures { IfOk result (StandsThere target.entry.depth target.entry.octets.now) }
 {
-    if sought.begins_with_end() {
+    if target.begins_with_end() {
         return Ok(Err(NoBlock::EndOfContents));
     }
-    match element_at(alloc, sought.octets)? {
+    match element_at(alloc, target.octets)? {
         Some(block) => Ok(Ok(block)),
-        None => Ok(Err(why_none(alloc, sought.octets)?)),
+        None => Ok(Err(why_none(alloc, target.octets)?)),
     }
 }
 
@@ -100,7 +100,7 @@ fn why_none(alloc: Global, octets: &[u8]) -> Result<NoBlock, AllocError>
     Ok(NoBlock::CutShort)
 }
 
-impl<'a> Sought<'a> {
+impl<'a> Target<'a> {
     // Whether its octets begin with the end of the contents octets around.
     fn begins_with_end(self) -> bool
         ensures { result ≡ ends_contents self.entry.depth self.entry.octets.now }
@@ -110,72 +110,72 @@ impl<'a> Sought<'a> {
 }
 
 // Where it is looked for next.
-fn go_nearer(alloc: Global, sought: Sought<'_>) -> Result<Option<Sought<'_>>, AllocError>
-    requires { 0 < sought.distance }
+fn next_target(alloc: Global, target: Target<'_>) -> Result<Option<Target<'_>>, AllocError>
+    requires { 0 < target.distance }
     ensures found { IfOk result (λ found. MatchOption found
-        (LeadsNowhere sought.entry)
-        (LeadsOn sought.entry)) }
-    ensures nearer { IfOk result (λ found. IfSome found (λ f. f.distance < sought.entry.distance)) }
+        (LeadsNowhere target.entry)
+        (LeadsOn target.entry)) }
+    ensures nearer { IfOk result (λ found. IfSome found (λ f. f.distance < target.entry.distance)) }
 {
-    if sought.begins_with_end() {
-        return Ok(behind_end(sought));
+    if target.begins_with_end() {
+        return Ok(behind_end(target));
     }
-    let Some(header) = find_header(alloc, sought.octets)? else {
+    let Some(header) = find_header(alloc, target.octets)? else {
         return Ok(None);
     };
-    if sought.distance < header.size {
+    if target.distance < header.size {
         return Ok(None);
     }
     if header.is_indefinite {
-        let (_, octets) = sought.octets.split_at(header.size);
-        return Ok(Some(Sought {
+        let (_, octets) = target.octets.split_at(header.size);
+        return Ok(Some(Target {
             octets,
-            distance: sought.distance - header.size,
-            depth: sum_of(sought.depth, 1)?,
+            distance: target.distance - header.size,
+            depth: sum_of(target.depth, 1)?,
         }));
     }
-    Ok(by_length(sought, &header))
+    Ok(by_length(target, &header))
 }
 
 // Where it is looked for behind the end-of-contents octets at the front.
-fn behind_end(sought: Sought<'_>) -> Option<Sought<'_>>
-    requires end { ends_contents sought.depth sought.octets.now ≡ true }
-    requires further { 0 < sought.distance }
+fn behind_end(target: Target<'_>) -> Option<Target<'_>>
+    requires end { ends_contents target.depth target.octets.now ≡ true }
+    requires further { 0 < target.distance }
     ensures found { MatchOption result
-        (LeadsNowhere sought.entry)
-        (LeadsOn sought.entry) }
-    ensures nearer { IfSome result (λ f. f.distance < sought.entry.distance) }
+        (LeadsNowhere target.entry)
+        (LeadsOn target.entry) }
+    ensures nearer { IfSome result (λ f. f.distance < target.entry.distance) }
 {
-    if sought.distance < 2 {
+    if target.distance < 2 {
         return None;
     }
-    let (_, octets) = sought.octets.split_at(2);
-    Some(Sought {
+    let (_, octets) = target.octets.split_at(2);
+    Some(Target {
         octets,
-        distance: sought.distance - 2,
-        depth: sought.depth - 1,
+        distance: target.distance - 2,
+        depth: target.depth - 1,
     })
 }
 
 // Where it is looked for behind the header at the front, whose length has the definite form.
-fn by_length<'a>(sought: Sought<'a>, header: &Header) -> Option<Sought<'a>>
-    requires front { IsAtFront sought.octets.now header.now }
-    requires behind { header.now.size ≤ sought.distance }
-    requires form { HasIndefiniteForm sought.octets.now → ⊥ }
-    requires element { ends_contents sought.depth sought.octets.now ≡ false }
+fn by_length<'a>(target: Target<'a>, header: &Header) -> Option<Target<'a>>
+    requires front { IsAtFront target.octets.now header.now }
+    requires behind { header.now.size ≤ target.distance }
+    requires form { HasIndefiniteForm target.octets.now → ⊥ }
+    requires element { ends_contents target.depth target.octets.now ≡ false }
     ensures found { MatchOption result
-        (LeadsNowhere sought.entry)
-        (LeadsOn sought.entry) }
-    ensures nearer { IfSome result (λ f. f.distance < sought.entry.distance) }
+        (LeadsNowhere target.entry)
+        (LeadsOn target.entry) }
+    ensures nearer { IfSome result (λ f. f.distance < target.entry.distance) }
 {
-    let (_, behind) = sought.octets.split_at(header.size);
+    let (_, behind) = target.octets.split_at(header.size);
     let (contents, octets) = behind.split_at(header.announced.min(behind.len()));
-    let place = sought.distance - header.size;
+    let place = target.distance - header.size;
     if place >= header.announced {
-        return Some(Sought {
+        return Some(Target {
             octets,
             distance: place - header.announced,
-            depth: sought.depth,
+            depth: target.depth,
         });
     }
     let Some((octets, before)) = octets_inside(header, contents) else {
@@ -184,7 +184,7 @@ fn by_length<'a>(sought: Sought<'a>, header: &Header) -> Option<Sought<'a>>
     if place < before {
         return None;
     }
-    Some(Sought {
+    Some(Target {
         octets,
         distance: place - before,
         depth: 0,

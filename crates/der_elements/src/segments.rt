@@ -39,7 +39,7 @@ pub fn joined_segments(
 }
 
 // Joins the segment that begins what is left to those before it, unless it is constructed, too: then its own are next.
-// How it is gone on, if one begins it, or the end of a segment.
+// How a cursor goes on behind it, if a segment begins it, or the end of one.
 fn join_next(
     alloc: Global,
     tag: u8,

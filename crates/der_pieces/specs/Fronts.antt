@@ -42,7 +42,7 @@ pub record Front : Type 0 where
   pub rules : List Rule
   pub has_spare_bits : Bool
 
--- that of octets at the offset which begin with no header: there are so many
+-- what the line begins with of octets at the offset that begin with no header: there are so many
 abbrev pub unreadable : ℕ → ℕ → ℕ → Front
 unreadable offset size depth = record {
   offset = offset;
@@ -55,7 +55,8 @@ unreadable offset size depth = record {
   has_spare_bits = false;
 }
 
--- that of end-of-contents octets at the offset: there are two of them (X.690 8.1.5), or none where they are missing
+-- what the line begins with of end-of-contents octets at the offset: there are two of them (X.690 8.1.5), or none where
+-- they are missing
 abbrev pub end_of_contents : ℕ → ℕ → ℕ → Front
 end_of_contents offset size depth = record {
   offset = offset;
@@ -197,7 +198,7 @@ pub data AreFronts (octets : List ℕ) : ℕ → List End → List Front → Lis
       fronts ≡ first ∷ later_fronts → faults ≡ own ++ later_faults →
       AreFronts octets offset ends fronts faults
 
--- so of all octets
+-- what lines begin with, and the offsets of faults, of all of the octets
 abbrev pub AreFrontsOf : List ℕ → List Front → List ℕ → Type 0
 AreFrontsOf octets = AreFronts octets 0 (end_at (length octets) false ∷ [])
 

@@ -34,11 +34,11 @@ abbrev pub IsNamed : ℕ → DecodeFault → Fault → Type 0
 IsNamed offset found fault =
     (fault.offset ≡ offset) × (option_map (λ t. t.now) fault.code ≡ Some (fault_name found))
 
--- there is one, which is so
+-- there is a fault, of which this holds
 abbrev pub IsFault : (Fault → Type 0) → Option Fault → Type 0
 IsFault Is told = MatchOption told ⊥ Is
 
--- it has no name
+-- the fault stands at the offset and has no name
 abbrev pub IsNameless : ℕ → Fault → Type 0
 IsNameless offset fault = (fault.offset ≡ offset) × (fault.code ≡ None)
 
@@ -65,8 +65,8 @@ IsMeaning class constructed tag contents offset Nothing fault =
     (class ≡ Universal)
     × ((found : DecodeFault) × LeafFault tag contents found × IsFault (IsNamed offset found) fault)
 
--- so of the encoding that is not gone into, with the header, which begins the octets and stands at the offset. These
--- octets stand behind its identifier octets
+-- what the contents octets mean of an encoding that is not gone into, and what is wrong with it: it has the header,
+-- begins the octets, and stands at the offset. These octets stand behind its identifier octets
 abbrev pub IsLeafMeaning : List ℕ → Header → List ℕ → ℕ → Meaning → Option Fault → Type 0
 IsLeafMeaning left header behind offset meaning fault =
     ((is_stray_form header.constructed behind ≡ true) × (meaning ≡ Nothing) × IsFault (IsNameless offset) fault)
@@ -145,7 +145,8 @@ kind_front offset depth rules spare kind = record {
   has_spare_bits = spare;
 }
 
--- so in the octets that it is a piece of, by which no list of named bits is told
+-- what the line of a piece begins with in the octets that it is a piece of. These do not tell that it is a list of
+-- named bits
 abbrev pub front_of : ℕ → Piece → Front
 front_of depth piece = kind_front piece.offset depth piece.breaches.rules.items false piece.kind
 

@@ -12,7 +12,7 @@ use Rattle.asn1_departures.specs.declared.rule.Rule.{Rule}
 use Rattle.asn1_headers.specs.declared.front.Header.{Header}
 use Rattle.der_elements.specs.Steps.{ends_of}
 
--- that of an encoding with the header
+-- what the line of an encoding with the header begins with
 abbrev pub header_front : ℕ → ℕ → List Rule → Header → Front
 header_front offset depth rules header = record {
   offset = offset;
@@ -25,12 +25,13 @@ header_front offset depth rules header = record {
   has_spare_bits = false;
 }
 
--- the encoding with the header breaks these rules, which begins the octets; so where it is whole
+-- the encoding with the header, which begins the octets, breaks these rules
 abbrev pub AreFirstRules : List ℕ → Header → List Rule → Type 0
 AreFirstRules left header rules =
     (front : IsAtFront left header) → AreRules left front.identifier front.len header.size header.announced header.class
     header.constructed header.tag rules
 
+-- a whole one does
 abbrev pub AreRulesFound : List ℕ → Header → List Rule → Type 0
 AreRulesFound left header rules =
     (front : IsAtFront left header) → AreBroken front.identifier front.len header.class header.constructed header.tag
@@ -40,7 +41,7 @@ AreRulesFound left header rules =
 abbrev pub IsAhead : Cursor → List Front → List ℕ → Type 0
 IsAhead cursor fronts faults = AreFronts cursor.octets.now cursor.offset (ends_of cursor) fronts faults
 
--- the octets begin with an encoding, or with no header, and it is gone on by the step
+-- the octets begin with an encoding, or with no header, and a cursor goes on behind it by the step
 abbrev pub StartsWith : List ℕ → ℕ → ℕ → Front → Step → List ℕ → Type 0
 StartsWith left offset depth front (Into header size indefinite) faults =
     (header ≡ front.header) × (size ≡ size_in left front) × (indefinite ≡ front.indefinite)
@@ -51,7 +52,8 @@ StartsWith left offset depth front (Past size) faults =
     × (faults ≡ offset ∷ []))
 StartsWith left offset depth front (Out size) faults = ⊥
 
--- so, or with end-of-contents octets of the contents octets around, which may be missing
+-- the octets begin with an encoding, with no header, or with end-of-contents octets of the contents octets around,
+-- which may be missing
 abbrev pub StartsNext : Left → ℕ → ℕ → Front → Step → List ℕ → Type 0
 StartsNext left offset depth front (Into header size indefinite) faults =
     ((left.is_indefinite && begins_with_end left.octets.now) ≡ false) × (0 < length left.octets.now)

@@ -1,4 +1,4 @@
-// What is said of faults.
+// What is wrong with octets, and how a dump says it.
 ghost use Rattle.std.specs.Prelude.{◌≢◌, IfOk};
 ghost use Rattle.asn1_headers.specs.Fault.{fault_of};
 ghost use Rattle.asn1_headers.specs.declared.error.ASN1DecodeErr.TheVariants.{OutOfMemory};
@@ -36,7 +36,7 @@ pub fn fault_at(alloc: Global, offset: usize, error: &ASN1DecodeErr) -> Result<F
     }
 }
 
-// That of contents octets of a type of class Universal.
+// The fault of contents octets of a type of class Universal, whose encoding stands at the offset.
 pub fn leaf_fault(
     alloc: Global,
     offset: usize,
@@ -52,19 +52,19 @@ pub fn leaf_fault(
         _ => Ok(Fault {
             offset,
             code: Some(error.name()),
-            words: leaf_words(alloc, universal, contents, error)?,
+            words: leaf_text(alloc, universal, contents, error)?,
         }),
     }
 }
 
 // What is wrong with contents octets of a type of class Universal, in words, and the name of the fault.
-fn leaf_words(
+fn leaf_text(
     alloc: Global,
     universal: Option<u8>,
     contents: &[u8],
     fault: &ASN1DecodeErr,
 ) -> Result<String, AllocError> {
-    let words = contents_words(alloc, universal, contents, fault)?;
+    let words = contents_text(alloc, universal, contents, fault)?;
     with_name(words, fault)
 }
 
@@ -74,38 +74,38 @@ fn with_name(mut words: String, fault: &ASN1DecodeErr) -> Result<String, AllocEr
     Ok(words)
 }
 
-fn contents_words(
+fn contents_text(
     alloc: Global,
     universal: Option<u8>,
     contents: &[u8],
     fault: &ASN1DecodeErr,
 ) -> Result<String, AllocError> {
     match (universal, fault) {
-        (Some(6), ASN1DecodeErr::Incomplete) => identifier_words(alloc, contents),
+        (Some(6), ASN1DecodeErr::Incomplete) => identifier_text(alloc, contents),
         (Some(23), ASN1DecodeErr::InvalidDateValue(_)) => {
-            time_words(alloc, "UTCTime", "YYMMDDhhmmssZ", contents)
+            time_fault_text(alloc, "UTCTime", "YYMMDDhhmmssZ", contents)
         }
-        (Some(24), ASN1DecodeErr::InvalidDateValue(_)) => time_words(
+        (Some(24), ASN1DecodeErr::InvalidDateValue(_)) => time_fault_text(
             alloc,
             "GeneralizedTime",
             "YYYYMMDDhhmmssZ, with or without a fraction",
             contents,
         ),
         (Some(PRINTABLE_STRING), ASN1DecodeErr::PrintableStringDecodeFailure) => {
-            printable_words(alloc, contents, fault)
+            printable_text(alloc, contents, fault)
         }
-        (_, ASN1DecodeErr::UTF8DecodeFailure(failure)) => utf8_words(alloc, failure),
-        _ => plain_words(alloc, fault),
+        (_, ASN1DecodeErr::UTF8DecodeFailure(failure)) => utf8_text(alloc, failure),
+        _ => plain_text(alloc, fault),
     }
 }
 
 // What is wrong with a PrintableString, and its text.
-fn printable_words(
+fn printable_text(
     alloc: Global,
     contents: &[u8],
     fault: &ASN1DecodeErr,
 ) -> Result<String, AllocError> {
-    let mut words = plain_words(alloc, fault)?;
+    let mut words = plain_text(alloc, fault)?;
     if let Some(text) = text_beside(u64::from(PRINTABLE_STRING), contents) {
         words.push_str(": ")?;
         write_quoted(&mut words, text)?;
@@ -113,7 +113,7 @@ fn printable_words(
     Ok(words)
 }
 
-fn identifier_words(alloc: Global, contents: &[u8]) -> Result<String, AllocError> {
+fn identifier_text(alloc: Global, contents: &[u8]) -> Result<String, AllocError> {
     if contents.is_empty() {
         return String::from_str(alloc, "OBJECT IDENTIFIER has no content bytes");
     }
@@ -121,7 +121,7 @@ fn identifier_words(alloc: Global, contents: &[u8]) -> Result<String, AllocError
 }
 
 // The text of a time, and of which form it should be.
-fn time_words(
+fn time_fault_text(
     alloc: Global,
     name: &str,
     form: &str,
@@ -140,17 +140,17 @@ fn time_words(
 }
 
 // Where the octets begin that are no character, counted from the first of the contents octets.
-fn utf8_words(alloc: Global, failure: &Utf8Error) -> Result<String, AllocError> {
+fn utf8_text(alloc: Global, failure: &Utf8Error) -> Result<String, AllocError> {
     let place = failure.valid_up_to();
     format!(in alloc; "string is not UTF-8 from content byte {place} on")
 }
 
 // What a fault is, in words, and its name. That memory ran out is none.
 pub fn fault_words(alloc: Global, fault: &ASN1DecodeErr) -> Result<String, AllocError> {
-    with_name(plain_words(alloc, fault)?, fault)
+    with_name(plain_text(alloc, fault)?, fault)
 }
 
-fn plain_words(alloc: Global, fault: &ASN1DecodeErr) -> Result<String, AllocError> {
+fn plain_text(alloc: Global, fault: &ASN1DecodeErr) -> Result<String, AllocError> {
     match fault {
         ASN1DecodeErr::EmptyBuffer => String::from_str(alloc, "there are no bytes"),
         ASN1DecodeErr::BadBooleanLength(n) => {

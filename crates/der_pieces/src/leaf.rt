@@ -40,7 +40,8 @@ pub struct Read {
     pub fault: Option<Fault>,
 }
 
-// So of the contents octets of a primitive encoding with the header, which stands at the offset.
+// What the contents octets mean of a primitive encoding with the header, which stands at the offset, and what is wrong
+// with them.
 pub fn read_contents(
     alloc: Global,
     header: &Header,

@@ -1,4 +1,4 @@
-// What of DER an encoding breaks, and how the mark at the end of its line says it.
+// Which rules of DER an encoding breaks.
 ghost use Rattle.std.specs.Prelude.{◌≡◌, ◌++◌, ◌∷◌, ◌+◌, ◌<◌, ◌≤◌, [], IfOk, OnOk, false, length, map};
 ghost use Rattle.asn1_headers.specs.Front.{IsAtFront};
 ghost use Rattle.der_pieces.specs.Marks.{name_of as name_of_is, rule_told as rule_told_is, spare_if, told_of, told_rules, spare_told as spare_told_is};

@@ -54,35 +54,35 @@ fn hold_encodings(alloc: Global, octets: &[u8]) -> Result<bool, AllocError> {
     if octets.is_empty() {
         return Ok(false);
     }
-    let mut kind = Kind::Values;
+    let mut guess = Guess::Values;
     let mut cursor = Cursor::over(alloc, octets, false)?;
     while let Some(left) = cursor.next() {
         let is_outermost = cursor.depth() == 0;
-        let Some(seen) = look_at(alloc, left, is_outermost, kind)? else {
+        let Some(seen) = look_at(alloc, left, is_outermost, guess)? else {
             return Ok(false);
         };
         cursor.go(seen.step)?;
-        kind = seen.kind;
+        guess = seen.guess;
     }
-    Ok(!matches!(kind, Kind::Unlikely))
+    Ok(!matches!(guess, Guess::Chance))
 }
 
-// What encodings were found to be.
+// What octets are taken for, by the encodings that they have so far.
 #[derive(Clone, Copy, Drop)]
-enum Kind {
-    // all have a value, and none is gone into
+enum Guess {
+    // encodings: all have a value, and none is gone into
     Values,
-    // one is gone into
+    // encodings: one is gone into
     Tree,
-    // one has no value, and none is gone into
-    Unlikely,
+    // none, which look like encodings by chance: one has no value, and none is gone into
+    Chance,
 }
 
-// How it is gone on after an encoding, and of which kind those up to it are.
+// How a cursor goes on behind an encoding, and what the octets are taken for with it.
 #[derive(Clone, Copy, Drop)]
 struct Seen {
     step: Step,
-    kind: Kind,
+    guess: Guess,
 }
 
 // What is seen of the encoding that begins what is left. `None` where none begins it, or an outermost one that may be
@@ -91,13 +91,13 @@ fn look_at(
     alloc: Global,
     left: Left<'_>,
     is_outermost: bool,
-    kind: Kind,
+    guess: Guess,
 ) -> Result<Option<Seen>, AllocError>
     ensures { IfOk result (λ found. IfSome found (λ seen. Takes seen.step left.entry)) }
 {
     if left.begins_with_end() {
         let step = Step::Out(2);
-        return Ok(Some(Seen { step, kind }));
+        return Ok(Some(Seen { step, guess }));
     }
     let Some(header) = whole_header(alloc, left.octets)? else {
         return Ok(None);
@@ -106,25 +106,30 @@ fn look_at(
         return Ok(None);
     }
     let step = step_of(&header, size_of(left.octets, &header));
-    let kind = kind_with(alloc, left.octets, header, kind)?;
-    Ok(Some(Seen { step, kind }))
+    let guess = guess_with(alloc, left.octets, header, guess)?;
+    Ok(Some(Seen { step, guess }))
 }
 
-// Of which kind encodings are with one more, which begins the octets.
-fn kind_with(alloc: Global, octets: &[u8], header: Header, kind: Kind) -> Result<Kind, AllocError>
+// What octets are taken for with one encoding more, which begins these.
+fn guess_with(
+    alloc: Global,
+    octets: &[u8],
+    header: Header,
+    guess: Guess,
+) -> Result<Guess, AllocError>
     requires { header.size + header.announced ≤ length octets.now }
 {
     if holds_encodings(&header) {
-        return Ok(Kind::Tree);
+        return Ok(Guess::Tree);
     }
-    if !matches!(kind, Kind::Values) {
-        return Ok(kind);
+    if !matches!(guess, Guess::Values) {
+        return Ok(guess);
     }
     let contents = &octets[header.size..header.size + header.announced];
     if is_right(alloc, &header, contents)? {
-        Ok(Kind::Values)
+        Ok(Guess::Values)
     } else {
-        Ok(Kind::Unlikely)
+        Ok(Guess::Chance)
     }
 }
 

@@ -47,7 +47,7 @@ pub struct Piece<'a> {
     // what of DER it breaks
     pub breaches: Breaches,
     pub fault: Option<Fault>,
-    // how it is gone on after it
+    // how a cursor goes on behind it
     pub step: Step,
     // the encodings inside its contents octets
     pub nested: Option<Nested<'a>>,
@@ -294,7 +294,7 @@ fn opened<'a>(
     })
 }
 
-// What is wrong with one: it is primitive, and its length has the indefinite form.
+// What is wrong with an encoding that is gone into: it is primitive, and its length has the indefinite form.
 fn opened_fault(
     alloc: Global,
     left: &[u8],
@@ -311,7 +311,7 @@ fn opened_fault(
     Ok(None)
 }
 
-// That a primitive encoding has a length of the indefinite form, which is read as 0.
+// The fault of a primitive encoding whose length has the indefinite form; the length is read as 0.
 fn stray_fault(alloc: Global, offset: usize) -> Result<Fault, AllocError>
     ensures { IfOk result (IsNameless offset) }
 {
@@ -352,7 +352,7 @@ fn leaf<'a>(
     })
 }
 
-// What its contents octets mean.
+// What the contents octets of a leaf mean.
 fn read_leaf(alloc: Global, left: &[u8], header: &Header, offset: usize) -> Result<Read, AllocError>
     requires front { IsAtFront left.now header.now }
     requires whole { header.now.size + header.now.announced ≤ length left.now }

@@ -1,4 +1,4 @@
-// Where lines stand that are put.
+// Where the pieces of octets stand in a document.
 ghost use Rattle.std.specs.Prelude.{◌≡◌, ◌+◌, ◌<◌, suc, IfOk, false, true, if◌then◌else◌};
 ghost use Rattle.der_pieces.specs.Fronts.{is_too_deep};
 
@@ -71,8 +71,8 @@ impl Place {
         self.documents > 0 && !is_deep
     }
 
-    // That of encodings which stand so many levels further in, maybe in a string; a string there is the value of the
-    // extension.
+    // The place of encodings that stand so many levels further in, maybe in a string; a string there is the value of
+    // the extension.
     pub fn deeper(
         self,
         levels: usize,

@@ -6,15 +6,15 @@ use Rattle.der_elements.proofs.Seeking.{ended_is}
 use Rattle.der_elements.proofs.seek.behind_end.Goals as goal
 
 pub split_at-requires : goal.split_at-requires
-split_at-requires c = (ended_is c.args.sought.depth c.args.sought.octets.now c.requires.end).2
+split_at-requires c = (ended_is c.args.target.depth c.args.target.octets.now c.requires.end).2
 
 pub overflow_sub-result-2 : goal.overflow_sub-result-2
-overflow_sub-result-2 c = (ended_is c.args.sought.depth c.args.sought.octets.now c.requires.end).0
+overflow_sub-result-2 c = (ended_is c.args.target.depth c.args.target.octets.now c.requires.end).0
 
 pub returns-clause-found : goal.returns-clause-found
 returns-clause-found c =
-    let sought = c.args.sought in
-    let (some, ends, two) = ended_is sought.depth sought.octets.now c.requires.end in
-    let around : sought.depth ≡ suc (sought.depth - 1) = omega (arith, some) in
-    let later : sought.distance ≡ 2 + (sought.distance - 2) = omega arith in
+    let target = c.args.target in
+    let (some, ends, two) = ended_is target.depth target.octets.now c.requires.end in
+    let around : target.depth ≡ suc (target.depth - 1) = omega (arith, some) in
+    let later : target.distance ≡ 2 + (target.distance - 2) = omega arith in
     behind_end around ends c.split_at.ensures.back later

@@ -4,53 +4,53 @@ use Rattle.der_elements.specs.SeekSteps.{LeadsNowhere, LeadsOn}
 use Rattle.der_elements.proofs.Seeking.{found_at, if_ok, none_at, reaches_nowhere, reaches_there, why_at}
 use Rattle.der_elements.proofs.seek.block_at.Goals as goal
 
-pub loop-sought-preserved : goal.loop-sought-preserved
-loop-sought-preserved c around others =
-    let sought = c.loop-sought.sought in
+pub loop-target-preserved : goal.loop-target-preserved
+loop-target-preserved c around others =
+    let target = c.loop-target.target in
     let nearer = c.in-Some.nearer in
-    let leads : LeadsOn sought nearer = rw c.in-Some.is at c.in_ok-nearer.ensures.found in
+    let leads : LeadsOn target nearer = rw c.in-Some.is at c.in_ok-nearer.ensures.found in
     let next =
-    reaches_there sought.depth sought.octets.now sought.distance nearer.depth nearer.octets.now nearer.distance
-    c.loop-sought-test.true leads around others in
-    let same = c.loop-sought.invariant around others in
+    reaches_there target.depth target.octets.now target.distance nearer.depth nearer.octets.now nearer.distance
+    c.loop-target-test.true leads around others in
+    let same = c.loop-target.invariant around others in
     (λ h. next.0 (same.0 h), λ h. same.1 (next.1 h))
 
 pub returns-in_default-clause-none : goal.returns-in_default-clause-none
 returns-in_default-clause-none c block h =
-    let sought = c.loop-sought.sought in
-    let none : LeadsNowhere sought = rw c.in_default.is at c.in_ok-nearer.ensures.found in
-    reaches_nowhere sought.depth sought.octets.now sought.distance c.loop-sought-test.true none h.around h.others
-    ((c.loop-sought.invariant h.around h.others).0 h.reached)
+    let target = c.loop-target.target in
+    let none : LeadsNowhere target = rw c.in_default.is at c.in_ok-nearer.ensures.found in
+    reaches_nowhere target.depth target.octets.now target.distance c.loop-target-test.true none h.around h.others
+    ((c.loop-target.invariant h.around h.others).0 h.reached)
 
 pub returns-in_default-clause-why : goal.returns-in_default-clause-why
 returns-in_default-clause-why c around others h =
-    let sought = c.loop-sought.sought in
-    let none : LeadsNowhere sought = rw c.in_default.is at c.in_ok-nearer.ensures.found in
-    absurd (reaches_nowhere sought.depth sought.octets.now sought.distance c.loop-sought-test.true none around others
-    ((c.loop-sought.invariant around others).0 h))
+    let target = c.loop-target.target in
+    let none : LeadsNowhere target = rw c.in_default.is at c.in_ok-nearer.ensures.found in
+    absurd (reaches_nowhere target.depth target.octets.now target.distance c.loop-target-test.true none around others
+    ((c.loop-target.invariant around others).0 h))
 
 pub returns-clause-found : goal.returns-clause-found
 returns-clause-found c =
-    let sought = c.loop-sought.sought in
-    let here : sought.distance ≡ 0 = omega (arith, c.loop-sought-test.false) in
+    let target = c.loop-target.target in
+    let here : target.distance ≡ 0 = omega (arith, c.loop-target-test.false) in
     if_ok c.block_here.result
-    (found_at c.args.octets.now sought.octets.now c.args.offset sought.depth sought.distance here
-    c.loop-sought.invariant)
+    (found_at c.args.octets.now target.octets.now c.args.offset target.depth target.distance here
+    c.loop-target.invariant)
     c.block_here.ensures
 
 pub returns-clause-none : goal.returns-clause-none
 returns-clause-none c =
-    let sought = c.loop-sought.sought in
-    let here : sought.distance ≡ 0 = omega (arith, c.loop-sought-test.false) in
+    let target = c.loop-target.target in
+    let here : target.distance ≡ 0 = omega (arith, c.loop-target-test.false) in
     if_ok c.block_here.result
-    (none_at c.args.octets.now sought.octets.now c.args.offset sought.depth sought.distance here
-    c.loop-sought.invariant)
+    (none_at c.args.octets.now target.octets.now c.args.offset target.depth target.distance here
+    c.loop-target.invariant)
     c.block_here.ensures
 
 pub returns-clause-why : goal.returns-clause-why
 returns-clause-why c =
-    let sought = c.loop-sought.sought in
-    let here : sought.distance ≡ 0 = omega (arith, c.loop-sought-test.false) in
+    let target = c.loop-target.target in
+    let here : target.distance ≡ 0 = omega (arith, c.loop-target-test.false) in
     if_ok c.block_here.result
-    (why_at c.args.octets.now sought.octets.now c.args.offset sought.depth sought.distance here c.loop-sought.invariant)
+    (why_at c.args.octets.now target.octets.now c.args.offset target.depth target.distance here c.loop-target.invariant)
     c.block_here.ensures

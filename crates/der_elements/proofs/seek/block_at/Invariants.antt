@@ -5,11 +5,11 @@ use Rattle.der_elements.specs.Seek.{Reaches}
 use Rattle.der_elements.proofs.seek.block_at.Given as goal
 
 -- what stands at the distance in what is left stands at the offset
-abbrev pub invariant-loop-sought : goal.invariant-loop-sought
-invariant-loop-sought l =
+abbrev pub invariant-loop-target : goal.invariant-loop-target
+invariant-loop-target l =
     (around : ℕ) (others : List ℕ) →
     Reaches 0 l.octets l.offset around others
-    ↔ Reaches l.sought.depth l.sought.octets.now l.sought.distance around others
+    ↔ Reaches l.target.depth l.target.octets.now l.target.distance around others
 
-abbrev pub decreases-loop-sought : goal.decreases-loop-sought
-decreases-loop-sought l = l.sought.distance
+abbrev pub decreases-loop-target : goal.decreases-loop-target
+decreases-loop-target l = l.target.distance

@@ -1,7 +1,7 @@
--- For `seek::Sought::begins_with_end`: what it returns is right.
+-- For `seek::Target::begins_with_end`: what it returns is right.
 use Rattle.std.proofs.Common.{◌∙◌}
 use Rattle.der_elements.proofs.Seeking.{ends_none, ends_some}
-use Rattle.der_elements.proofs.seek.Sought.begins_with_end.Goals as goal
+use Rattle.der_elements.proofs.seek.Target.begins_with_end.Goals as goal
 
 pub returns-then-self-gt0 : goal.returns-then-self-gt0
 returns-then-self-gt0 c =
