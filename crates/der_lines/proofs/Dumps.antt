@@ -1,9 +1,7 @@
 -- Lines are put after lines.
-use Rattle.std.proofs.Common.{◌≡◌, ◌≢◌, ◌==◌, ℕ, zero, suc, ◌+◌, ◌-◌, ◌<◌, List, [], ◌∷◌, ◌++◌, codes, drop, if◌then◌else◌, replicate}
+use Rattle.std.proofs.Common.{◌≡◌, ℕ, zero, suc, ◌+◌, ◌-◌, ◌<◌, List, [], ◌∷◌, ◌++◌, codes, drop, if◌then◌else◌, replicate}
 use Rattle.std.proofs.Common.{Bool, true, false, refl, sym, ap, ◌∙◌, subst, append_assoc, append-nil, arith, length}
 use Rattle.std.proofs.lemmas.List.{drop-drop}
-use Rattle.std.proofs.lemmas.Bool.{eqb-false}
-use Rattle.std.proofs.lemmas.List.Elements.{All-append, All-cons, All-nil}
 use Rattle.std.specs.Fmt.{decimal}
 use Rattle.std.specs.Prelude.{Option}
 use Rattle.der_pieces.specs.Texts.{Adds}
@@ -14,9 +12,10 @@ use Rattle.der_lines.specs.Dump.{StandsInside, block_line, down_to, inside_line,
 use Rattle.der_pieces.specs.Marks.{Told, told_rules}
 use Rattle.der_lines.specs.MarkText.{mark_text, words_text}
 use Rattle.der_lines.specs.Steps.{IsLineOf, IsLineUnless, outer}
+use Rattle.der_rows.proofs.OneLine.{one_line_both, one_line_made}
 use Rattle.der_rows.proofs.Printed.{pushes_none}
 use Rattle.der_rows.specs.Printing.{IsPrintedAs, Prints}
-use Rattle.der_rows.specs.Rows.{IsOneLine, contents_column, fault_words, indentation, on_one_line, right_of, row_line}
+use Rattle.der_rows.specs.Rows.{contents_column, fault_words, indentation, on_one_line, right_of, row_line}
 use Rattle.der_rows.specs.declared.printer.Printer.{Printer}
 use Rattle.der_rows.specs.declared.row.Row.{Row}
 
@@ -104,29 +103,18 @@ pub outer_none : (inside : Bool) (most : Option ℕ) → outer inside most [] �
 outer_none true most = refl
 outer_none false most = refl
 
--- octets 0A become spaces, and no other changes
-is_no_end : (b : ℕ) (q : Bool) → (b == 10) ≡ q → (if q then 32 else b) ≢ 10
-is_no_end b true is e = absurd (omega (arith, e))
-is_no_end b false is e = eqb-false b 10 is e
-
-pub has_one_line : (text : List ℕ) → IsOneLine (on_one_line text)
-has_one_line [] = All-nil (λ b. b ≢ 10)
-has_one_line (b ∷ text) =
-    All-cons (λ b. b ≢ 10) (if b == 10 then 32 else b) (on_one_line text) (is_no_end b (b == 10) refl)
-    (has_one_line text)
-
 -- the line of a row behind its offset
 abbrev row_rest : Row → List ℕ
 row_rest row =
     32 ∷ [] ++ (right_of 2 row.header ++ (32 ∷ [] ++ (contents_column row.is_indefinite row.contents
-    ++ (32 ∷ 32 ∷ [] ++ (indentation row.depth ++ (row.words.now ++ (on_one_line row.value.now
-    ++ (on_one_line (fault_words row) ++ row.mark.now))))))))
+    ++ (32 ∷ 32 ∷ [] ++ (indentation row.depth ++ (on_one_line row.words.now ++ (on_one_line row.value.now
+    ++ (on_one_line (fault_words row) ++ on_one_line row.mark.now))))))))
 
 -- the line of a row
 row_block :
     (row : Row) (f : Front) → row.offset ≡ f.offset → row.header ≡ f.header → row.contents ≡ f.contents →
-    row.is_indefinite ≡ f.indefinite → row.depth ≡ f.depth → row.words.now ≡ f.words →
-    row.mark.now ≡ mark_text (told_rules f.rules f.has_spare_bits) → (width : ℕ) (line : List ℕ) →
+    row.is_indefinite ≡ f.indefinite → row.depth ≡ f.depth → on_one_line row.words.now ≡ f.words →
+    on_one_line row.mark.now ≡ mark_text (told_rules f.rules f.has_spare_bits) → (width : ℕ) (line : List ℕ) →
     line ≡ right_of width row.offset ++ row_rest row → IsBlockLine f line
 row_block row f o h c i d w m width line is =
     let value = on_one_line row.value.now in
@@ -135,21 +123,22 @@ row_block row f o h c i d w m width line is =
     replicate (width - length (decimal f.offset)) 32
     ++ (decimal f.offset ++ (32 ∷ [] ++ (right_of 2 f.header ++ (32 ∷ []
     ++ (contents_column f.indefinite f.contents ++ (32 ∷ 32 ∷ []
-    ++ (indentation f.depth ++ (f.words ++ ((value ++ fault) ++ row.mark.now)))))))))
+    ++ (indentation f.depth ++ (f.words ++ ((value ++ fault) ++ on_one_line row.mark.now)))))))))
     = rw (is, o, h, c, i, d, w) (simp append_assoc) in
     record {
       spaces = width - length (decimal f.offset);
       said = value ++ fault;
-      mark = row.mark.now;
+      mark = on_one_line row.mark.now;
       line_is = same;
-      one = All-append (λ b. b ≢ 10) value fault (has_one_line row.value.now) (has_one_line (fault_words row));
+      one = one_line_both value fault (one_line_made row.value.now) (one_line_made (fault_words row));
       mark_is = m;
     }
 
 pub row_line_of :
     (inside : Bool) (row : Row) (f : Front) → row.is_inside ≡ inside → row.offset ≡ f.offset → row.header ≡ f.header →
-    row.contents ≡ f.contents → row.is_indefinite ≡ f.indefinite → row.depth ≡ f.depth → row.words.now ≡ f.words →
-    row.mark.now ≡ mark_text (told_rules f.rules f.has_spare_bits) → IsLineOf inside f (row_line row)
+    row.contents ≡ f.contents → row.is_indefinite ≡ f.indefinite → row.depth ≡ f.depth →
+    on_one_line row.words.now ≡ f.words →
+    on_one_line row.mark.now ≡ mark_text (told_rules f.rules f.has_spare_bits) → IsLineOf inside f (row_line row)
 row_line_of true row f q o h c i d w m =
     let shown = right_of 6 row.offset ++ row_rest row in
     record {

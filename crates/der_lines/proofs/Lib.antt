@@ -1,4 +1,5 @@
 mod Documents
 pub mod Dumps
 pub mod Fronts
+mod Shown
 pub mod Told

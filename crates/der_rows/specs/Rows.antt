@@ -1,19 +1,24 @@
 -- The lines of rows.
-use Rattle.std.specs.Prelude.{◌≢◌, ◌==◌, ℕ, ◌-◌, ◌*◌, Bool, true, false, List, [], ◌∷◌, ◌++◌, All, codes, decimal}
+use Rattle.std.specs.Prelude.{◌≡◌, ◌&&◌, ◌==◌, ℕ, ◌-◌, ◌*◌, Bool, true, false, List, [], ◌∷◌, ◌++◌, codes, decimal, nat_le, not}
 use Rattle.std.specs.Prelude.{if◌then◌else◌, length, map, min, replicate, unwrap_or}
+use Rattle.std.specs.List.{list_all}
 use Rattle.std.specs.Option.{option_map}
-use Rattle.der_io.specs.Characters.{colon, equals_sign, exclamation_mark, greater_than_sign, line_feed, space}
+use Rattle.der_io.specs.Characters.{colon, equals_sign, exclamation_mark, greater_than_sign, space}
 use Rattle.der_rows.specs.declared.line.NoteKind.{NoteKind}
 use Rattle.der_rows.specs.declared.line.NoteKind.TheVariants.{Error, Title}
 use Rattle.der_rows.specs.declared.row.Row.{Row}
 
--- no line feed, which ends a line
-abbrev pub IsOneLine : List ℕ → Type 0
-IsOneLine text = All (λ b. b ≢ line_feed) text
+-- no octet of a control character, which are 00 to 1F and 7F (ISO 646)
+abbrev pub is_shown : ℕ → Bool
+is_shown b = nat_le 32 b && not (b == 127)
 
--- the text with a space in the place of each line feed
+-- no control characters, nor a line feed, which ends a line
+abbrev pub IsOneLine : List ℕ → Type 0
+IsOneLine text = list_all is_shown text ≡ true
+
+-- the text with a space in the place of each control character
 abbrev pub on_one_line : List ℕ → List ℕ
-on_one_line text = map (λ b. if b == line_feed then space else b) text
+on_one_line text = map (λ b. if is_shown b then b else space) text
 
 -- a number in decimal, with spaces before it where it has fewer digits than the width
 abbrev pub right_of : ℕ → ℕ → List ℕ
@@ -47,8 +52,8 @@ fault_words row = unwrap_or (option_map (λ words. words.now) row.fault) []
 -- the line of a row: its columns, its type, its value, what is wrong with it, and what of DER it breaks
 abbrev pub row_line : Row → List ℕ
 row_line row =
-    columns_text row ++ (row.words.now
-    ++ (on_one_line row.value.now ++ (on_one_line (fault_words row) ++ row.mark.now)))
+    columns_text row ++ (on_one_line row.words.now
+    ++ (on_one_line row.value.now ++ (on_one_line (fault_words row) ++ on_one_line row.mark.now)))
 
 -- the octet that the line of a note begins with
 abbrev pub note_mark : NoteKind → ℕ

@@ -1,10 +1,11 @@
 // The columns of a row, and text on one line.
-ghost use Rattle.std.specs.Prelude.{◌≡◌, ◌==◌, ◌++◌, OnOk, if◌then◌else◌, replicate, true};
-ghost use Rattle.der_rows.specs.Rows.{IsOneLine, columns_text, contents_column, offset_column, on_one_line, right_of};
+ghost use Rattle.std.specs.Prelude.{◌≡◌, ◌++◌, OnOk, if◌then◌else◌, replicate};
+ghost use Rattle.std.specs.List.{list_all};
+ghost use Rattle.der_rows.specs.Rows.{columns_text, contents_column, is_shown as is_shown_is, offset_column, on_one_line};
+ghost use Rattle.der_rows.specs.Rows.{right_of};
 
 use crate::row::Row;
 use itoa::Buffer;
-use memchr::memchr;
 use std::alloc::AllocError;
 
 // How many characters an offset takes, with the spaces before it, and the sizes of header and contents.
@@ -29,7 +30,7 @@ fn push_spaces(n: usize, out: &mut Vec<u8>) -> Result<(), AllocError>
     Ok(())
 }
 
-// Pushes the text with a space in the place of each octet 0A.
+// Pushes the text with a space in the place of each control character.
 pub fn push_on_one_line(text: &[u8], out: &mut Vec<u8>) -> Result<(), AllocError>
     ensures { OnOk result (out.new.items ≡ out.old.items ++ on_one_line text.now) }
 {
@@ -39,16 +40,23 @@ pub fn push_on_one_line(text: &[u8], out: &mut Vec<u8>) -> Result<(), AllocError
     Ok(())
 }
 
+// Whether the text has no control characters.
 pub fn is_one_line(text: &[u8]) -> bool
-    ensures { result ≡ true → IsOneLine text.now }
+    ensures { result ≡ list_all is_shown_is text.now }
 {
-    memchr(b'\n', text).is_none()
+    text.iter().all(|b| is_shown(*b))
 }
 
 fn plain(b: u8) -> u8
-    ensures { result ≡ (if b == 10 then 32 else b) }
+    ensures { result ≡ (if is_shown_is b then b else 32) }
 {
-    if b == b'\n' { b' ' } else { b }
+    if is_shown(b) { b } else { b' ' }
+}
+
+fn is_shown(octet: u8) -> bool
+    ensures { result ≡ is_shown_is octet }
+{
+    octet >= b' ' && octet != 127
 }
 
 // Pushes a number, with spaces before it where it has fewer digits than the width.

@@ -13,16 +13,18 @@
 //!
 //! The line of a row has its offset, the sizes of its header and of its contents octets, its type, its value, what is
 //! wrong with it, and what of DER it breaks. [`Printer::push_note`] prints a line about documents: `=` and a title, or
-//! `!` and what is wrong.
+//! `!` and what is wrong. No line has a control character, by [`law_one_line`].
 //!
 //! The only error is that memory ran out; what was pushed before it stays.
 #![tactic(auto)]
 
 mod columns;
+mod laws;
 mod line;
 mod printer;
 mod row;
 
+pub use laws::law_one_line;
 pub use line::NoteKind;
 pub use printer::{Look, Printer};
 pub use row::Row;

@@ -31,10 +31,10 @@ pub fn push_row_line(
     ensures { OnOk result (Pushes look [] (row_line row.now) out.old.items out.new.items) }
 {
     push_columns_in(alloc, look, row, out)?;
-    push_part(look, Paint::Cyan, row.words.as_bytes(), out)?;
+    push_words(alloc, look, Paint::Cyan, row.words.as_bytes(), out)?;
     push_words(alloc, look, Paint::Plain, row.value.as_bytes(), out)?;
     push_fault_words(alloc, look, row, out)?;
-    push_part(look, Paint::Red, row.mark, out)?;
+    push_words(alloc, look, Paint::Red, row.mark, out)?;
     Ok(())
 }
 
@@ -71,7 +71,7 @@ fn push_fault_words(
     }
 }
 
-// Pushes text with a space in the place of each octet 0A.
+// Pushes text with a space in the place of each control character.
 fn push_words(
     alloc: Global,
     look: Look,

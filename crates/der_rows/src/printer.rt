@@ -64,8 +64,8 @@ impl Printer {
         Ok(())
     }
 
-    /// Prints a line of another kind, on which a space stands in the place of each octet 0A. On a page its element has
-    /// the class `fault` exactly if it says that something is wrong.
+    /// Prints a line of another kind, on which a space stands in the place of each control character. On a page its
+    /// element has the class `fault` exactly if it says that something is wrong.
     ///
     /// # Errors
     /// Memory ran out.

@@ -6,8 +6,11 @@ use Rattle.der_lines.specs.MarkText.{mark_text}
 use Rattle.der_pieces.specs.Marks.{told_rules}
 use Rattle.der_lines.specs.PieceRows.{shown_front}
 use Rattle.der_lines.proofs.Dumps.{nothing_deep, row_line_of, row_printed}
+use Rattle.der_lines.proofs.Shown.{mark_shown, type_shown}
+use Rattle.der_pieces.specs.Pieces.{kind_words}
+use Rattle.der_rows.proofs.OneLine.{on_one_line-shown}
 use Rattle.der_rows.specs.Printing.{Prints}
-use Rattle.der_rows.specs.Rows.{row_line}
+use Rattle.der_rows.specs.Rows.{on_one_line, row_line}
 use Rattle.der_rows.specs.declared.row.Row.{Row}
 use Rattle.der_lines.proofs.encodings.push_row.Goals as goal
 
@@ -37,10 +40,14 @@ returns c =
     let fault : is_some row.fault ≡ is_some piece.fault = c.as_deref.ensures.variant ∙ c.requires.fault in
     let text = mark_text (told_rules piece.breaches.rules.items piece.breaches.has_spare_bits) in
     let mark = c.deref-2.ensures.value ∙ (c.in_ok-push_mark.ensures ∙ ap (λ z. z ++ text) c.new-mark.ensures.items) in
+    let mark_line = ap on_one_line mark
+    ∙ on_one_line-shown text (mark_shown piece.breaches.rules.items piece.breaches.has_spare_bits) in
+    let words_line = ap on_one_line c.requires.words
+    ∙ on_one_line-shown (kind_words piece.kind) (type_shown piece.kind) in
     row_printed (is_too_deep place.most_depth place.depth) place.is_inside row (shown_front piece)
     (is_some piece.fault ∷ [])
     c.args.printer.now c.push.new.self (sym c.is_too_deep.ensures ∙ c.if-is_too_deep.false)
     (subst (λ z. Prints (z ∷ []) (row_line row ++ 10 ∷ []) c.args.printer.now c.push.new.self) fault
     c.in_ok-push.ensures)
     (row_line_of place.is_inside row (shown_front piece) refl c.in_ok-document_offset.ensures c.header_size.ensures
-    c.contents_size.ensures c.is_indefinite.ensures refl c.requires.words mark)
+    c.contents_size.ensures c.is_indefinite.ensures refl words_line mark_line)
