@@ -56,11 +56,3 @@ painted p t a b c d e f g =
     same_text (t ++ []) t a d (append-nil t)
     (paints_then t [] a c d (paints_then [] t a b c (paints_paint p a b e) (paints_part t b c f))
     (paints_paint Plain c d g))
-
--- what was pushed, alone
-pub paints_alone : (text a b : List ℕ) → Paints text a b → (own : List ℕ) × (b ≡ a ++ own) × Paints text [] own
-paints_alone text a b h = (
-  flat_map written h.pieces,
-  h.after_is,
-  record { pieces = h.pieces; text_is = h.text_is; after_is = refl },
-)

@@ -131,13 +131,13 @@ fn is_closed_pipe<T>(outcome: &io::Result<T>) -> bool {
 impl Write for HostWriter<'_> {
     fn write(&mut self, buf: &[u8]) -> io::Result<usize> {
         let outcome = self.rt.stdout().write(buf);
-        self.is_closed = is_closed_pipe(&outcome);
+        self.is_closed |= is_closed_pipe(&outcome);
         outcome
     }
 
     fn flush(&mut self) -> io::Result<()> {
         let outcome = self.rt.stdout().flush();
-        self.is_closed = is_closed_pipe(&outcome);
+        self.is_closed |= is_closed_pipe(&outcome);
         outcome
     }
 }

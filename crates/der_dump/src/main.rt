@@ -10,6 +10,7 @@ use der_names::{NamesFault, OwnNames};
 use der_options::{Options, OptionsFault, options_of};
 use std::alloc::AllocError;
 use std::io;
+use std::io::{BufWriter, Write};
 use std::process::ExitCode;
 
 // The exit status of words that are no command line.
@@ -106,19 +107,29 @@ fn tell_line(rt: &HostRuntime, file: &str, number: usize) {
 
 // Does what the options want.
 fn answer(rt: &HostRuntime, options: &Options<'_>, own: OwnNames) -> u8 {
-    let mut output = HostWriter::new(rt);
-    let outcome = match sources(rt, options) {
-        Ok(mut sources) => run(rt.alloc(), options, own, &mut sources, &mut output),
-        Err(_) => Err(StreamFault::Memory),
+    let (Ok(mut sources), Ok(writer)) = (sources(rt, options), buffered(rt)) else {
+        tell_memory(rt, &StreamFault::Memory);
+        return status(&Err(StreamFault::Memory));
     };
+    let (outcome, mut writer) = run(rt.alloc(), options, own, &mut sources, writer);
     match &outcome {
         Ok(outcomes) => tell_lacking(rt, options, outcomes),
-        Err(fault) if !output.is_closed => {
-            let _ = eprintln!(rt; "{}", fault_text(fault));
+        Err(fault) => {
+            // what was written before memory ran out
+            let _ = writer.flush();
+            if !writer.get_ref().is_closed {
+                let _ = eprintln!(rt; "{}", fault_text(fault));
+            }
         }
-        Err(_) => {}
     }
     status(&outcome)
+}
+
+// How many octets of the output are kept until they are written.
+const BUFFER: usize = 65_536;
+
+fn buffered<'r>(rt: &'r HostRuntime) -> io::Result<BufWriter<HostWriter<'r>>> {
+    BufWriter::with_capacity(rt.alloc(), BUFFER, HostWriter::new(rt))
 }
 
 // Says on standard error of which inputs nothing was written, and why.

@@ -137,17 +137,14 @@ shows_octets os a b e =
       after_is = e ∙ ap (λ z. a ++ z) (sym (flat_map-map written octet os));
     }
 
--- what was pushed, alone
-pub shows_alone :
-    (fs : List Bool) (xs us a b : List ℕ) → Shows fs xs us a b → (own : List ℕ) × (b ≡ a ++ own) × Shows fs xs us [] own
-shows_alone fs xs us a b s = (
-  flat_map written s.pieces,
-  s.after_is,
-  record {
-    pieces = s.pieces;
-    faults_are = s.faults_are;
-    text_is = s.text_is;
-    octets_are = s.octets_are;
-    after_is = refl;
-  },
-)
+-- behind another text it is the same
+pub shows_behind :
+    (fs : List Bool) (xs us a own : List ℕ) → Shows fs xs us [] own → Shows fs xs us a (a ++ own)
+shows_behind fs xs us a own s =
+    record {
+      pieces = s.pieces;
+      faults_are = s.faults_are;
+      text_is = s.text_is;
+      octets_are = s.octets_are;
+      after_is = ap (λ z. a ++ z) s.after_is;
+    }

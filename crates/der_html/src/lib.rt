@@ -1,9 +1,10 @@
 //! A page of HTML that shows a dump, for a browser.
 //!
-//! [`push_head`] pushes the beginning of a page, and [`push_foot`] the end. Between them stand sections: each begins by
-//! [`push_section_start`] and ends by [`push_section_end`], with the bytes that its rows are of. A row is shown in an
-//! element: [`push_element_start`] begins it, [`push_text`] pushes its text, escaped, and [`push_element_end`] ends it.
-//! The element of a row that others stand inside is a fold, which [`push_fold_end`] ends behind the last of them.
+//! [`push_head`] pushes the beginning of a page, and [`push_foot`] the end. Between them stand sections. Each begins by
+//! [`push_section_start`]. Behind its rows [`push_octets_start`] and [`push_octets`] push the bytes that these are of,
+//! in as many parts as one likes, and [`push_section_end`] ends it. A row is shown in an element:
+//! [`push_element_start`] begins it, [`push_text`] pushes its text, escaped, and [`push_element_end`] ends it. The
+//! element of a row that others stand inside is a fold, which [`push_fold_end`] ends behind the last of them.
 //!
 //! A page needs no network and, to be read, no script: a group of rows folds by `details`. A short script in it marks
 //! the bytes of the row that is pointed at or has the keyboard's focus, header and contents in two colors.
@@ -19,5 +20,5 @@ mod section;
 
 pub use element::{Columns, Element, push_element_end, push_element_start, push_fold_end};
 pub use frame::{push_foot, push_head};
-pub use markup::push_text;
-pub use section::{push_section_end, push_section_start};
+pub use markup::{push_octets, push_text};
+pub use section::{push_octets_start, push_section_end, push_section_start};

@@ -95,7 +95,10 @@ fn push_entity(c: u8, out: &mut Vec<u8>) -> Result<(), AllocError>
     }
 }
 
-// Pushes octets in hex digits, a space after each.
+/// Pushes some of the octets beside the rows of a section: hex digits, with a space after each octet.
+///
+/// # Errors
+/// Memory ran out.
 pub fn push_octets(octets: &[u8], out: &mut Vec<u8>) -> Result<(), AllocError>
     ensures { OnOk result (Shows [] [] octets.now out.old.items out.new.items) }
 {

@@ -2,7 +2,7 @@
 ghost use Rattle.std.specs.Prelude.{[], OnOk};
 ghost use Rattle.der_html.specs.Page.{Shows};
 
-use crate::markup::{Markup, push_markup, push_octets};
+use crate::markup::{Markup, push_markup};
 use std::alloc::AllocError;
 
 /// Pushes the beginning of a section.
@@ -15,15 +15,22 @@ pub fn push_section_start(out: &mut Vec<u8>) -> Result<(), AllocError>
     push_markup(Markup::SectionStart, out)
 }
 
-/// Pushes the octets that the rows of a section are of, and its end.
+/// Pushes what stands between the rows of a section and the octets that they are of.
 ///
 /// # Errors
 /// Memory ran out.
-pub fn push_section_end(octets: &[u8], out: &mut Vec<u8>) -> Result<(), AllocError>
-    ensures { OnOk result (Shows [] [] octets.now out.old.items out.new.items) }
+pub fn push_octets_start(out: &mut Vec<u8>) -> Result<(), AllocError>
+    ensures { OnOk result (Shows [] [] [] out.old.items out.new.items) }
 {
-    push_markup(Markup::OctetsStart, out)?;
-    push_octets(octets, out)?;
-    push_markup(Markup::SectionEnd, out)?;
-    Ok(())
+    push_markup(Markup::OctetsStart, out)
+}
+
+/// Pushes the end of a section, behind the octets.
+///
+/// # Errors
+/// Memory ran out.
+pub fn push_section_end(out: &mut Vec<u8>) -> Result<(), AllocError>
+    ensures { OnOk result (Shows [] [] [] out.old.items out.new.items) }
+{
+    push_markup(Markup::SectionEnd, out)
 }

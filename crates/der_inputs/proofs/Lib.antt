@@ -1,4 +1,5 @@
 mod Blocks
+mod Growing
 mod Lower
 mod Readers
 mod Texts

@@ -5,7 +5,7 @@ use Rattle.std.specs.Prelude.{Option, Result, Ok, Err}
 use Rattle.std.proofs.lemmas.List.{drop-set-lt, map-append, take_more}
 use Rattle.std.proofs.lemmas.Grind.{take-set_at}
 use Rattle.std.proofs.Math.Seq.{drop-cons}
-use Rattle.der_pieces.specs.Texts.{Adds}
+use Rattle.der_io.specs.Output.{IsWritten}
 use Rattle.der_inputs.proofs.Texts.{one_more}
 use Rattle.der_inputs.specs.Inputs.{AreReadToEnds, Input, IsReadToEnd}
 use Rattle.der_inputs.specs.Texts.{AreTexts}
@@ -43,9 +43,9 @@ module _ {S T E : Type 0} (i : ℕ) (all now : List S) (l : i < length all) (n :
   left_later y = drop-set-lt (i + 1) now i y (omega arith) ∙ (let both = from_here y in cc)
 
   pub one_put :
-      (Is : Input → Outcome → List ℕ → Type 0) (input : S → Input) (d : S) (a b c : List ℕ) →
-      Adds (AreTexts Is (map input (take i all)) were) a b → Adds (Is (input (get_or now i d)) last) b c →
-      Adds (AreTexts Is (map input (take (i + 1) all)) are) a c
+      (Is : Input → Outcome → List ℕ → Type 0) (input : S → Input) (d : S) (a b c : Option (List ℕ)) →
+      IsWritten (AreTexts Is (map input (take i all)) were) a b → IsWritten (Is (input (get_or now i d)) last) b c →
+      IsWritten (AreTexts Is (map input (take (i + 1) all)) are) a c
   one_put Is input d a b c earlier one =
       let more = map-append input (take i all) (get_or all i d ∷ []) in
       rw (take_more all i d l, more, ← here d, pushed r were are last e p)

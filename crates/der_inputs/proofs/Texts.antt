@@ -5,11 +5,15 @@ use Rattle.std.proofs.lemmas.List.{map-append, take_more}
 use Rattle.std.proofs.lemmas.List.Concat.{flat_map-cons}
 use Rattle.std.proofs.lemmas.List.Sums.{fold-append}
 use Rattle.std.specs.List.{flat_map}
-use Rattle.der_pieces.specs.Texts.{Adds}
+use Rattle.std.specs.Prelude.{Option}
+use Rattle.der_io.specs.Output.{IsWritten}
 use Rattle.der_inputs.specs.Findings.{Finding}
+use Rattle.der_inputs.specs.Forms.{IsFrameOf, IsFramed}
+use Rattle.der_inputs.specs.declared.show.Form.{Form}
+use Rattle.der_inputs.specs.declared.show.Form.TheVariants.{Json, Lines, Page}
 use Rattle.der_inputs.specs.Outcomes.{all_read, both_read}
 use Rattle.der_inputs.specs.Texts.{AreTexts}
-use Rattle.der_lines.proofs.Dumps.{adds_both}
+use Rattle.der_io.proofs.Written.{written_both}
 use Rattle.der_lines.specs.declared.document.Verdict.{Verdict}
 use Rattle.der_lines.specs.declared.document.Verdict.TheVariants.{AllRead}
 
@@ -30,19 +34,21 @@ module _ {A B : Type 0} (Is : A → B → List ℕ → Type 0) where
   one_text_more (y ∷ ys) [] x last text own h is = absurd h
 
   pub one_more :
-      (xs : List A) (came : List B) (x : A) (last : B) (a b c : List ℕ) → Adds (AreTexts Is xs came) a b →
-      Adds (Is x last) b c → Adds (AreTexts Is (xs ++ x ∷ []) (came ++ last ∷ [])) a c
-  one_more xs came x last a b c = adds_both _ _ _ a b c (one_text_more xs came x last)
+      (xs : List A) (came : List B) (x : A) (last : B) (a b c : Option (List ℕ)) →
+      IsWritten (AreTexts Is xs came) a b →
+      IsWritten (Is x last) b c → IsWritten (AreTexts Is (xs ++ x ∷ []) (came ++ last ∷ [])) a c
+  one_more xs came x last a b c = written_both _ _ _ a b c (one_text_more xs came x last)
 
 -- the text of one more of what is found
 pub shown_more :
     {F : Type 0} (Is : Finding → Verdict → List ℕ → Type 0) (f : F → Finding) (all : List F) (i : ℕ) (x : F)
-    (read one both : Verdict) (a b c : List ℕ) → i < length all → x ≡ get_or all i x → both ≡ both_read read one →
+    (read one both : Verdict) (a b c : Option (List ℕ)) → i < length all → x ≡ get_or all i x → both ≡ both_read read
+    one →
     ((verdicts : List Verdict) × (read ≡ all_read verdicts)
-    × Adds (AreTexts Is (map f (take i all)) verdicts) a b) →
-    Adds (Is (f x) one) b c →
+    × IsWritten (AreTexts Is (map f (take i all)) verdicts) a b) →
+    IsWritten (Is (f x) one) b c →
     (verdicts : List Verdict) × (both ≡ all_read verdicts)
-    × Adds (AreTexts Is (map f (take (i + 1) all)) verdicts) a c
+    × IsWritten (AreTexts Is (map f (take (i + 1) all)) verdicts) a c
 shown_more Is f all i x read one both a b c l at is (verdicts, e, earlier) last =
     let more = map-append f (take i all) (x ∷ []) in (
       verdicts ++ one ∷ [],
@@ -62,3 +68,15 @@ module _ {X Y : Type 0} (h : X → List Y) (old all : List Y) (left : List X) (e
 
     pub all_found : left ≡ [] → old ≡ all
     all_found e = sym (append-nil old) ∙ (ap (λ z. old ++ flat_map h z) (sym e) ∙ earlier)
+
+alone : (texts first last : List ℕ) → first ≡ [] → last ≡ [] → first ++ (texts ++ last) ≡ texts
+alone texts first last begun ended =
+    ap (λ z. z ++ (texts ++ last)) begun ∙ (ap (λ z. texts ++ z) ended ∙ append-nil texts)
+
+-- texts between what stands before and behind them
+pub framed :
+    (form : Form) (texts first last : List ℕ) → IsFrameOf form first → IsFrameOf form last →
+    IsFramed form texts (first ++ (texts ++ last))
+framed Page texts first last begun ended = (first, last, refl)
+framed Lines texts first last begun ended = alone texts first last begun ended
+framed Json texts first last begun ended = alone texts first last begun ended

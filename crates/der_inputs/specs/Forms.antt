@@ -1,5 +1,5 @@
 -- What is written of a finding: as lines, as JSON, or on a page.
-use Rattle.std.specs.Prelude.{◌≡◌, ℕ, Bool, true, false, List, [], ◌++◌, Option, Some, None, unwrap_or}
+use Rattle.std.specs.Prelude.{◌≡◌, ℕ, Bool, true, false, List, [], ◌++◌, Option, Some, None, unwrap_or, ⊤}
 use Rattle.der_html.specs.Page.{Shows}
 use Rattle.der_io.specs.Characters.{equals_sign}
 use Rattle.der_io.specs.Escaped.{escaped}
@@ -74,6 +74,12 @@ abbrev pub IsName : Form → Bool → List ℕ → List ℕ → Type 0
 IsName Lines colored name text = IsTitleLine colored name text
 IsName Json colored name text = text ≡ []
 IsName Page colored name text = IsTitleSection name text
+
+-- what stands before texts, or behind them: the beginning of a page or its end, and else nothing
+abbrev pub IsFrameOf : Form → List ℕ → Type 0
+IsFrameOf Page text = ⊤
+IsFrameOf Lines text = text ≡ []
+IsFrameOf Json text = text ≡ []
 
 -- what is written of these texts: they, and around the sections of a page its beginning and its end
 abbrev pub IsFramed : Form → List ℕ → List ℕ → Type 0

@@ -4,4 +4,5 @@ pub mod Json
 pub mod Forms
 pub mod Outcomes
 pub mod Inputs
+pub mod Growing
 pub mod Parts

@@ -1,28 +1,30 @@
 // Lines of JSON of what is found.
 ghost use Rattle.std.specs.Prelude.{◌≡◌, IfOk, OnOk};
 ghost use Rattle.std.specs.Option.{option_map};
-ghost use Rattle.der_pieces.specs.Texts.{Adds};
+ghost use Rattle.der_io.specs.Output.{IsWritten};
 ghost use Rattle.der_inputs.specs.Json.{IsFoundJson, IsJson, IsOctetsJson, IsWords, is_all_read};
 ghost use Rattle.der_inputs.specs.Parts.{finding_in, octets_in};
 ghost use Rattle.der_json.specs.Json.{told_of};
 
 use crate::found::Found;
 use crate::show::Show;
+use der_io::{StreamFault, write_part};
 use der_json::{Fault, Origin, push_json, push_refusal, push_strict_json};
 use der_lines::Verdict;
 use std::alloc::{AllocError, Global};
+use std::io::Write;
 
 impl Show {
-    // Pushes the lines of octets, or that of why there are none to be read.
-    pub fn push_json(
+    // Writes the lines of octets, or that of why there are none to be read.
+    pub fn push_json<W: Write>(
         &self,
         file: Option<&str>,
         found: &Found,
-        out: &mut Vec<u8>,
-    ) -> Result<Verdict, AllocError>
-        ensures { IfOk result (λ verdict. Adds (IsJson self.now.is_strict
+        out: &mut W,
+    ) -> Result<Verdict, StreamFault>
+        ensures { IfOk result (λ verdict. IsWritten (IsJson self.now.is_strict
             (option_map (λ name. name.now) file.entry) (finding_in found.now) verdict)
-            out.old.items out.new.items) }
+            (W.contents out.old) (W.contents out.new)) }
     {
         match &found.label {
             Some(label) => {
@@ -37,14 +39,14 @@ impl Show {
         }
     }
 
-    fn push_from(
+    fn push_from<W: Write>(
         &self,
         origin: Origin<'_>,
         found: &Found,
-        out: &mut Vec<u8>,
-    ) -> Result<Verdict, AllocError>
-        ensures { IfOk result (λ verdict. Adds (IsFoundJson self.now.is_strict (octets_in found.now.octets)
-            (told_of origin.entry) verdict) out.old.items out.new.items) }
+        out: &mut W,
+    ) -> Result<Verdict, StreamFault>
+        ensures { IfOk result (λ verdict. IsWritten (IsFoundJson self.now.is_strict (octets_in found.now.octets)
+            (told_of origin.entry) verdict) (W.contents out.old) (W.contents out.new)) }
     {
         match &found.octets {
             Ok(octets) => self.push_read(origin, octets, out),
@@ -55,15 +57,15 @@ impl Show {
         }
     }
 
-    // Pushes the lines of octets; strictly, also that of what is not DER.
-    fn push_read(
+    // Writes the lines of octets; strictly, also that of what is not DER.
+    fn push_read<W: Write>(
         &self,
         origin: Origin<'_>,
         octets: &[u8],
-        out: &mut Vec<u8>,
-    ) -> Result<Verdict, AllocError>
-        ensures { IfOk result (λ verdict. Adds (IsOctetsJson self.now.is_strict octets.now (told_of origin.entry)
-            verdict) out.old.items out.new.items) }
+        out: &mut W,
+    ) -> Result<Verdict, StreamFault>
+        ensures { IfOk result (λ verdict. IsWritten (IsOctetsJson self.now.is_strict octets.now (told_of origin.entry)
+            verdict) (W.contents out.old) (W.contents out.new)) }
     {
         if self.is_strict {
             Ok(verdict_of(push_strict_json(self.alloc, &self.names, origin, octets, out)?))
@@ -84,19 +86,29 @@ fn verdict_of(is_right: bool) -> Verdict
     }
 }
 
-// Pushes the line that says in words why there are no octets.
-fn push_words(
+// Writes the line that says in words why there are no octets.
+fn push_words<W: Write>(
     alloc: Global,
     origin: Origin<'_>,
     why: &str,
-    out: &mut Vec<u8>,
-) -> Result<(), AllocError>
-    ensures { OnOk result (Adds (IsWords (told_of origin.entry)) out.old.items out.new.items) }
+    out: &mut W,
+) -> Result<(), StreamFault>
+    ensures { OnOk result (IsWritten (IsWords (told_of origin.entry)) (W.contents out.old) (W.contents out.new)) }
+{
+    let line = words_line(alloc, origin, why)?;
+    write_part(out, &line)?;
+    Ok(())
+}
+
+fn words_line(alloc: Global, origin: Origin<'_>, why: &str) -> Result<Vec<u8>, AllocError>
+    ensures { IfOk result (λ line. IsWords (told_of origin.entry) line.items) }
 {
     let fault = Fault {
         code: None,
         offset: None,
         words: String::from_str(alloc, why)?,
     };
-    push_refusal(alloc, origin, &fault, out)
+    let mut line = Vec::new(alloc);
+    push_refusal(alloc, origin, &fault, &mut line)?;
+    Ok(line)
 }

@@ -1,9 +1,9 @@
 // How what is found is shown.
 ghost use Rattle.std.specs.Prelude.{◌≡◌, [], IfOk, OnOk, false, map, unwrap_or};
 ghost use Rattle.std.specs.Option.{option_map};
-ghost use Rattle.der_inputs.specs.Forms.{IsDump, IsFoundDump, IsFramed, IsLabel, IsLines, IsName, IsSection, IsTitle};
+ghost use Rattle.der_inputs.specs.Forms.{IsDump, IsFoundDump, IsFrameOf, IsLabel, IsLines, IsName, IsSection, IsTitle};
 ghost use Rattle.der_inputs.specs.Forms.{IsTitleLine, IsTitleSection, form_by, look_by};
-ghost use Rattle.der_pieces.specs.Texts.{Adds};
+ghost use Rattle.der_io.specs.Output.{IsWritten};
 ghost use Rattle.der_lines.specs.Dump.{IsDumpOf};
 ghost use Rattle.der_rows.specs.Printing.{IsPrinted};
 ghost use Rattle.der_inputs.specs.Inputs.{AreShown, IsFindingText, are_colors_shown as colors_shown, names_shown};
@@ -14,13 +14,14 @@ ghost use Rattle.der_inputs.specs.declared.show.Form.TheVariants.{Page as page_f
 
 use crate::found::Found;
 use crate::outcome::Outcome;
-use der_html::{push_foot, push_head, push_section_end, push_section_start};
+use der_html::{push_foot, push_head};
+use der_io::{StreamFault, write_part};
 use der_lines::{Style, Verdict, push_document, push_label, push_refusal, push_strict_document};
 use der_names::{Names, OwnNames};
 use der_options::{Color, Options, Task};
 use der_rows::{Look, Printer};
 use std::alloc::{AllocError, Global};
-use std::mem;
+use std::io::Write;
 
 // What the output is.
 #[derive(Clone, Copy)]
@@ -71,65 +72,70 @@ impl Show {
         })
     }
 
-    // Pushes the text of each, one after another. JSON tells the name of the file.
-    pub fn push_all(
+    // Writes the text of each, one after another. JSON tells the name of the file.
+    pub fn push_all<W: Write>(
         &self,
         file: Option<&str>,
         found: &[Found],
-        out: &mut Vec<u8>,
-    ) -> Result<Outcome, AllocError>
-        ensures { IfOk result (λ outcome. Adds (AreShown (wanted_of self.now)
+        printer: &mut Printer<W>,
+    ) -> Result<Outcome, StreamFault>
+        ensures { IfOk result (λ outcome. IsWritten (AreShown (wanted_of self.now)
             (option_map (λ name. name.now) file.entry) (map finding_in found.now) outcome)
-            out.old.items out.new.items) }
+            (W.contents printer.old.out) (W.contents printer.new.out)) }
     {
         let mut verdict = Verdict::AllRead;
         for one in found {
-            let read = self.push(file, one, out)?;
+            let read = self.push(file, one, printer)?;
             verdict = both(verdict, read);
         }
         Ok(Outcome::Written(verdict))
     }
 
-    fn push(
+    fn push<W: Write>(
         &self,
         file: Option<&str>,
         found: &Found,
-        out: &mut Vec<u8>,
-    ) -> Result<Verdict, AllocError>
-        ensures { IfOk result (λ verdict. Adds (IsFindingText (wanted_of self.now)
+        printer: &mut Printer<W>,
+    ) -> Result<Verdict, StreamFault>
+        ensures { IfOk result (λ verdict. IsWritten (IsFindingText (wanted_of self.now)
             (option_map (λ name. name.now) file.entry) (finding_in found.now) verdict)
-            out.old.items out.new.items) }
+            (W.contents printer.old.out) (W.contents printer.new.out)) }
     {
         match self.form {
-            Form::Lines => self.push_as_lines(found, out),
-            Form::Json => self.push_json(file, found, out),
-            Form::Page => self.push_on_page(found, out),
+            Form::Lines => self.push_as_lines(found, printer),
+            Form::Json => self.push_json(file, found, &mut printer.out),
+            Form::Page => self.push_on_page(found, printer),
         }
     }
 
-    // Pushes a dump as lines.
-    fn push_as_lines(&self, found: &Found, out: &mut Vec<u8>) -> Result<Verdict, AllocError>
-        ensures { IfOk result (λ verdict. Adds (IsLines self.now.is_colored self.now.is_strict
-            self.now.style.most_depth (finding_in found.now) verdict) out.old.items out.new.items) }
+    // Prints a dump as lines.
+    fn push_as_lines<W: Write>(
+        &self,
+        found: &Found,
+        printer: &mut Printer<W>,
+    ) -> Result<Verdict, StreamFault>
+        ensures { IfOk result (λ verdict. IsWritten (IsLines self.now.is_colored self.now.is_strict
+            self.now.style.most_depth (finding_in found.now) verdict)
+            (W.contents printer.old.out) (W.contents printer.new.out)) }
     {
-        let written = mem::replace(out, Vec::new(self.alloc));
-        let mut printer = Printer::behind(self.alloc, self.look(), written);
-        let verdict = self.push_dump(found, &mut printer)?;
-        *out = printer.finish()?;
+        printer.look = self.look();
+        let verdict = self.push_dump(found, printer)?;
         Ok(verdict)
     }
 
-    // Pushes a section of a page: a dump, and the octets.
-    fn push_on_page(&self, found: &Found, out: &mut Vec<u8>) -> Result<Verdict, AllocError>
-        ensures { IfOk result (λ verdict. Adds (IsSection self.now.is_strict self.now.style.most_depth
-            (finding_in found.now) verdict) out.old.items out.new.items) }
+    // Prints a section of a page: a dump, and the octets.
+    fn push_on_page<W: Write>(
+        &self,
+        found: &Found,
+        printer: &mut Printer<W>,
+    ) -> Result<Verdict, StreamFault>
+        ensures { IfOk result (λ verdict. IsWritten (IsSection self.now.is_strict self.now.style.most_depth
+            (finding_in found.now) verdict) (W.contents printer.old.out) (W.contents printer.new.out)) }
     {
-        push_section_start(out)?;
-        let written = mem::replace(out, Vec::new(self.alloc));
-        let mut printer = Printer::behind(self.alloc, Look::Page, written);
-        let verdict = self.push_dump(found, &mut printer)?;
-        *out = printer.finish()?;
-        push_section_end(octets_or_none(found), out)?;
+        printer.look = Look::Page;
+        printer.begin_section()?;
+        let verdict = self.push_dump(found, printer)?;
+        printer.end_section(octets_or_none(found))?;
         Ok(verdict)
     }
 
@@ -144,17 +150,27 @@ impl Show {
         }
     }
 
-    // Pushes a dump under the line of its label, if it has one.
-    fn push_dump(&self, found: &Found, printer: &mut Printer) -> Result<Verdict, AllocError>
-        ensures { IfOk result (λ verdict. IsPrinted (IsDump self.now.is_strict self.now.style.most_depth
+    // Prints a dump under the line of its label, if it has one.
+    fn push_dump<W: Write>(
+        &self,
+        found: &Found,
+        printer: &mut Printer<W>,
+    ) -> Result<Verdict, StreamFault>
+        ensures { IfOk result (λ verdict. IsPrinted W.contents (IsDump self.now.is_strict self.now.style.most_depth
             (finding_in found.now) verdict) printer.old printer.new) }
     {
         self.push_label_of(found, printer)?;
-        self.push_found(found, printer)
+        let verdict = self.push_found(found, printer)?;
+        printer.end_folds()?;
+        Ok(verdict)
     }
 
-    fn push_label_of(&self, found: &Found, printer: &mut Printer) -> Result<(), AllocError>
-        ensures { OnOk result (IsPrinted (IsLabel (finding_in found.now).label) printer.old printer.new) }
+    fn push_label_of<W: Write>(
+        &self,
+        found: &Found,
+        printer: &mut Printer<W>,
+    ) -> Result<(), StreamFault>
+        ensures { OnOk result (IsPrinted W.contents (IsLabel (finding_in found.now).label) printer.old printer.new) }
     {
         match &found.label {
             Some(label) => push_label(self.alloc, label, printer),
@@ -162,9 +178,13 @@ impl Show {
         }
     }
 
-    fn push_found(&self, found: &Found, printer: &mut Printer) -> Result<Verdict, AllocError>
-        ensures { IfOk result (λ verdict. IsPrinted (IsFoundDump self.now.is_strict self.now.style.most_depth
-            (octets_in found.now.octets) verdict) printer.old printer.new) }
+    fn push_found<W: Write>(
+        &self,
+        found: &Found,
+        printer: &mut Printer<W>,
+    ) -> Result<Verdict, StreamFault>
+        ensures { IfOk result (λ verdict. IsPrinted W.contents (IsFoundDump self.now.is_strict
+            self.now.style.most_depth (octets_in found.now.octets) verdict) printer.old printer.new) }
     {
         match &found.octets {
             Ok(octets) => self.push_octets(octets, printer),
@@ -172,9 +192,13 @@ impl Show {
         }
     }
 
-    fn push_octets(&self, octets: &[u8], printer: &mut Printer) -> Result<Verdict, AllocError>
-        ensures { IfOk result (λ verdict. IsPrinted (IsDumpOf self.now.is_strict self.now.style.most_depth
-            octets.now verdict) printer.old printer.new) }
+    fn push_octets<W: Write>(
+        &self,
+        octets: &[u8],
+        printer: &mut Printer<W>,
+    ) -> Result<Verdict, StreamFault>
+        ensures { IfOk result (λ verdict. IsPrinted W.contents (IsDumpOf self.now.is_strict
+            self.now.style.most_depth octets.now verdict) printer.old printer.new) }
     {
         if self.is_strict {
             push_strict_document(self.alloc, &self.names, self.style, octets, printer)
@@ -183,66 +207,95 @@ impl Show {
         }
     }
 
-    // Pushes the line of a name above dumps, on a page or not: JSON tells it in each line.
-    pub fn push_name(&self, name: &str, out: &mut Vec<u8>) -> Result<(), AllocError>
-        ensures { OnOk result (Adds (IsName self.now.form self.now.is_colored name.now) out.old.items out.new.items) }
+    // Prints the line of a name above dumps, on a page or not: JSON tells it in each line.
+    pub fn push_name<W: Write>(
+        &self,
+        name: &str,
+        printer: &mut Printer<W>,
+    ) -> Result<(), StreamFault>
+        ensures { OnOk result (IsWritten (IsName self.now.form self.now.is_colored name.now)
+            (W.contents printer.old.out) (W.contents printer.new.out)) }
     {
         match self.form {
-            Form::Lines => self.push_name_line(name, out),
+            Form::Lines => self.push_name_line(name, printer),
             Form::Json => Ok(()),
-            Form::Page => self.push_name_on_page(name, out),
+            Form::Page => self.push_name_on_page(name, printer),
         }
     }
 
-    fn push_name_line(&self, name: &str, out: &mut Vec<u8>) -> Result<(), AllocError>
-        ensures { OnOk result (Adds (IsTitleLine self.now.is_colored name.now) out.old.items out.new.items) }
+    fn push_name_line<W: Write>(
+        &self,
+        name: &str,
+        printer: &mut Printer<W>,
+    ) -> Result<(), StreamFault>
+        ensures { OnOk result (IsWritten (IsTitleLine self.now.is_colored name.now)
+            (W.contents printer.old.out) (W.contents printer.new.out)) }
     {
-        let written = mem::replace(out, Vec::new(self.alloc));
-        let mut printer = Printer::behind(self.alloc, self.look(), written);
-        self.push_title(name, &mut printer)?;
-        *out = printer.finish()?;
+        printer.look = self.look();
+        self.push_title(name, printer)?;
         Ok(())
     }
 
-    fn push_name_on_page(&self, name: &str, out: &mut Vec<u8>) -> Result<(), AllocError>
-        ensures { OnOk result (Adds (IsTitleSection name.now) out.old.items out.new.items) }
+    fn push_name_on_page<W: Write>(
+        &self,
+        name: &str,
+        printer: &mut Printer<W>,
+    ) -> Result<(), StreamFault>
+        ensures { OnOk result (IsWritten (IsTitleSection name.now)
+            (W.contents printer.old.out) (W.contents printer.new.out)) }
     {
-        push_section_start(out)?;
-        let written = mem::replace(out, Vec::new(self.alloc));
-        let mut printer = Printer::behind(self.alloc, Look::Page, written);
-        self.push_title(name, &mut printer)?;
-        *out = printer.finish()?;
-        push_section_end(&[], out)?;
+        printer.look = Look::Page;
+        printer.begin_section()?;
+        self.push_title(name, printer)?;
+        printer.end_section(&[])?;
         Ok(())
     }
 
-    fn push_title(&self, name: &str, printer: &mut Printer) -> Result<(), AllocError>
-        ensures { OnOk result (IsPrinted (IsTitle name.now) printer.old printer.new) }
+    fn push_title<W: Write>(&self, name: &str, printer: &mut Printer<W>) -> Result<(), StreamFault>
+        ensures { OnOk result (IsPrinted W.contents (IsTitle name.now) printer.old printer.new) }
     {
         push_label(self.alloc, name.as_bytes(), printer)
     }
 
-    // What is written of all texts.
-    pub fn framed(&self, texts: Vec<u8>) -> Result<Vec<u8>, AllocError>
-        ensures { IfOk result (λ output. IsFramed self.now.form texts.items output.items) }
+    // Writes what stands before all texts.
+    pub fn begin<W: Write>(&self, out: &mut W) -> Result<(), StreamFault>
+        ensures { OnOk result (IsWritten (IsFrameOf self.now.form) (W.contents out.old) (W.contents out.new)) }
     {
         match self.form {
-            Form::Page => page_of(self.alloc, &texts),
-            Form::Lines => Ok(texts),
-            Form::Json => Ok(texts),
+            Form::Page => write_head(self.alloc, out),
+            Form::Lines => Ok(()),
+            Form::Json => Ok(()),
+        }
+    }
+
+    // Writes what stands behind all texts.
+    pub fn end<W: Write>(&self, out: &mut W) -> Result<(), StreamFault>
+        ensures { OnOk result (IsWritten (IsFrameOf self.now.form) (W.contents out.old) (W.contents out.new)) }
+    {
+        match self.form {
+            Form::Page => write_foot(self.alloc, out),
+            Form::Lines => Ok(()),
+            Form::Json => Ok(()),
         }
     }
 }
 
-// A page with the sections.
-fn page_of(alloc: Global, sections: &[u8]) -> Result<Vec<u8>, AllocError>
-    ensures { IfOk result (λ page. IsFramed page_form sections.now page.items) }
+fn write_head<W: Write>(alloc: Global, out: &mut W) -> Result<(), StreamFault>
+    ensures { OnOk result (IsWritten (IsFrameOf page_form) (W.contents out.old) (W.contents out.new)) }
 {
-    let mut page = Vec::new(alloc);
-    push_head(&mut page)?;
-    page.extend_from_slice(sections)?;
-    push_foot(&mut page)?;
-    Ok(page)
+    let mut head = Vec::new(alloc);
+    push_head(&mut head)?;
+    write_part(out, &head)?;
+    Ok(())
+}
+
+fn write_foot<W: Write>(alloc: Global, out: &mut W) -> Result<(), StreamFault>
+    ensures { OnOk result (IsWritten (IsFrameOf page_form) (W.contents out.old) (W.contents out.new)) }
+{
+    let mut foot = Vec::new(alloc);
+    push_foot(&mut foot)?;
+    write_part(out, &foot)?;
+    Ok(())
 }
 
 fn octets_or_none(found: &Found) -> &[u8]

@@ -1,25 +1,30 @@
-// A run over inputs: all of them are read before anything is written.
-ghost use Rattle.std.specs.Prelude.{◌≡◌, ◌⊎◌, List, ℕ, IfOk, IfErr, IfSome, IsErr, IsSome, length, map};
-ghost use Rattle.std.specs.Io.KnownBytes.{Appends, IsAtEnd, Keeps};
+// A run over inputs: each is read to its end before anything of it is written.
+ghost use Rattle.std.specs.Prelude.{◌≡◌, List, ℕ, IfOk, IfErr, IfSome, IsErr, IsSome, length, map};
+ghost use Rattle.std.specs.Io.KnownBytes.{Appends, IsAtEnd};
 ghost use Rattle.std.specs.Option.{option_map};
-ghost use Rattle.der_pieces.specs.Texts.{Adds};
+ghost use Rattle.der_io.specs.Output.{IsWritten};
 ghost use Rattle.der_inputs.specs.Forms.{IsFramed, form_by};
+ghost use Rattle.der_inputs.specs.Growing.{Grows};
 ghost use Rattle.der_inputs.specs.Inputs.{AreReadToEnds, IsInputText, IsNamedText, IsPart, IsReadToEnd, IsTaskText};
 ghost use Rattle.der_inputs.specs.Inputs.{input_of, wanted_by};
 ghost use Rattle.der_inputs.specs.Outcomes.{greatest_status};
 ghost use Rattle.der_inputs.specs.Parts.{octets_in, wanted_of};
 ghost use Rattle.der_inputs.specs.Texts.{AreTexts};
-ghost use Rattle.der_io.specs.declared.StreamFault.TheVariants.{Memory as memory_fault, Write as write_fault};
+ghost use Rattle.der_io.specs.declared.StreamFault.TheVariants.{Memory as memory_fault};
 
+use crate::appended::Appended;
+use crate::before::Before;
 use crate::found::{alone, block_of, contents_of, documents_of, value_of};
 use crate::outcome::{Outcome, greatest};
 use crate::show::Show;
-use der_io::{StreamFault, read_all, write_all};
+use der_io::{StreamFault, flush, read_all, write_part};
 use der_lines::Verdict;
 use der_names::OwnNames;
 use der_options::{Options, Task};
-use std::alloc::{AllocError, Global};
+use der_rows::{Look, Printer};
+use std::alloc::Global;
 use std::io::{Read, Write};
+use std::marker::{Brand, PhantomData};
 
 /// An input: its name, and what it is read from.
 #[derive(Drop)]
@@ -28,59 +33,102 @@ pub struct Source<'a, R> {
     pub reader: R,
 }
 
-/// Reads all of each input, in order, and writes to `w` what the options want of each; returns what came of each. The
-/// readers of those that could be read are at their ends.
+/// Reads each input to its end, in order, and writes to `w` what the options want of it before the next is read.
+/// Returns what came of each, and the writer. The readers of those that could be read are at their ends.
 ///
 /// An input is DER, PEM, hex digits or base64, told apart by its bytes. A document is put as a dump, as a line of JSON,
 /// or on a page of HTML; names of object identifiers are first those of `own`. Lines are colored if the options say
-/// `Always`. All of the output is kept in memory, and one input at a time.
+/// `Always`. One input at a time is kept in memory, with what is open in it, and no output.
 ///
 /// # Errors
-/// `Memory`, after which nothing was written; `Write`, after which nothing is known of what was.
+/// `Memory` and `Write`, after which what was written before stays: a front of the output, behind what the writer held.
+/// Where no write failed, it is in whole lines, unless it ends in a document as JSON or in the bytes beside a page.
 pub fn run<R: Read + Drop, W: Write>(
     alloc: Global,
     options: &Options<'_>,
     own: OwnNames,
     sources: &mut [Source<'_, R>],
-    w: &mut W,
-) -> Result<Vec<Outcome>, StreamFault>
-    ensures answered { IfOk result (λ came. (texts output : List ℕ)
+    w: W,
+) -> (Result<Vec<Outcome>, StreamFault>, W)
+    ensures answered { IfOk result.0 (λ came. (texts output : List ℕ)
         × AreTexts (IsInputText (wanted_by options.now (length sources.old)))
         (map (λ source. input_of source.name.now (R.remaining source.reader)) sources.old) came.items texts
         × IsFramed (form_by options.now.is_json options.now.is_html) texts output
-        × Appends (W.contents w.old) (W.contents w.new) output) }
-    ensures read { IfOk result (λ came. AreReadToEnds came.items
+        × Appends (W.contents w) (W.contents result.1) output) }
+    ensures read { IfOk result.0 (λ came. AreReadToEnds came.items
         (map (λ source. R.remaining source.reader) sources.new)) }
-    ensures kept { IfErr result (λ e. (e ≡ write_fault) ⊎ Keeps (W.contents w.old) (W.contents w.new)) }
+    ensures kept { ∥ Grows (W.contents w) (W.contents result.1) ∥₁ }
+{
+    run_on::<Brand, R, W>(alloc, options, own, sources, w)
+}
+
+// The run, over what the writer holds before it.
+fn run_on<B: Before, R: Read + Drop, W: Write>(
+    alloc: Global,
+    options: &Options<'_>,
+    own: OwnNames,
+    sources: &mut [Source<'_, R>],
+    w: W,
+) -> (Result<Vec<Outcome>, StreamFault>, W)
+    requires { W.contents w ≡ B.before }
+    ensures answered { IfOk result.0 (λ came. (texts output : List ℕ)
+        × AreTexts (IsInputText (wanted_by options.now (length sources.old)))
+        (map (λ source. input_of source.name.now (R.remaining source.reader)) sources.old) came.items texts
+        × IsFramed (form_by options.now.is_json options.now.is_html) texts output
+        × Appends (W.contents w) (W.contents result.1) output) }
+    ensures read { IfOk result.0 (λ came. AreReadToEnds came.items
+        (map (λ source. R.remaining source.reader) sources.new)) }
+    ensures kept { ∥ Grows (W.contents w) (W.contents result.1) ∥₁ }
 {
     let Ok(show) = Show::new(alloc, options, own, sources.len()) else {
-        return Err(StreamFault::Memory);
+        return (Err(StreamFault::Memory), w);
     };
-    let mut texts = Vec::new(alloc);
-    let came = push_sources(&show, sources, &mut texts)?;
-    let Ok(output) = show.framed(texts) else {
-        return Err(StreamFault::Memory);
+    let out: Appended<W, B> = Appended {
+        writer: w,
+        since: PhantomData,
     };
-    write_all(w, &output)?;
+    let mut printer = Printer::behind(alloc, Look::Plain, out);
+    let came = write_all_of(&show, sources, &mut printer);
+    let Appended { writer, since: _ } = printer.into_writer();
+    (came, writer)
+}
+
+// Writes what is wanted of all inputs, with what stands before and behind it.
+fn write_all_of<R: Read + Drop, W: Write>(
+    show: &Show,
+    sources: &mut [Source<'_, R>],
+    printer: &mut Printer<W>,
+) -> Result<Vec<Outcome>, StreamFault>
+    ensures written { IfOk result (λ came. (texts output : List ℕ)
+        × AreTexts (IsInputText (wanted_of show.now))
+        (map (λ source. input_of source.name.now (R.remaining source.reader)) sources.old) came.items texts
+        × IsFramed show.now.form texts output
+        × Appends (W.contents printer.old.out) (W.contents printer.new.out) output) }
+    ensures read { IfOk result (λ came. AreReadToEnds came.items
+        (map (λ source. R.remaining source.reader) sources.new)) }
+{
+    show.begin(&mut printer.out)?;
+    let came = push_sources(show, sources, printer)?;
+    show.end(&mut printer.out)?;
+    flush(&mut printer.out)?;
     Ok(came)
 }
 
-// Pushes what is wanted of each input, one after another.
-fn push_sources<R: Read + Drop>(
+// Writes what is wanted of each input, one after another.
+fn push_sources<R: Read + Drop, W: Write>(
     show: &Show,
     sources: &mut [Source<'_, R>],
-    out: &mut Vec<u8>,
+    printer: &mut Printer<W>,
 ) -> Result<Vec<Outcome>, StreamFault>
-    ensures pushed { IfOk result (λ came. Adds (AreTexts (IsInputText (wanted_of show.now))
+    ensures written { IfOk result (λ came. IsWritten (AreTexts (IsInputText (wanted_of show.now))
         (map (λ source. input_of source.name.now (R.remaining source.reader)) sources.old) came.items)
-        out.old.items out.new.items) }
+        (W.contents printer.old.out) (W.contents printer.new.out)) }
     ensures read { IfOk result (λ came. AreReadToEnds came.items
         (map (λ source. R.remaining source.reader) sources.new)) }
-    ensures fault { IfErr result (λ e. e ≡ memory_fault) }
 {
     let mut came = Vec::new(show.alloc);
     for source in sources.iter_mut() {
-        let outcome = push_source(show, source, out)?;
+        let outcome = push_source(show, source, printer)?;
         if came.push(outcome).is_err() {
             return Err(StreamFault::Memory);
         }
@@ -88,24 +136,22 @@ fn push_sources<R: Read + Drop>(
     Ok(came)
 }
 
-// Pushes what is wanted of an input, where it can be read.
-fn push_source<R: Read + Drop>(
+// Writes what is wanted of an input, where it can be read.
+fn push_source<R: Read + Drop, W: Write>(
     show: &Show,
     source: &mut Source<'_, R>,
-    out: &mut Vec<u8>,
+    printer: &mut Printer<W>,
 ) -> Result<Outcome, StreamFault>
-    ensures pushed { IfOk result (λ came. Adds (IsInputText (wanted_of show.now)
-        (input_of source.old.name.now (R.remaining source.old.reader)) came) out.old.items out.new.items) }
+    ensures written { IfOk result (λ came. IsWritten (IsInputText (wanted_of show.now)
+        (input_of source.old.name.now (R.remaining source.old.reader)) came)
+        (W.contents printer.old.out) (W.contents printer.new.out)) }
     ensures read { IfOk result (λ came. IsReadToEnd came (R.remaining source.new.reader)) }
-    ensures fault { IfErr result (λ e. e ≡ memory_fault) }
 {
     let Some(input) = read_source(show.alloc, &mut source.reader)? else {
         return Ok(Outcome::Unread);
     };
-    match push_named(show, source.name, input, out) {
-        Ok(outcome) => Ok(outcome),
-        Err(_) => Err(StreamFault::Memory),
-    }
+    let outcome = push_named(show, source.name, input, printer)?;
+    Ok(outcome)
 }
 
 // All that the reader has left, or `None` where a read fails. It is read to its end. The only error is `Memory`.
@@ -122,57 +168,68 @@ fn read_source<R: Read>(alloc: Global, r: &mut R) -> Result<Option<Vec<u8>>, Str
     }
 }
 
-// Pushes what is wanted of octets, with their name where names are told.
-fn push_named(
+// Writes what is wanted of octets, with their name where names are told.
+fn push_named<W: Write>(
     show: &Show,
     name: &str,
     input: Vec<u8>,
-    out: &mut Vec<u8>,
-) -> Result<Outcome, AllocError>
-    ensures { IfOk result (λ outcome. Adds (IsNamedText show.now.is_named (wanted_of show.now) name.now input.items
-        outcome) out.old.items out.new.items) }
+    printer: &mut Printer<W>,
+) -> Result<Outcome, StreamFault>
+    ensures { IfOk result (λ outcome. IsWritten (IsNamedText show.now.is_named (wanted_of show.now) name.now
+        input.items outcome) (W.contents printer.old.out) (W.contents printer.new.out)) }
 {
     if show.is_named {
-        show.push_name(name, out)?;
-        push_input(show, Some(name), input, out)
+        show.push_name(name, printer)?;
+        push_input(show, Some(name), input, printer)
     } else {
-        push_input(show, None, input, out)
+        push_input(show, None, input, printer)
     }
 }
 
-// Pushes what is wanted of octets.
-fn push_input(
+// Writes what is wanted of octets.
+fn push_input<W: Write>(
     show: &Show,
     file: Option<&str>,
     input: Vec<u8>,
-    out: &mut Vec<u8>,
-) -> Result<Outcome, AllocError>
-    ensures { IfOk result (λ outcome. Adds (IsTaskText show.now.task (wanted_of show.now)
-        (option_map (λ name. name.now) file.entry) input.items outcome) out.old.items out.new.items) }
+    printer: &mut Printer<W>,
+) -> Result<Outcome, StreamFault>
+    ensures { IfOk result (λ outcome. IsWritten (IsTaskText show.now.task (wanted_of show.now)
+        (option_map (λ name. name.now) file.entry) input.items outcome)
+        (W.contents printer.old.out) (W.contents printer.new.out)) }
 {
     match show.task {
         Task::Dump => {
             let found = documents_of(show.alloc, input)?;
-            show.push_all(file, &found, out)
+            show.push_all(file, &found, printer)
         }
         Task::At(offset) => {
             let block = block_of(show.alloc, input, offset)?;
             let found = alone(show.alloc, block)?;
-            show.push_all(file, &found, out)
+            show.push_all(file, &found, printer)
         }
-        Task::Extract(offset) => push_part(block_of(show.alloc, input, offset)?, out),
-        Task::Contents(offset) => push_part(contents_of(show.alloc, input, offset)?, out),
-        Task::Value(offset) => push_part(value_of(show.alloc, input, offset)?, out),
+        Task::Extract(offset) => {
+            let part = block_of(show.alloc, input, offset)?;
+            push_part(part, &mut printer.out)
+        }
+        Task::Contents(offset) => {
+            let part = contents_of(show.alloc, input, offset)?;
+            push_part(part, &mut printer.out)
+        }
+        Task::Value(offset) => {
+            let part = value_of(show.alloc, input, offset)?;
+            push_part(part, &mut printer.out)
+        }
     }
 }
 
-// Pushes octets as they stand. Where there are none, it is told elsewhere why.
-fn push_part(part: Result<Vec<u8>, String>, out: &mut Vec<u8>) -> Result<Outcome, AllocError>
-    ensures { IfOk result (λ outcome. Adds (IsPart (octets_in part) outcome) out.old.items out.new.items) }
+// Writes octets as they stand. Where there are none, it is told elsewhere why.
+fn push_part<W: Write>(part: Result<Vec<u8>, String>, out: &mut W) -> Result<Outcome, StreamFault>
+    ensures { IfOk result (λ outcome. IsWritten (IsPart (octets_in part) outcome)
+        (W.contents out.old) (W.contents out.new)) }
 {
     match part {
         Ok(octets) => {
-            out.extend_from_slice(&octets)?;
+            write_part(out, &octets)?;
             Ok(Outcome::Written(Verdict::AllRead))
         }
         Err(why) => Ok(Outcome::Lacking(why)),

@@ -1,14 +1,14 @@
-//! What the programs do alike: all input is read before anything is written, and each fault has one text and one exit
-//! status.
+//! What the programs do alike: all of an input is read before anything of it is written, and each fault has one text
+//! and one exit status.
 //!
-//! A program reads its input by [`read_all`], takes it apart by [`split_line`] where it comes in lines, answers it in
-//! memory, and writes the answer by [`write_all`]. What ends a run early is a [`StreamFault`]: its [`fault_text`] goes
-//! to standard error, and [`status`] is the exit status of the program. Words from an input are shown by [`escaped`].
-//! [`words`] are those of the command line.
+//! A program reads its input by [`read_all`], takes it apart by [`split_line`] where it comes in lines, and writes its
+//! answer by [`write_all`]; or part by part, by [`write_part`] and at last [`flush`]. What ends a run early is a
+//! [`StreamFault`]: its [`fault_text`] goes to standard error, and [`status`] is the exit status of the program. Words
+//! from an input are shown by [`escaped`]. [`words`] are those of the command line.
 #![tactic(auto)]
 
 ghost use Rattle.std.specs.Prelude.{◌≡◌, ◌⊎◌, ◌<◌, ◌∷◌, ◌++◌, length, IfOk, IfErr, IfSome, OnOk, IsOk, codes};
-ghost use Rattle.std.specs.Io.KnownBytes.{Appends, IsAtEnd};
+ghost use Rattle.std.specs.Io.KnownBytes.{Appends, IsAtEnd, Keeps};
 ghost use Rattle.der_io.specs.Lines.{lines_of};
 ghost use Rattle.der_io.specs.declared.StreamFault.TheVariants.{Read as read_fault};
 ghost use Rattle.der_io.specs.declared.StreamFault.TheVariants.{Write as write_fault};
@@ -21,7 +21,7 @@ pub mod failing;
 pub use arguments::words;
 pub use escape::{escaped, push_escaped};
 use memchr::memchr;
-use std::alloc::Global;
+use std::alloc::{AllocError, Global};
 use std::io::{Read, Write};
 
 /// Why a run did not answer its input.
@@ -33,6 +33,14 @@ pub enum StreamFault {
     Write,
     /// Memory ran out.
     Memory,
+}
+
+impl From<AllocError> for StreamFault {
+    ghost from_gives = { λ _ e. e ≡ memory_fault };
+
+    fn from(_: AllocError) -> StreamFault {
+        StreamFault::Memory
+    }
 }
 
 // How many octets are read at a time.
@@ -79,10 +87,32 @@ pub fn write_all<W: Write>(w: &mut W, octets: &[u8]) -> Result<(), StreamFault>
     ensures written { OnOk result (Appends (W.contents w.old) (W.contents w.new) octets.now) }
     ensures fault { IfErr result (λ e. e ≡ write_fault) }
 {
+    write_part(w, octets)?;
+    flush(w)
+}
+
+/// Writes all of the octets, which are a part of the output.
+///
+/// # Errors
+/// `Write`, after which nothing is known of what was written.
+pub fn write_part<W: Write>(w: &mut W, octets: &[u8]) -> Result<(), StreamFault>
+    ensures written { OnOk result (Appends (W.contents w.old) (W.contents w.new) octets.now) }
+    ensures fault { IfErr result (λ e. e ≡ write_fault) }
+{
     match w.write_all(octets) {
-        Ok(()) => {}
-        Err(_) => return Err(StreamFault::Write),
+        Ok(()) => Ok(()),
+        Err(_) => Err(StreamFault::Write),
     }
+}
+
+/// Has the writer pass on what it may have kept.
+///
+/// # Errors
+/// `Write`.
+pub fn flush<W: Write>(w: &mut W) -> Result<(), StreamFault>
+    ensures kept { Keeps (W.contents w.old) (W.contents w.new) }
+    ensures fault { IfErr result (λ e. e ≡ write_fault) }
+{
     match w.flush() {
         Ok(()) => Ok(()),
         Err(_) => Err(StreamFault::Write),

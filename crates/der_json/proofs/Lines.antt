@@ -100,3 +100,7 @@ some_marks (x ∷ xs) origin e = (refl, refl)
 
 pub none_there : (xs : List ℕ) → (length xs == 0) ≡ true → xs ≡ []
 none_there xs e = nil_from_length xs (none_of (length xs) e)
+
+-- what was put where nothing was
+pub put_alone : (before text after : List ℕ) → before ≡ [] → after ≡ before ++ text → after ≡ text
+put_alone before text after none put = put ∙ ap (λ z. z ++ text) none

@@ -5,6 +5,9 @@ use Rattle.std.proofs.lemmas.List.{append_assoc, append-nil, map-append}
 use Rattle.std.proofs.lemmas.Slice.Zip.{all_zipped_more}
 use Rattle.std.specs.Prelude.{IfSome, Option, None, Some, option_map}
 use Rattle.std.specs.List.{AllZip}
+use Rattle.std.proofs.KnownBytes.{Appends-nil, Appends-trans}
+use Rattle.std.specs.Io.KnownBytes.{Appends}
+use Rattle.der_io.specs.Output.{IsWritten}
 use Rattle.serde_json.specs.Data.{Items}
 use Rattle.serde_json.specs.Written.{comma_if, compact_text, items_text}
 use Rattle.der_pieces.specs.Fronts.{AreFrontsOf, Front, StandAt}
@@ -46,8 +49,8 @@ abbrev IsRowAt : Place → List ℕ → Front → Row → Type 0
 IsRowAt place octets = IsRow (AreInside place.documents) place.is_inside octets place.base place.depth
 
 -- what was put up to where the walk is
-pub record RowsTo (place : Place) (octets : List ℕ) (walk : Walk) (later : Bool) (found : Found) (a b : List ℕ)
-    : Type 0 where
+pub record RowsTo (place : Place) (octets : List ℕ) (walk : Walk) (later : Bool) (found : Found)
+    (a b : Option (List ℕ)) : Type 0 where
   pub fronts : List Front
   pub faults : List ℕ
   pub rows : List Row
@@ -60,10 +63,11 @@ pub record RowsTo (place : Place) (octets : List ℕ) (walk : Walk) (later : Boo
   pub some : later ≡ are_some rows
   pub marks_are : found_marks found ≡ marks_of rows
   pub first_is : option_map fault_told found.first ≡ first_fault rows
-  pub text_is : b ≡ a ++ texts row_json false rows
+  pub text_is : Appends a b (texts row_json false rows)
 
 pub rows_none :
-    (place : Place) (octets : List ℕ) (walk : Walk) (found : Found) (a : List ℕ) → walk.cursor.octets.now ≡ octets →
+    (place : Place) (octets : List ℕ) (walk : Walk) (found : Found) (a : Option (List ℕ)) →
+    walk.cursor.octets.now ≡ octets →
     walk.place ≡ place →
     ((fronts : List Front) (faults : List ℕ) → IsAhead walk.cursor fronts faults → AreFrontsOf octets fronts faults) →
     found_marks found ≡ [] → option_map fault_told found.first ≡ None → RowsTo place octets walk false found a a
@@ -79,7 +83,7 @@ rows_none place octets walk found a o p ahead none no_fault = record {
   some = refl;
   marks_are = none;
   first_is = no_fault;
-  text_is = sym (append-nil a);
+  text_is = Appends-nil a;
 }
 
 marks_more : (rs : List Row) (r : Row) → marks_of (rs ++ r ∷ []) ≡ marks_of rs ++ mark_of r
@@ -116,10 +120,11 @@ told_offsets base offset at (Some f) told e o there =
 -- one more
 pub rows_more :
     (place : Place) (octets : List ℕ) (old new : Walk) (piece : Piece) (object : Object) (inside : Option Items)
-    (marks : List Departed) (later : Bool) (found next : Found) (a b comma c : List ℕ) (p : Passes old new piece) →
+    (marks : List Departed) (later : Bool) (found next : Found) (a b comma c : Option (List ℕ))
+    (p : Passes old new piece) →
     RowsTo place octets old later found a b → IsObject p.left piece object →
     IsNestedJson piece.place (object.offset + object.header) piece.nested inside marks →
-    comma ≡ b ++ comma_if later → c ≡ comma ++ compact_text (row_json (row_of object inside marks)) →
+    Appends b comma (comma_if later) → Appends comma c (compact_text (row_json (row_of object inside marks))) →
     found_marks next ≡ found_marks found ++ (marks_at object.offset (map told_of object.not_der.items) ++ marks) →
     option_map fault_told next.first
     ≡ earlier_of (option_map fault_told found.first) (option_map fault_told object.fault) →
@@ -128,6 +133,8 @@ rows_more place octets old new piece object inside marks later found next a b co
     let g = front_of p.levels piece in
     let row = row_of object inside marks in
     let own = fault_offset piece.fault in
+    let before = texts row_json false s.rows in
+    let own_text = compact_text (row_json row) in
     let base : piece.place.base ≡ place.base = p.base ∙ ap (λ z. z.base) s.same_place in
     let offset : object.offset ≡ place.base + piece.offset = o.offset_is ∙ ap (λ z. z + piece.offset) base in
     let is : IsRowAt place octets g row = record {
@@ -165,21 +172,26 @@ rows_more place octets old new piece object inside marks later found next a b co
       some = some_more s.rows row;
       marks_are = mm ∙ (ap (λ z. z ++ mark_of row) s.marks_are ∙ sym (marks_more s.rows row));
       first_is = nn ∙ (ap (λ z. earlier_of z row.fault) s.first_is ∙ first_more s.rows row);
-      text_is = one_text row_json s.rows row later a b comma c s.some s.text_is put_comma put;
+      text_is = subst (Appends a c) (one_text row_json s.rows row later [] before (before ++ comma_if later) _ s.some
+          refl refl refl)
+          (Appends-trans a comma c (before ++ comma_if later) own_text
+          (Appends-trans a b comma before (comma_if later) s.text_is put_comma) put);
     }
 
 -- all
 pub rows_all :
-    (place : Place) (octets : List ℕ) (walk : Walk) (later : Bool) (found : Found) (a b c : List ℕ) →
-    RowsTo place octets walk later found a b → IsAhead walk.cursor [] [] → c ≡ b ++ 93 ∷ [] →
-    (text : List ℕ) × (c ≡ a ++ text) × IsArray place octets found text
+    (place : Place) (octets : List ℕ) (walk : Walk) (later : Bool) (found : Found)
+    (a b c : Option (List ℕ)) → RowsTo place octets walk later found a b → IsAhead walk.cursor [] [] →
+    Appends b c (93 ∷ []) → IsWritten (IsArray place octets found) a c
 rows_all place octets walk later found a b c s ended e =
     let all : AreFrontsOf octets s.fronts s.faults =
     subst (λ x. AreFrontsOf octets x s.faults) (append-nil s.fronts)
     (subst (AreFrontsOf octets (s.fronts ++ [])) (append-nil s.faults) (s.goes_on [] [] ended)) in
+    let before = texts row_json false s.rows in
     let are : AreRowsAt place octets s.rows =
     record { fronts = s.fronts; faults = s.faults; read = all; told = s.told; faults_are = s.faults_are } in (
       items_text false (items_of row_json s.rows),
-      all_texts row_json s.rows a b c s.text_is e,
+      subst (Appends a c) (all_texts row_json s.rows [] before (before ++ 93 ∷ []) refl refl)
+          (Appends-trans a b c before (93 ∷ []) s.text_is e),
       (s.rows, are, s.marks_are, s.first_is, refl),
     )

@@ -1,7 +1,7 @@
 //! Documents as JSON, a line each, for programs.
 //!
-//! [`push_json`] puts an object whose `blocks` are what has a line in a dump of `der_lines`, in the same order. Each is
-//! an object:
+//! [`push_json`] writes an object whose `blocks` are what has a line in a dump of `der_lines`, in the same order. Each
+//! is an object:
 //!
 //! | Member | What |
 //! |---|---|

@@ -1,6 +1,8 @@
 // A document as a line of JSON.
 ghost use Rattle.std.specs.Prelude.{◌≡◌, ◌++◌, ◌∷◌, [], IfOk, OnOk, option_map};
 ghost use Rattle.std.specs.Option.{is_none};
+ghost use Rattle.std.specs.Io.KnownBytes.{Appends};
+ghost use Rattle.der_io.specs.Output.{IsWritten};
 ghost use Rattle.der_pieces.specs.Texts.{Adds};
 ghost use Rattle.der_json.specs.Json.{IsEmptyLine, IsJsonOf, fault_told, first_text, line_text, refusal_json};
 ghost use Rattle.der_json.specs.Json.{told_of};
@@ -11,10 +13,12 @@ use crate::member::push_text;
 use crate::object::push_fault_object;
 use crate::rows::{Found, push_rows};
 use asn1_headers::error::ASN1DecodeErr;
+use der_io::{StreamFault, write_part};
 use der_names::Names;
 use der_pieces::place::outermost;
 use der_pieces::style::Style;
 use std::alloc::{AllocError, Global};
+use std::io::Write;
 
 /// Where octets are from, as far as a line tells it. Each text that is there is the member of its name, behind the
 /// blocks or the fault.
@@ -26,29 +30,36 @@ pub struct Origin<'a> {
     pub label: Option<&'a str>,
 }
 
-/// Puts the octets at the end as a line of JSON, as the page of this crate describes it: `{"blocks":[..]}` with an
+/// Writes the octets as a line of JSON, as the page of this crate describes it: `{"blocks":[..]}` with an
 /// object for each line of a dump. Where some are at fault, a second line is the first fault:
 /// `{"fault":{"code":..,"offset":..,"text":".."}}`; of no octets it is the only one. Where the octets are from follows,
 /// as the members `file` and `label`. Whether nothing is at fault.
 ///
-/// Beside the line it takes the memory of one object, and two words for each encoding that is open; the only error is
-/// that it ran out, after which some of the line may have been put.
-pub fn push_json(
+/// Each object is written before the next is made. It takes the memory of one object, two words for each encoding that
+/// is open, and some for each rule of DER that is broken.
+///
+/// # Errors
+/// `Memory`, after which what was written before stays, which may be a part of a line; `Write`, after which nothing is
+/// known of what was written.
+pub fn push_json<W: Write>(
     alloc: Global,
     names: &Names,
     origin: Origin<'_>,
     octets: &[u8],
-    out: &mut Vec<u8>,
-) -> Result<bool, AllocError>
-    ensures { IfOk result (λ is_right. Adds (IsJsonOf octets.now (told_of origin.entry) is_right)
-        out.old.items out.new.items) }
+    out: &mut W,
+) -> Result<bool, StreamFault>
+    ensures { IfOk result (λ is_right. IsWritten (IsJsonOf octets.now (told_of origin.entry) is_right)
+        (W.contents out.old) (W.contents out.new)) }
 {
+    let mut line = Vec::new(alloc);
     if octets.is_empty() {
-        push_empty(alloc, origin, out)?;
+        push_empty(alloc, origin, &mut line)?;
+        write_part(out, &line)?;
         return Ok(false);
     }
     let found = push_blocks(alloc, names, origin, octets, out)?;
-    let is_right = push_first(alloc, origin, &found.first, out)?;
+    let is_right = push_first(alloc, origin, &found.first, &mut line)?;
+    write_part(out, &line)?;
     Ok(is_right)
 }
 
@@ -67,21 +78,32 @@ const STYLE: Style = Style {
     most_depth: None,
 };
 
-// Puts the line of the objects of octets. What was found in them.
-pub fn push_blocks(
+// Writes the line of the objects of octets. What was found in them.
+pub fn push_blocks<W: Write>(
     alloc: Global,
     names: &Names,
     origin: Origin<'_>,
     octets: &[u8],
-    out: &mut Vec<u8>,
-) -> Result<Found, AllocError>
-    ensures { IfOk result (λ found. Adds (IsRowsLine octets.now (told_of origin.entry) found)
-        out.old.items out.new.items) }
+    out: &mut W,
+) -> Result<Found, StreamFault>
+    ensures { IfOk result (λ found. IsWritten (IsRowsLine octets.now (told_of origin.entry) found)
+        (W.contents out.old) (W.contents out.new)) }
 {
-    out.extend_from_slice(b"{\"blocks\":[")?;
+    write_part(out, b"{\"blocks\":[")?;
     let found = push_rows(alloc, names, octets, outermost(STYLE), out)?;
-    push_end(alloc, origin, out)?;
+    write_end(alloc, origin, out)?;
     Ok(found)
+}
+
+// Writes the end of an object and of its line, with where the octets are from.
+fn write_end<W: Write>(alloc: Global, origin: Origin<'_>, out: &mut W) -> Result<(), StreamFault>
+    ensures { OnOk result (Appends (W.contents out.old) (W.contents out.new)
+        (end_text (told_of origin.entry) ++ 10 ∷ [])) }
+{
+    let mut end = Vec::new(alloc);
+    push_end(alloc, origin, &mut end)?;
+    write_part(out, &end)?;
+    Ok(())
 }
 
 // Puts the line of the first fault, if there is one. Whether there is none.

@@ -40,9 +40,20 @@ pub struct Object {
     pub fault: Option<Fault>,
 }
 
+// The beginning of an object and its members, but for what stands inside its octets.
+pub fn members_of(alloc: Global, object: &Object) -> Result<Vec<u8>, AllocError>
+    requires { IsExact object.now }
+    ensures { IfOk result (λ members. members.items ≡ first_members object.now ++ last_members object.now) }
+{
+    let mut members = Vec::new(alloc);
+    object.push_first(alloc, &mut members)?;
+    object.push_others(alloc, &mut members)?;
+    Ok(members)
+}
+
 impl Object {
     // Puts its members that every object has, and its beginning.
-    pub fn push_first(&self, alloc: Global, out: &mut Vec<u8>) -> Result<(), AllocError>
+    fn push_first(&self, alloc: Global, out: &mut Vec<u8>) -> Result<(), AllocError>
         requires { IsExact self.now }
         ensures { OnOk result (out.new.items ≡ out.old.items ++ first_members self.now) }
     {
@@ -62,7 +73,7 @@ impl Object {
     }
 
     // Puts those that not every object has.
-    pub fn push_others(&self, alloc: Global, out: &mut Vec<u8>) -> Result<(), AllocError>
+    fn push_others(&self, alloc: Global, out: &mut Vec<u8>) -> Result<(), AllocError>
         ensures { OnOk result (out.new.items ≡ out.old.items ++ last_members self.now) }
     {
         push_words(alloc, b",\"name\":", &self.name, out)?;

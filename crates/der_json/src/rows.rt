@@ -1,22 +1,25 @@
 // The objects of a document, in the order of its lines.
 ghost use Rattle.std.specs.Prelude.{◌≡◌, ◌++◌, ◌+◌, ◌<◌, IfOk, IfSome, OnOk, Option, map, option_map};
+ghost use Rattle.std.specs.Io.KnownBytes.{Appends};
+ghost use Rattle.der_io.specs.Output.{IsWritten};
 ghost use Rattle.serde_json.specs.Data.{Items};
-ghost use Rattle.serde_json.specs.Written.{compact_text};
-ghost use Rattle.der_pieces.specs.Texts.{Adds};
+ghost use Rattle.serde_json.specs.Written.{comma_if, compact_text};
 ghost use Rattle.der_pieces.specs.Marks.{told_of};
 ghost use Rattle.der_json.specs.Json.{earlier_of, fault_told, marks_at, row_json};
 ghost use Rattle.der_json.specs.Rows.{IsArray, IsExact, IsNestedJson, blocks_text, found_marks, row_of, told_marks};
 
 use crate::fault::Fault;
-use crate::object::{Object, push_comma};
+use crate::object::{Object, members_of};
 use crate::piece::object_of;
 use der_elements::sum::sum_of;
+use der_io::{StreamFault, write_part};
 use der_names::Names;
 use der_pieces::marks::ToldRule;
 use der_pieces::nested::Nested;
 use der_pieces::place::Place;
 use der_pieces::walk::Walk;
 use std::alloc::{AllocError, Global};
+use std::io::Write;
 
 // A rule that is broken, by an encoding at the offset of the document.
 #[derive(Drop)]
@@ -73,16 +76,17 @@ fn push_marks(
     Ok(())
 }
 
-// Puts the objects of octets, with commas between them, and the end of an array. What was found in them.
+// Writes the objects of octets, with commas between them, and the end of an array. What was found in them.
 #[cycle(rows)]
-pub fn push_rows(
+pub fn push_rows<W: Write>(
     alloc: Global,
     names: &Names,
     octets: &[u8],
     place: Place,
-    out: &mut Vec<u8>,
-) -> Result<Found, AllocError>
-    ensures { IfOk result (λ found. Adds (IsArray place octets.now found) out.old.items out.new.items) }
+    out: &mut W,
+) -> Result<Found, StreamFault>
+    ensures { IfOk result (λ found. IsWritten (IsArray place octets.now found)
+        (W.contents out.old) (W.contents out.new)) }
 {
     let mut found = Found {
         marks: Vec::new(alloc),
@@ -93,60 +97,67 @@ pub fn push_rows(
     while let Some(piece) = walk.next(alloc)? {
         let (here, nested) = (piece.place, piece.nested);
         let object = object_of(alloc, names, piece)?;
-        push_comma(is_later, out)?;
+        write_part(out, comma(is_later))?;
         let inside = push_object(alloc, names, &object, nested, here, out)?;
         found.keep(object, inside)?;
         is_later = true;
     }
-    out.push(b']')?;
+    write_part(out, b"]")?;
     Ok(found)
 }
 
-// Puts the object, of a piece at the place, with the blocks inside its contents octets. The rules that these break.
+// A comma, unless nothing stands before it.
+fn comma(is_later: bool) -> &'static [u8]
+    ensures { result.now ≡ comma_if is_later }
+{
+    if is_later { b"," } else { &[] }
+}
+
+// Writes the object, of a piece at the place, with the blocks inside its contents octets. The rules that these break.
 #[cycle(rows)]
-fn push_object(
+fn push_object<W: Write>(
     alloc: Global,
     names: &Names,
     object: &Object,
     nested: Option<Nested<'_>>,
     place: Place,
-    out: &mut Vec<u8>,
-) -> Result<Vec<Departure>, AllocError>
+    out: &mut W,
+) -> Result<Vec<Departure>, StreamFault>
     requires exact { IsExact object.now }
     requires more { IfSome nested (λ _. 0 < place.documents) }
     ensures { IfOk result (λ marks. (inside : Option Items)
         × IsNestedJson place (object.now.offset + object.now.header) nested.entry inside (told_marks marks.items)
-        × (out.new.items ≡ out.old.items
-        ++ compact_text (row_json (row_of object.now inside (told_marks marks.items))))) }
+        × Appends (W.contents out.old) (W.contents out.new)
+        (compact_text (row_json (row_of object.now inside (told_marks marks.items))))) }
 {
-    object.push_first(alloc, out)?;
-    object.push_others(alloc, out)?;
+    let members = members_of(alloc, object)?;
+    write_part(out, &members)?;
     let before = sum_of(object.offset, object.header)?;
     let marks = push_nested(alloc, names, nested, before, place, out)?;
-    out.push(b'}')?;
+    write_part(out, b"}")?;
     Ok(marks)
 }
 
-// Puts the member of the blocks inside contents octets, which stand at the offset of the document, if there are any.
+// Writes the member of the blocks inside contents octets, which stand at the offset of the document, if there are any.
 // The rules that they break.
 #[cycle(rows)]
-fn push_nested(
+fn push_nested<W: Write>(
     alloc: Global,
     names: &Names,
     nested: Option<Nested<'_>>,
     offset: usize,
     place: Place,
-    out: &mut Vec<u8>,
-) -> Result<Vec<Departure>, AllocError>
+    out: &mut W,
+) -> Result<Vec<Departure>, StreamFault>
     requires { IfSome nested (λ _. 0 < place.documents) }
     ensures { IfOk result (λ marks. (inside : Option Items)
         × IsNestedJson place offset nested.entry inside (told_marks marks.items)
-        × (out.new.items ≡ out.old.items ++ blocks_text inside)) }
+        × Appends (W.contents out.old) (W.contents out.new) (blocks_text inside)) }
 {
     let Some(nested) = nested else {
         return Ok(Vec::new(alloc));
     };
-    out.extend_from_slice(b",\"blocks\":[")?;
+    write_part(out, b",\"blocks\":[")?;
     let inside = place.inside(sum_of(offset, nested.before)?)?;
     let found = push_rows(alloc, names, nested.octets, inside, out)?;
     Ok(found.marks)

@@ -2,7 +2,7 @@
 ghost use Rattle.std.specs.Prelude.{◌≡◌, ◌++◌, ◌&&◌, false, IfOk, OnOk};
 ghost use Rattle.serde_json.specs.View.{view};
 ghost use Rattle.serde_json.specs.Written.{items_text};
-ghost use Rattle.der_pieces.specs.Texts.{Adds};
+ghost use Rattle.der_io.specs.Output.{IsWritten};
 ghost use Rattle.der_json.specs.Json.{IsStrictJsonOf, departed_json, is_der, items_of, marks_text};
 ghost use Rattle.der_json.specs.Json.{told_of};
 ghost use Rattle.der_json.specs.Rows.{departed_of, told_marks};
@@ -11,34 +11,41 @@ use crate::line::{Origin, push_blocks, push_empty, push_end, push_first};
 use crate::member::push_member;
 use crate::object::push_comma;
 use crate::rows::Departure;
+use der_io::{StreamFault, write_part};
 use der_names::Names;
 use serde_json::{Value, json};
 use std::alloc::{AllocError, Global};
+use std::io::Write;
 
-/// Puts the octets at the end as [`push_json`](crate::push_json) does, where they have to be DER. Behind the line of
+/// Writes the octets as [`push_json`](crate::push_json) does, where they have to be DER. Behind the line of
 /// the blocks stands one of what is not DER, if anything is, also inside strings, with the offset of each:
 /// `{"not_der":[{"offset":..,"rule":"..","section":"..","text":".."},..]}`. Last is the line of the first fault, if
 /// there is one. Whether all is DER, and nothing is at fault.
 ///
-/// It takes memory as `push_json` does, and for the list; the only error is that it ran out, after which some of the
-/// lines may have been put.
-pub fn push_strict_json(
+/// It takes memory as `push_json` does, and for the list.
+///
+/// # Errors
+/// Those of `push_json`.
+pub fn push_strict_json<W: Write>(
     alloc: Global,
     names: &Names,
     origin: Origin<'_>,
     octets: &[u8],
-    out: &mut Vec<u8>,
-) -> Result<bool, AllocError>
-    ensures { IfOk result (λ is_right. Adds (IsStrictJsonOf octets.now (told_of origin.entry) is_right)
-        out.old.items out.new.items) }
+    out: &mut W,
+) -> Result<bool, StreamFault>
+    ensures { IfOk result (λ is_right. IsWritten (IsStrictJsonOf octets.now (told_of origin.entry) is_right)
+        (W.contents out.old) (W.contents out.new)) }
 {
+    let mut lines = Vec::new(alloc);
     if octets.is_empty() {
-        push_empty(alloc, origin, out)?;
+        push_empty(alloc, origin, &mut lines)?;
+        write_part(out, &lines)?;
         return Ok(false);
     }
     let found = push_blocks(alloc, names, origin, octets, out)?;
-    let is_der = push_marks(alloc, origin, &found.marks, out)?;
-    let is_right = push_first(alloc, origin, &found.first, out)?;
+    let is_der = push_marks(alloc, origin, &found.marks, &mut lines)?;
+    let is_right = push_first(alloc, origin, &found.first, &mut lines)?;
+    write_part(out, &lines)?;
     Ok(both(is_der, is_right))
 }
 

@@ -1,13 +1,13 @@
 -- What is put of documents.
-use Rattle.std.proofs.Common.{◌≡◌, ℕ, Bool, true, false, List, [], ◌∷◌, ◌++◌, take, refl, sym, ap, ◌∙◌, subst, append-nil}
+use Rattle.std.proofs.Common.{◌≡◌, ◌<◌, ℕ, Bool, true, false, List, [], ◌∷◌, ◌++◌, arith, length, take, refl, sym, ap, ◌∙◌, subst, append-nil}
 use Rattle.std.specs.Prelude.{Option, None, Some, Result, Ok, Err, IfOk}
-use Rattle.std.specs.declared.alloc.AllocError.{AllocError}
+use Rattle.der_io.specs.declared.StreamFault.{StreamFault}
 use Rattle.der_lines.specs.Dump.{AreFaultLines, AreMarked, IsDump, IsDumpOfSome, StandsInside, down_to}
 use Rattle.der_pieces.specs.Fronts.{Front}
 use Rattle.der_lines.specs.Dump.{verdict_of, wrong_offsets}
 use Rattle.der_lines.specs.Steps.{IsFirstFault, IsLast, IsWholeDump, counted, mark_offsets, marks_by, outer}
 use Rattle.der_lines.specs.declared.document.Verdict.{Verdict}
-use Rattle.der_lines.specs.declared.document.Verdict.TheVariants.{Refused}
+use Rattle.der_lines.specs.declared.document.Verdict.TheVariants.{AllRead, Refused}
 use Rattle.der_lines.specs.declared.encodings.Found.{Found}
 use Rattle.der_lines.specs.declared.encodings.Marked.{Marked}
 use Rattle.der_pieces.specs.declared.faults.Fault.{Fault}
@@ -88,19 +88,29 @@ some_text place strict octets most found marks x y w rest v i z m these put same
     )
 
 pub some_put :
-    (place : Place) (strict : Bool) (octets : List ℕ) (most : Option ℕ) (found : Found) (marks : List Marked)
-    (a b c d : Printer) (verdict : Result Verdict AllocError) → place.is_inside ≡ false → place.base ≡ 0 →
+    {W : Type 0} (contents : W → Option (List ℕ)) (place : Place) (strict : Bool) (octets : List ℕ) (most : Option ℕ)
+    (found : Found) (marks : List Marked)
+    (a b c d : Printer W) (verdict : Result Verdict StreamFault) → place.is_inside ≡ false → place.base ≡ 0 →
     place.most_depth ≡ most →
-    marks ≡ marks_by strict found.marks.items → IsPrinted (IsWholeDump place octets found) a b →
-    IsPrinted (AreFaultLines (mark_offsets marks)) b c →
-    IfOk verdict (λ v. IsPrinted (IsLast found.fault (mark_offsets marks) v) c d) →
-    IfOk verdict (λ v. IsPrinted (IsDumpOfSome strict most octets v) a d)
-some_put place strict octets most found marks a b c d (Err e) i z m these put lines last = last
-some_put place strict octets most found marks a b c d (Ok v) i z m these put lines last =
-    printed_both _ _ (IsDumpOfSome strict most octets v) a b d
+    marks ≡ marks_by strict found.marks.items → IsPrinted contents (IsWholeDump place octets found) a b →
+    IsPrinted contents (AreFaultLines (mark_offsets marks)) b c →
+    IfOk verdict (λ v. IsPrinted contents (IsLast found.fault (mark_offsets marks) v) c d) →
+    IfOk verdict (λ v. IsPrinted contents (IsDumpOfSome strict most octets v) a d)
+some_put contents place strict octets most found marks a b c d (Err e) i z m these put lines last = last
+some_put contents place strict octets most found marks a b c d (Ok v) i z m these put lines last =
+    printed_both contents _ _ (IsDumpOfSome strict most octets v) a b d
     (λ x rest dump (y, w, is, are, end). some_text place strict octets most found marks x y w rest v i z m these dump is
     are end)
     put
-    (printed_both _ _
+    (printed_both contents _ _
     (λ rest. (y w : List ℕ) × (rest ≡ y ++ w) × AreFaultLines (mark_offsets marks) y
     × IsLast found.fault (mark_offsets marks) v w) b c d (λ y w are end. (y, w, refl, are, end)) lines last)
+
+-- the verdict where nothing is wrong, and where something is
+pub no_wrong : (marks : List Marked) → length marks ≡ 0 → AllRead ≡ verdict_of (mark_offsets marks)
+no_wrong [] none = refl
+no_wrong (mark ∷ marks) none = absurd (omega (arith, none))
+
+pub some_wrong : (marks : List Marked) → 0 < length marks → Refused ≡ verdict_of (mark_offsets marks)
+some_wrong [] some = absurd (omega (arith, some))
+some_wrong (mark ∷ marks) some = refl

@@ -4,7 +4,6 @@ use Rattle.std.proofs.Common.{Bool, true, false, refl, sym, ap, ◌∙◌, subst
 use Rattle.std.proofs.lemmas.List.{drop-drop}
 use Rattle.std.specs.Fmt.{decimal}
 use Rattle.std.specs.Prelude.{Option}
-use Rattle.der_pieces.specs.Texts.{Adds}
 use Rattle.der_lines.specs.Dump.{AreFaultLines, IsBlockLine, IsDump, IsFaultLine, IsLine}
 use Rattle.der_pieces.specs.Fronts.{Front}
 use Rattle.der_pieces.specs.Fronts.{StandAt, is_too_deep}
@@ -13,7 +12,7 @@ use Rattle.der_pieces.specs.Marks.{Told, told_rules}
 use Rattle.der_lines.specs.MarkText.{mark_text, words_text}
 use Rattle.der_lines.specs.Steps.{IsLineOf, IsLineUnless, outer}
 use Rattle.der_rows.proofs.OneLine.{one_line_both, one_line_made}
-use Rattle.der_rows.proofs.Printed.{pushes_none}
+use Rattle.der_rows.proofs.Printed.{prints_none}
 use Rattle.der_rows.specs.Printing.{IsPrintedAs, Prints}
 use Rattle.der_rows.specs.Rows.{contents_column, fault_words, indentation, on_one_line, right_of, row_line}
 use Rattle.der_rows.specs.declared.printer.Printer.{Printer}
@@ -38,13 +37,6 @@ dump_map P Q m fs a (block_line f later line rest p q l d) =
     block_line f later line rest p q l (dump_map P Q m later rest d)
 dump_map P Q m fs a (inside_line f line rest q l i d) = inside_line f line rest q l (m f i) (dump_map P Q m fs rest d)
 
--- one text and then another
-pub adds_both :
-    (Is Later Other : List ℕ → Type 0) (a b c : List ℕ) →
-    ((text more : List ℕ) → Is text → Later more → Other (text ++ more)) → Adds Is a b → Adds Later b c → Adds Other a c
-adds_both Is Later Other a b c turn (text, e, is) (more, f, later) =
-    (text ++ more, f ∙ (ap (λ z. z ++ more) e ∙ append_assoc a text more), turn text more is later)
-
 dump_unless :
     (P : Front → Type 0) (inside q : Bool) (f : Front) (text : List ℕ) → IsLineUnless q inside f text → P f →
     IsDump P (if inside then [] else if q then [] else f ∷ []) text
@@ -55,17 +47,20 @@ dump_unless P false false f text (line, e, l) i = block_line f [] line [] refl e
 
 -- the row of a piece was printed, or nothing where it stands too deep
 pub nothing_deep :
-    (deep inside : Bool) (f : Front) (faults : List Bool) (a : Printer) → deep ≡ true →
-    IsPrintedAs (if deep then [] else faults) (IsLineUnless deep inside f) a a
-nothing_deep true inside f faults a e = ([], (refl, pushes_none a.look a.out.items), refl)
-nothing_deep false inside f faults a e = absurd (cc e)
+    {W : Type 0} (contents : W → Option (List ℕ)) (deep inside : Bool) (f : Front) (faults : List Bool)
+    (a : Printer W) →
+    deep ≡ true → IsPrintedAs contents (if deep then [] else faults) (IsLineUnless deep inside f) a a
+nothing_deep contents true inside f faults a e = ([], prints_none contents a, refl)
+nothing_deep contents false inside f faults a e = absurd (cc e)
 
 pub row_printed :
-    (deep inside : Bool) (row : Row) (f : Front) (faults : List Bool) (a b : Printer) → deep ≡ false →
-    Prints faults (row_line row ++ 10 ∷ []) a b → IsLineOf inside f (row_line row) →
-    IsPrintedAs (if deep then [] else faults) (IsLineUnless deep inside f) a b
-row_printed true inside row f faults a b e prints line = absurd (cc e)
-row_printed false inside row f faults a b e prints line = (row_line row ++ 10 ∷ [], prints, (row_line row, refl, line))
+    {W : Type 0} (contents : W → Option (List ℕ)) (deep inside : Bool) (row : Row) (f : Front) (faults : List Bool)
+    (a b : Printer W) → deep ≡ false → Prints contents faults (row_line row ++ 10 ∷ []) a b →
+    IsLineOf inside f (row_line row) →
+    IsPrintedAs contents (if deep then [] else faults) (IsLineUnless deep inside f) a b
+row_printed contents true inside row f faults a b e prints line = absurd (cc e)
+row_printed contents false inside row f faults a b e prints line =
+    (row_line row ++ 10 ∷ [], prints, (row_line row, refl, line))
 
 outer_one :
     (inside : Bool) (most : Option ℕ) (f : Front) →

@@ -260,13 +260,14 @@ shown_all place octets walk found text ended s =
 
 -- the lines of encodings inside contents octets, and their marks
 pub nested_adds :
-    (inside : Place) (left : List ℕ) (piece : Piece) (octets : List ℕ) (before : ℕ) (told : Found) (a b : Printer) →
+    {W : Type 0} (held : W → Option (List ℕ)) (inside : Place) (left : List ℕ) (piece : Piece) (octets : List ℕ)
+    (before : ℕ) (told : Found) (a b : Printer W) →
     StandAt (slice_range left (kind_header piece.kind) (kind_header piece.kind + kind_contents piece.kind)) before
     octets →
     inside.is_inside ≡ true → inside.base ≡ piece.place.base + (piece.offset + kind_header piece.kind) + before →
-    IsPrinted (IsWholeDump inside octets told) a b →
-    IsPrinted (IsNestedDump left piece (mark_offsets told.marks.items)) a b
-nested_adds inside left piece octets before told a b stand is_inside further (faults, (text, e, put)) =
+    IsPrinted held (IsWholeDump inside octets told) a b →
+    IsPrinted held (IsNestedDump left piece (mark_offsets told.marks.items)) a b
+nested_adds held inside left piece octets before told a b stand is_inside further (faults, (text, e, put)) =
     let header = kind_header piece.kind in
     let base = piece.place.base + (piece.offset + header) in
     let contents = slice_range left header (header + kind_contents piece.kind) in

@@ -7,11 +7,13 @@ ghost use Rattle.der_rows.specs.Printing.{IsPrinted};
 use crate::encodings::{Found, Marked, push_encodings};
 use crate::lines::{push_fault, push_fault_line, push_words};
 use asn1_headers::error::ASN1DecodeErr;
+use der_io::StreamFault;
 use der_names::Names;
 use der_pieces::place::outermost;
 use der_pieces::style::Style;
 use der_rows::Printer;
-use std::alloc::{AllocError, Global};
+use std::alloc::Global;
+use std::io::Write;
 
 /// Whether all of an input was read.
 #[derive(Clone, Copy, Debug, Drop, PartialEq)]
@@ -31,19 +33,19 @@ pub enum Verdict {
 /// octets that are cut short, those of no value, end-of-contents octets that are missing, or the indefinite form of a
 /// primitive encoding, which is read as a length of 0. Octets inside strings count for nothing there.
 ///
-/// Beside the lines it takes the memory of one value, which may be that of a string in segments, and two words for each
-/// encoding that is open.
+/// It takes the memory of one row, whose value may be that of a string in segments, two words for each encoding that is
+/// open, and some for each that breaks a rule of DER.
 ///
 /// # Errors
-/// Memory ran out.
-pub fn push_document(
+/// `Memory`, after which what was printed before stays written; `Write`, after which nothing is known of what was.
+pub fn push_document<W: Write>(
     alloc: Global,
     names: &Names,
     style: Style,
     octets: &[u8],
-    printer: &mut Printer,
-) -> Result<Verdict, AllocError>
-    ensures { IfOk result (λ verdict. IsPrinted (IsDumpOf false style.most_depth octets.now verdict)
+    printer: &mut Printer<W>,
+) -> Result<Verdict, StreamFault>
+    ensures { IfOk result (λ verdict. IsPrinted W.contents (IsDumpOf false style.most_depth octets.now verdict)
         printer.old printer.new) }
 {
     push_dump(alloc, names, style, octets, false, printer)
@@ -57,29 +59,29 @@ pub fn push_document(
 /// It takes memory for each encoding that has a mark.
 ///
 /// # Errors
-/// Memory ran out.
-pub fn push_strict_document(
+/// `Memory`, after which what was printed before stays written; `Write`, after which nothing is known of what was.
+pub fn push_strict_document<W: Write>(
     alloc: Global,
     names: &Names,
     style: Style,
     octets: &[u8],
-    printer: &mut Printer,
-) -> Result<Verdict, AllocError>
-    ensures { IfOk result (λ verdict. IsPrinted (IsDumpOf true style.most_depth octets.now verdict)
+    printer: &mut Printer<W>,
+) -> Result<Verdict, StreamFault>
+    ensures { IfOk result (λ verdict. IsPrinted W.contents (IsDumpOf true style.most_depth octets.now verdict)
         printer.old printer.new) }
 {
     push_dump(alloc, names, style, octets, true, printer)
 }
 
-fn push_dump(
+fn push_dump<W: Write>(
     alloc: Global,
     names: &Names,
     style: Style,
     octets: &[u8],
     is_strict: bool,
-    printer: &mut Printer,
-) -> Result<Verdict, AllocError>
-    ensures { IfOk result (λ verdict. IsPrinted (IsDumpOf is_strict style.most_depth octets.now verdict)
+    printer: &mut Printer<W>,
+) -> Result<Verdict, StreamFault>
+    ensures { IfOk result (λ verdict. IsPrinted W.contents (IsDumpOf is_strict style.most_depth octets.now verdict)
         printer.old printer.new) }
 {
     if octets.is_empty() {
@@ -90,15 +92,15 @@ fn push_dump(
 }
 
 // Prints the rows of octets, of which there are some or none, and what is wrong with them.
-fn push_lines(
+fn push_lines<W: Write>(
     alloc: Global,
     names: &Names,
     style: Style,
     octets: &[u8],
     is_strict: bool,
-    printer: &mut Printer,
-) -> Result<Verdict, AllocError>
-    ensures { IfOk result (λ verdict. IsPrinted (IsDumpOfSome is_strict style.most_depth octets.now verdict)
+    printer: &mut Printer<W>,
+) -> Result<Verdict, StreamFault>
+    ensures { IfOk result (λ verdict. IsPrinted W.contents (IsDumpOfSome is_strict style.most_depth octets.now verdict)
         printer.old printer.new) }
 {
     let found = push_encodings(alloc, names, octets, outermost(style), printer)?;
@@ -115,8 +117,12 @@ fn marks_by(is_strict: bool, marks: &[Marked]) -> &[Marked]
 }
 
 // Prints a line for each mark.
-fn push_marks(alloc: Global, marks: &[Marked], printer: &mut Printer) -> Result<(), AllocError>
-    ensures { OnOk result (IsPrinted (AreFaultLines (mark_offsets marks.now)) printer.old printer.new) }
+fn push_marks<W: Write>(
+    alloc: Global,
+    marks: &[Marked],
+    printer: &mut Printer<W>,
+) -> Result<(), StreamFault>
+    ensures { OnOk result (IsPrinted W.contents (AreFaultLines (mark_offsets marks.now)) printer.old printer.new) }
 {
     for mark in marks {
         push_mark_line(alloc, mark, printer)?;
@@ -124,8 +130,12 @@ fn push_marks(alloc: Global, marks: &[Marked], printer: &mut Printer) -> Result<
     Ok(())
 }
 
-fn push_mark_line(alloc: Global, mark: &Marked, printer: &mut Printer) -> Result<(), AllocError>
-    ensures { OnOk result (IsPrinted (IsLine (IsFaultLine mark.now.offset)) printer.old printer.new) }
+fn push_mark_line<W: Write>(
+    alloc: Global,
+    mark: &Marked,
+    printer: &mut Printer<W>,
+) -> Result<(), StreamFault>
+    ensures { OnOk result (IsPrinted W.contents (IsLine (IsFaultLine mark.now.offset)) printer.old printer.new) }
 {
     let mut said = Vec::new(alloc);
     said.extend_from_slice(b"not DER: ")?;
@@ -134,8 +144,12 @@ fn push_mark_line(alloc: Global, mark: &Marked, printer: &mut Printer) -> Result
 }
 
 // Prints the line of the first fault, if there is one, behind those of marks.
-fn push_last(found: &Found, marks: &[Marked], printer: &mut Printer) -> Result<Verdict, AllocError>
-    ensures { IfOk result (λ verdict. IsPrinted (IsLast found.now.fault (mark_offsets marks.now) verdict)
+fn push_last<W: Write>(
+    found: &Found,
+    marks: &[Marked],
+    printer: &mut Printer<W>,
+) -> Result<Verdict, StreamFault>
+    ensures { IfOk result (λ verdict. IsPrinted W.contents (IsLast found.now.fault (mark_offsets marks.now) verdict)
         printer.old printer.new) }
 {
     match &found.fault {

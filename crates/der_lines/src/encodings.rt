@@ -10,6 +10,7 @@ use crate::lines::push_mark;
 use crate::values::{ValueStyle, cut_text, joined_value, opened_text, read_text};
 use der_elements::header::holds_encodings;
 use der_elements::sum::sum_of;
+use der_io::StreamFault;
 use der_names::Names;
 use der_pieces::faults::Fault;
 use der_pieces::leaf::Meaning;
@@ -20,6 +21,7 @@ use der_pieces::scalars::write_after_space;
 use der_pieces::walk::Walk;
 use der_rows::{Printer, Row};
 use std::alloc::{AllocError, Global};
+use std::io::Write;
 
 // Where an encoding stands that has a mark, in the document, and which rules the mark tells.
 #[derive(Drop)]
@@ -73,15 +75,15 @@ impl Found {
 
 // Prints the rows of octets, and gives what is wrong with them.
 #[cycle(encodings)]
-pub fn push_encodings(
+pub fn push_encodings<W: Write>(
     alloc: Global,
     names: &Names,
     octets: &[u8],
     place: Place,
-    printer: &mut Printer,
-) -> Result<Found, AllocError>
+    printer: &mut Printer<W>,
+) -> Result<Found, StreamFault>
     requires { place.is_inside ≡ false → (place.base ≡ 0) × (place.depth ≡ 0) }
-    ensures { IfOk result (λ found. IsPrinted (IsWholeDump place octets.now found) printer.old printer.new) }
+    ensures { IfOk result (λ found. IsPrinted W.contents (IsWholeDump place octets.now found) printer.old printer.new) }
 {
     let mut found = Found {
         fault: None,
@@ -97,16 +99,16 @@ pub fn push_encodings(
 
 // Prints the row of a piece, and those of encodings inside its contents octets, and gives the marks of these.
 #[cycle(encodings)]
-fn push_piece(
+fn push_piece<W: Write>(
     alloc: Global,
     names: &Names,
     piece: &Piece<'_>,
-    printer: &mut Printer,
-) -> Result<Vec<Marked>, AllocError>
+    printer: &mut Printer<W>,
+) -> Result<Vec<Marked>, StreamFault>
     requires { IfSome piece.now.nested (λ _. 0 < piece.now.place.documents) }
     ensures { IfOk result (λ marks. (left : List ℕ)
         → IsHolding left piece.now.kind piece.now.place piece.now.nested
-        → IsPrinted (IsPieceDump left piece.now (mark_offsets marks.items)) printer.old printer.new) }
+        → IsPrinted W.contents (IsPieceDump left piece.now (mark_offsets marks.items)) printer.old printer.new) }
 {
     let words = piece.words(alloc)?;
     let shown = shown_of(alloc, names, piece)?;
@@ -116,17 +118,17 @@ fn push_piece(
 
 // Prints the row, unless it stands too deep. On a page its element has the class of what is wrong exactly if something
 // is wrong with the piece.
-fn push_row(
+fn push_row<W: Write>(
     alloc: Global,
     piece: &Piece<'_>,
     words: &str,
     shown: &Shown,
-    printer: &mut Printer,
-) -> Result<(), AllocError>
+    printer: &mut Printer<W>,
+) -> Result<(), StreamFault>
     requires words { words.now ≡ kind_words piece.now.kind }
     requires fault { is_some shown.now.fault ≡ is_some piece.now.fault }
-    ensures { OnOk result (IsPrintedAs (row_faults piece.now) (IsStart piece.now.place (shown_front piece.now))
-        printer.old printer.new) }
+    ensures { OnOk result (IsPrintedAs W.contents (row_faults piece.now)
+        (IsStart piece.now.place (shown_front piece.now)) printer.old printer.new) }
 {
     let place = piece.place;
     if is_too_deep(place.most_depth, place.depth) {
@@ -168,16 +170,16 @@ fn has_rows_inside(piece: &Piece<'_>) -> bool {
 
 // Prints the rows of encodings inside contents octets, if there are any, and gives their marks.
 #[cycle(encodings)]
-fn push_nested(
+fn push_nested<W: Write>(
     alloc: Global,
     names: &Names,
     piece: &Piece<'_>,
-    printer: &mut Printer,
-) -> Result<Vec<Marked>, AllocError>
+    printer: &mut Printer<W>,
+) -> Result<Vec<Marked>, StreamFault>
     requires { IfSome piece.now.nested (λ _. 0 < piece.now.place.documents) }
     ensures { IfOk result (λ marks. (left : List ℕ)
         → IsHolding left piece.now.kind piece.now.place piece.now.nested
-        → IsPrinted (IsNestedDump left piece.now (mark_offsets marks.items)) printer.old printer.new) }
+        → IsPrinted W.contents (IsNestedDump left piece.now (mark_offsets marks.items)) printer.old printer.new) }
 {
     let Some(nested) = piece.nested else {
         return Ok(Vec::new(alloc));

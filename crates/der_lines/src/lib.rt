@@ -22,7 +22,7 @@
 //! [`push_label`] and [`push_refusal`] put the other lines of what is written: `=` and the label of a document, `!` and
 //! why there is none.
 //!
-//! The only error is that memory ran out; what was pushed before it stays.
+//! The errors are that memory ran out, and that a write failed. What was written before stays.
 #![tactic(auto)]
 
 mod document;

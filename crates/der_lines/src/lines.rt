@@ -7,10 +7,12 @@ ghost use Rattle.der_rows.specs.Printing.{IsPrinted};
 ghost use Rattle.der_rows.specs.Rows.{note_mark};
 
 use asn1_headers::error::ASN1DecodeErr;
+use der_io::StreamFault;
 use der_pieces::faults::fault_words;
 use der_pieces::marks::{Breaches, ToldRule};
 use der_rows::{NoteKind, Printer};
 use std::alloc::{AllocError, Global};
+use std::io::Write;
 
 // Pushes the mark of an encoding that is not DER, if it has one.
 pub fn push_mark(alloc: Global, breaches: &Breaches, out: &mut Vec<u8>) -> Result<(), AllocError>
@@ -28,16 +30,24 @@ pub fn push_mark(alloc: Global, breaches: &Breaches, out: &mut Vec<u8>) -> Resul
 }
 
 // Prints a note.
-pub fn push_note(kind: NoteKind, text: &[u8], printer: &mut Printer) -> Result<(), AllocError>
-    ensures { OnOk result (IsPrinted (IsLine (IsNote (note_mark kind) text.now)) printer.old printer.new) }
+pub fn push_note<W: Write>(
+    kind: NoteKind,
+    text: &[u8],
+    printer: &mut Printer<W>,
+) -> Result<(), StreamFault>
+    ensures { OnOk result (IsPrinted W.contents (IsLine (IsNote (note_mark kind) text.now)) printer.old printer.new) }
 {
     printer.push_note(kind, text)?;
     Ok(())
 }
 
 // Prints the line of a fault: its offset, and what is said of it.
-pub fn push_fault(offset: usize, words: &[u8], printer: &mut Printer) -> Result<(), AllocError>
-    ensures { OnOk result (IsPrinted (IsLine (IsFaultLine offset)) printer.old printer.new) }
+pub fn push_fault<W: Write>(
+    offset: usize,
+    words: &[u8],
+    printer: &mut Printer<W>,
+) -> Result<(), StreamFault>
+    ensures { OnOk result (IsPrinted W.contents (IsLine (IsFaultLine offset)) printer.old printer.new) }
 {
     printer.push_fault(offset, words)?;
     Ok(())
@@ -46,14 +56,14 @@ pub fn push_fault(offset: usize, words: &[u8], printer: &mut Printer) -> Result<
 /// Prints the line of a fault: its offset, and what it is in words.
 ///
 /// # Errors
-/// Memory ran out.
-pub fn push_fault_line(
+/// `Memory`, after which what was printed before stays written; `Write`, after which nothing is known of what was.
+pub fn push_fault_line<W: Write>(
     alloc: Global,
     offset: usize,
     fault: &ASN1DecodeErr,
-    printer: &mut Printer,
-) -> Result<(), AllocError>
-    ensures { OnOk result (IsPrinted (IsLine (IsFaultLine offset)) printer.old printer.new) }
+    printer: &mut Printer<W>,
+) -> Result<(), StreamFault>
+    ensures { OnOk result (IsPrinted W.contents (IsLine (IsFaultLine offset)) printer.old printer.new) }
 {
     let words = fault_words(alloc, fault)?;
     push_fault(offset, words.as_bytes(), printer)

@@ -7,16 +7,22 @@ ghost use Rattle.der_rows.specs.Printing.{IsPrinted};
 
 use crate::document::Verdict;
 use crate::lines::push_note;
-use der_io::escaped;
+use der_io::{StreamFault, escaped};
 use der_rows::{NoteKind, Printer};
-use std::alloc::{AllocError, Global};
+use std::alloc::Global;
+use std::io::Write;
 
 /// Prints the line of a document's label: `=`, a space, and the label, escaped.
 ///
 /// # Errors
-/// Memory ran out.
-pub fn push_label(alloc: Global, label: &[u8], printer: &mut Printer) -> Result<(), AllocError>
-    ensures { OnOk result (IsPrinted (IsLine (IsNote equals_sign (escaped_is label.now))) printer.old printer.new) }
+/// `Memory`, after which what was printed before stays written; `Write`, after which nothing is known of what was.
+pub fn push_label<W: Write>(
+    alloc: Global,
+    label: &[u8],
+    printer: &mut Printer<W>,
+) -> Result<(), StreamFault>
+    ensures { OnOk result (IsPrinted W.contents (IsLine (IsNote equals_sign (escaped_is label.now)))
+        printer.old printer.new) }
 {
     let text = escaped(alloc, label)?;
     push_note(NoteKind::Title, text.as_bytes(), printer)
@@ -26,9 +32,9 @@ pub fn push_label(alloc: Global, label: &[u8], printer: &mut Printer) -> Result<
 /// verdict is `Refused`.
 ///
 /// # Errors
-/// Memory ran out.
-pub fn push_refusal(why: &str, printer: &mut Printer) -> Result<Verdict, AllocError>
-    ensures { IfOk result (λ verdict. IsPrinted (IsRefusal why.now verdict) printer.old printer.new) }
+/// `Memory`, after which what was printed before stays written; `Write`, after which nothing is known of what was.
+pub fn push_refusal<W: Write>(why: &str, printer: &mut Printer<W>) -> Result<Verdict, StreamFault>
+    ensures { IfOk result (λ verdict. IsPrinted W.contents (IsRefusal why.now verdict) printer.old printer.new) }
 {
     push_note(NoteKind::Error, why.as_bytes(), printer)?;
     Ok(Verdict::Refused)

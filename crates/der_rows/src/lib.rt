@@ -1,8 +1,9 @@
 //! The rows of a dump, and what is printed of them.
 //!
 //! A [`Row`] is what is shown of one piece of a document: where it stands, its type, its value, and what is wrong with
-//! it. A [`Printer`] pushes rows one behind another in a [`Look`]: as lines, as lines with colors, or as elements of a
-//! page. No look takes a line apart: each shows the parts of a row as they are.
+//! it. A [`Printer`] writes rows one behind another in a [`Look`]: as lines, as lines with colors, or as elements of a
+//! page. No look takes a line apart: each shows the parts of a row as they are. A printer keeps no row: each is written
+//! before the next is made.
 //!
 //! ```text
 //!       0  2       6  SEQUENCE
@@ -15,7 +16,7 @@
 //! wrong with it, and what of DER it breaks. [`Printer::push_note`] prints a line about documents: `=` and a title, or
 //! `!` and what is wrong. No line has a control character, by [`law_one_line`].
 //!
-//! The only error is that memory ran out; what was pushed before it stays.
+//! The errors are that memory ran out, and that a write failed. What was written before stays.
 #![tactic(auto)]
 
 mod columns;

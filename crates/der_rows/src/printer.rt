@@ -1,7 +1,8 @@
-// A printer, which pushes rows and notes one behind another.
-ghost use Rattle.std.specs.Prelude.{◌≡◌, ◌∷◌, ◌++◌, [], is_some, true, IfOk, OnOk};
+// A printer, which writes rows and notes one behind another.
+ghost use Rattle.std.specs.Prelude.{◌≡◌, ◌∷◌, ◌++◌, [], is_some, true, OnOk};
+ghost use Rattle.std.specs.Io.KnownBytes.{Appends};
 ghost use Rattle.der_html.specs.Page.{Shows};
-ghost use Rattle.der_rows.specs.Printing.{Prints, Pushes};
+ghost use Rattle.der_rows.specs.Printing.{Prints, PrintsOctets, Pushes};
 ghost use Rattle.der_rows.specs.Rows.{fault_line, is_error as is_error_is, note_line, row_line};
 
 use crate::columns::MOST_LEVELS;
@@ -10,8 +11,16 @@ use crate::line::{
     push_row_line,
 };
 use crate::row::Row;
-use der_html::{Columns, Element, push_element_start, push_fold_end};
+use der_html::{
+    Columns, Element, push_element_start, push_fold_end, push_octets, push_octets_start,
+    push_section_end, push_section_start,
+};
+use der_io::{StreamFault, write_part};
 use std::alloc::{AllocError, Global};
+use std::io::Write;
+
+// How many octets beside the rows of a page are written at a time.
+const OCTETS_AT_ONCE: usize = 4096;
 
 /// How rows are shown.
 #[derive(Clone, Copy, Drop)]
@@ -24,28 +33,31 @@ pub enum Look {
     Page,
 }
 
-/// Pushes rows and notes one behind another, in a look.
+/// Prints rows and notes one behind another, in a look: each goes to the writer before the next is made.
 #[derive(Drop)]
-pub struct Printer {
+pub struct Printer<W> {
     alloc: Global,
     /// How they are shown.
     pub look: Look,
-    /// What is written, with what was there before.
-    pub out: Vec<u8>,
+    /// What they are written to.
+    pub out: W,
+    // what is written next
+    line: Vec<u8>,
     // the levels of the folds that are open on a page
     folds: Vec<usize>,
 }
 
-impl Printer {
-    /// A printer that goes on behind what is written.
-    pub fn behind(alloc: Global, look: Look, out: Vec<u8>) -> Printer
+impl<W: Write> Printer<W> {
+    /// A printer that writes behind what was written.
+    pub fn behind(alloc: Global, look: Look, out: W) -> Printer<W>
         ensures look { result.look ≡ look }
-        ensures out { result.out.items ≡ out.items }
+        ensures out { result.out ≡ out }
     {
         Printer {
             alloc,
             look,
             out,
+            line: Vec::new(alloc),
             folds: Vec::new(alloc),
         }
     }
@@ -53,14 +65,16 @@ impl Printer {
     /// Prints a row. On a page its element has the class `fault` exactly if something is wrong with it.
     ///
     /// # Errors
-    /// Memory ran out.
-    pub fn push(&mut self, row: &Row<'_>) -> Result<(), AllocError>
-        ensures { OnOk result (Prints (is_some row.now.fault ∷ []) (row_line row.now ++ 10 ∷ []) self.old self.new) }
+    /// `Memory`, after which nothing of it was written; `Write`, after which nothing is known of what was.
+    pub fn push(&mut self, row: &Row<'_>) -> Result<(), StreamFault>
+        ensures { OnOk result (Prints W.contents (is_some row.now.fault ∷ []) (row_line row.now ++ 10 ∷ [])
+            self.old self.new) }
     {
         let is_fold = row.has_rows_inside && row.depth < MOST_LEVELS;
         self.begin(row.depth.min(MOST_LEVELS), element_of(row, is_fold))?;
-        push_row_line(self.alloc, self.look, row, &mut self.out)?;
-        push_end(self.look, is_fold, &mut self.out)?;
+        push_row_line(self.alloc, self.look, row, &mut self.line)?;
+        push_end(self.look, is_fold, &mut self.line)?;
+        self.write_made()?;
         Ok(())
     }
 
@@ -68,9 +82,10 @@ impl Printer {
     /// element has the class `fault` exactly if it says that something is wrong.
     ///
     /// # Errors
-    /// Memory ran out.
-    pub fn push_note(&mut self, kind: NoteKind, text: &[u8]) -> Result<(), AllocError>
-        ensures { OnOk result (Prints (is_error_is kind ∷ []) (note_line kind text.now ++ 10 ∷ []) self.old self.new) }
+    /// Those of [`Printer::push`].
+    pub fn push_note(&mut self, kind: NoteKind, text: &[u8]) -> Result<(), StreamFault>
+        ensures { OnOk result (Prints W.contents (is_error_is kind ∷ []) (note_line kind text.now ++ 10 ∷ [])
+            self.old self.new) }
     {
         let mut line = Vec::new(self.alloc);
         push_note_line(kind, text, &mut line)?;
@@ -81,9 +96,10 @@ impl Printer {
     /// Prints the line of a fault: its offset, and what it is in words.
     ///
     /// # Errors
-    /// Memory ran out.
-    pub fn push_fault(&mut self, offset: usize, words: &[u8]) -> Result<(), AllocError>
-        ensures { OnOk result (Prints (true ∷ []) (fault_line offset words.now ++ 10 ∷ []) self.old self.new) }
+    /// Those of [`Printer::push`].
+    pub fn push_fault(&mut self, offset: usize, words: &[u8]) -> Result<(), StreamFault>
+        ensures { OnOk result (Prints W.contents (true ∷ []) (fault_line offset words.now ++ 10 ∷ [])
+            self.old self.new) }
     {
         let mut line = Vec::new(self.alloc);
         push_fault_line(offset, words, &mut line)?;
@@ -92,8 +108,8 @@ impl Printer {
     }
 
     // Prints the line of a note.
-    fn push_noted(&mut self, kind: NoteKind, line: &[u8]) -> Result<(), AllocError>
-        ensures { OnOk result (Prints (is_error_is kind ∷ []) (line.now ++ 10 ∷ []) self.old self.new) }
+    fn push_noted(&mut self, kind: NoteKind, line: &[u8]) -> Result<(), StreamFault>
+        ensures { OnOk result (Prints W.contents (is_error_is kind ∷ []) (line.now ++ 10 ∷ []) self.old self.new) }
     {
         let element = Element {
             is_fold: false,
@@ -101,29 +117,119 @@ impl Printer {
             columns: None,
         };
         self.begin(0, element)?;
-        push_part(self.look, paint_of(kind), line, &mut self.out)?;
-        push_end(self.look, false, &mut self.out)?;
+        push_part(self.look, paint_of(kind), line, &mut self.line)?;
+        push_end(self.look, false, &mut self.line)?;
+        self.write_made()?;
         Ok(())
     }
 
-    /// What is written, with the ends of folds that are open.
+    /// Ends the folds that are open.
     ///
     /// # Errors
-    /// Memory ran out.
-    pub fn finish(mut self) -> Result<Vec<u8>, AllocError>
-        ensures { IfOk result (λ out. Pushes self.look [] [] self.out.items out.items) }
+    /// Those of [`Printer::push`].
+    pub fn end_folds(&mut self) -> Result<(), StreamFault>
+        ensures { OnOk result (Prints W.contents [] [] self.old self.new) }
     {
-        close_folds(self.look, 0, &mut self.folds, &mut self.out)?;
-        Ok(self.out)
+        self.line.clear();
+        close_folds(self.look, 0, &mut self.folds, &mut self.line)?;
+        self.write_made()?;
+        Ok(())
+    }
+
+    /// Begins a section of a page.
+    ///
+    /// # Errors
+    /// Those of [`Printer::push`].
+    pub fn begin_section(&mut self) -> Result<(), StreamFault>
+        ensures { OnOk result (PrintsOctets W.contents [] self.old self.new) }
+    {
+        self.line.clear();
+        push_section_start(&mut self.line)?;
+        self.write_made()?;
+        Ok(())
+    }
+
+    /// Prints the octets that the rows of a section are of, and its end.
+    ///
+    /// # Errors
+    /// Those of [`Printer::push`].
+    pub fn end_section(&mut self, octets: &[u8]) -> Result<(), StreamFault>
+        ensures { OnOk result (PrintsOctets W.contents octets.now self.old self.new) }
+    {
+        self.begin_octets()?;
+        self.push_octets(octets)?;
+        self.end_octets()?;
+        Ok(())
+    }
+
+    fn begin_octets(&mut self) -> Result<(), StreamFault>
+        ensures { OnOk result (PrintsOctets W.contents [] self.old self.new) }
+    {
+        self.line.clear();
+        push_octets_start(&mut self.line)?;
+        self.write_made()?;
+        Ok(())
+    }
+
+    fn end_octets(&mut self) -> Result<(), StreamFault>
+        ensures { OnOk result (PrintsOctets W.contents [] self.old self.new) }
+    {
+        self.line.clear();
+        push_section_end(&mut self.line)?;
+        self.write_made()?;
+        Ok(())
+    }
+
+    // Prints octets, a part of them after another.
+    fn push_octets(&mut self, octets: &[u8]) -> Result<(), StreamFault>
+        ensures { OnOk result (PrintsOctets W.contents octets.now self.old self.new) }
+    {
+        let mut rest = octets;
+        while !rest.is_empty() {
+            let (part, later) = rest.split_at(rest.len().min(OCTETS_AT_ONCE));
+            self.push_few(part)?;
+            rest = later;
+        }
+        Ok(())
+    }
+
+    fn push_few(&mut self, octets: &[u8]) -> Result<(), StreamFault>
+        ensures { OnOk result (PrintsOctets W.contents octets.now self.old self.new) }
+    {
+        self.line.clear();
+        push_octets(octets, &mut self.line)?;
+        self.write_made()?;
+        Ok(())
+    }
+
+    // Writes what was made.
+    fn write_made(&mut self) -> Result<(), StreamFault>
+        ensures look { OnOk result (self.new.look ≡ self.old.look) }
+        ensures written { OnOk result (Appends (W.contents self.old.out) (W.contents self.new.out)
+            self.old.line.items) }
+    {
+        write_part(&mut self.out, &self.line)?;
+        Ok(())
+    }
+
+    /// The writer, behind all that was printed.
+    pub fn into_writer(self) -> W
+        ensures { result ≡ self.out }
+    {
+        let Printer { out, .. } = self;
+        out
     }
 
     // Begins what shows a line: on a page an element, inside the folds of lower levels.
     fn begin(&mut self, level: usize, element: Element) -> Result<(), AllocError>
-        ensures { OnOk result (Prints (element.is_fault ∷ []) [] self.old self.new) }
+        ensures look { OnOk result (self.new.look ≡ self.old.look) }
+        ensures out { OnOk result (self.new.out ≡ self.old.out) }
+        ensures line { OnOk result (Pushes self.old.look (element.is_fault ∷ []) [] [] self.new.line.items) }
     {
-        close_folds(self.look, level, &mut self.folds, &mut self.out)?;
+        self.line.clear();
+        close_folds(self.look, level, &mut self.folds, &mut self.line)?;
         open_fold(element.is_fold, level, &mut self.folds)?;
-        begin_element(self.look, element, &mut self.out)?;
+        begin_element(self.look, element, &mut self.line)?;
         Ok(())
     }
 }

@@ -52,7 +52,8 @@ fn a_long_sequence_is_shown_once(rt: HostRuntime) -> Result<(), Fail> {
         let mut printer = Printer::behind(alloc, Look::Plain, Vec::new(alloc));
         push_label(alloc, b"A", &mut printer)?;
         push_document(alloc, &names, Style::default(), &octets, &mut printer)?;
-        let out = printer.finish()?;
+        printer.end_folds()?;
+        let out = printer.into_writer();
         assert!(rt; out.starts_with(beginning));
         assert!(rt; out.ends_with(ending));
         assert_eq!(rt; out.iter().filter(|octet| **octet == b'\n').count(), lines);

@@ -6,7 +6,8 @@ use der_lines::Verdict;
 use der_names::OwnNames;
 use der_options::{Color, Options, Task};
 use std::alloc::Global;
-use std::io::ErrorKind;
+use std::io;
+use std::io::{ErrorKind, Write};
 use std::test::Fail;
 
 // Each input is dumped.
@@ -44,19 +45,21 @@ fn sources(
 
 const SHOWN: &str = "= a\n      0  2       0  NULL\n";
 
+// The first line of it.
+const TITLE: &str = "= a\n";
+
 #[test]
 fn what_cannot_be_read_is_left_out(rt: HostRuntime) -> Result<(), Fail> {
     let alloc = rt.alloc();
     let options = dump(alloc);
     for reads in 0..6 {
         let mut sources = sources(alloc, reads)?;
-        let mut writer = Vec::new(alloc);
-        let outcome = run(
+        let (outcome, writer) = run(
             alloc,
             &options,
             OwnNames::none(alloc),
             &mut sources,
-            &mut writer,
+            Vec::new(alloc),
         );
         let (middle, number, shown) = if reads == 5 {
             (Outcome::Written(Verdict::AllRead), 0, 3)
@@ -75,18 +78,62 @@ fn what_cannot_be_read_is_left_out(rt: HostRuntime) -> Result<(), Fail> {
     Ok(())
 }
 
+// Keeps what the first `writes` writes give it; at each later one it has a fault.
+#[derive(Drop)]
+struct ShortWriter {
+    written: Vec<u8>,
+    writes: usize,
+}
+
+impl Write for ShortWriter {
+    fn write(&mut self, buf: &[u8]) -> io::Result<usize> {
+        if self.writes == 0 {
+            return Err(ErrorKind::Other.into());
+        }
+        self.writes -= 1;
+        self.written.extend_from_slice(buf)?;
+        Ok(buf.len())
+    }
+
+    fn flush(&mut self) -> io::Result<()> {
+        Ok(())
+    }
+}
+
 #[test]
-fn a_fault_of_writing_is_told(rt: HostRuntime) -> Result<(), Fail> {
+fn lines_before_a_fault_of_writing_are_written(rt: HostRuntime) -> Result<(), Fail> {
     let alloc = rt.alloc();
     let options = dump(alloc);
-    for writes in 0..2 {
+    for (writes, written) in [(0, ""), (1, TITLE), (2, SHOWN)] {
+        let mut sources = sources(alloc, 0)?;
+        let writer = ShortWriter {
+            written: Vec::new(alloc),
+            writes,
+        };
+        let (outcome, writer) = run(alloc, &options, OwnNames::none(alloc), &mut sources, writer);
+        assert_eq!(rt; status(&outcome), 2);
+        assert!(rt; outcome.is_err_and(|fault| fault == StreamFault::Write));
+        assert_eq!(rt;
+            writer.written.as_slice(),
+            written.as_bytes(),
+            "after {writes} writes"
+        );
+    }
+    Ok(())
+}
+
+#[test]
+fn a_fault_of_a_flush_is_told(rt: HostRuntime) -> Result<(), Fail> {
+    let alloc = rt.alloc();
+    let options = dump(alloc);
+    for writes in [0, 1, 9] {
         let mut sources = sources(alloc, 9)?;
-        let outcome = run(
+        let (outcome, _) = run(
             alloc,
             &options,
             OwnNames::none(alloc),
             &mut sources,
-            &mut FailingWriter { writes },
+            FailingWriter { writes },
         );
         assert_eq!(rt; status(&outcome), 2);
         assert!(rt; outcome.is_err_and(|fault| fault == StreamFault::Write));

@@ -19,10 +19,11 @@ loop-source-preserved g c =
     let e = sym c.is_err.ensures.value ∙ c.if-is_err.false in
     let p = c.push.ensures.items in
     record {
-      pushed = one_put i all now l n left c.push.result were are last e p (IsInputText (wanted_of c.args.show.now))
+      written = one_put i all now l n left c.push.result were are last e p (IsInputText (wanted_of c.args.show.now))
           (λ source. input_of source.name.now (g.R.Read.remaining source.reader)) c.source-item.result
-          c.args.out.now.items c.loop-source.out.items c.push_source.new.out.items c.loop-source.invariant.pushed
-          c.in_ok-outcome.ensures.pushed;
+          (g.W.Write.contents c.args.printer.now.out) (g.W.Write.contents c.loop-source.printer.out)
+          (g.W.Write.contents c.push_source.new.printer.out) c.loop-source.invariant.written
+          c.in_ok-outcome.ensures.written;
       read = one_read i all now l n left c.push.result were are last e p (λ source. g.R.Read.remaining source.reader)
           c.push_source.new.source c.loop-source.invariant.read c.in_ok-outcome.ensures.read;
       left = left_later i all now l n left c.push.result were are last e p c.push_source.new.source;

@@ -1,23 +1,30 @@
 -- For `line::push_blocks`: what it returns is right.
-use Rattle.std.proofs.Common.{◌++◌, ◌∷◌, [], ◌∙◌, ap, codes, false, refl}
+use Rattle.std.proofs.Common.{◌++◌, ◌∷◌, [], codes, false, refl}
+use Rattle.std.proofs.KnownBytes.{Appends-trans}
+use Rattle.std.specs.Io.KnownBytes.{Appends}
 use Rattle.serde_json.specs.Written.{items_text}
 use Rattle.std.proofs.Common.{subst}
 use Rattle.der_json.specs.Json.{AreInside, AreRows, AreRowsOf, items_of, row_json, rows_text, told_of}
 use Rattle.der_json.specs.Rows.{end_text}
-use Rattle.der_json.proofs.Arrays.{joined}
 use Rattle.der_json.proofs.Lines.{document_line}
 use Rattle.der_json.proofs.line.push_blocks.Goals as goal
 
 pub returns : goal.returns
-returns c =
+returns g c =
     let origin = told_of c.args.origin in
-    let out = c.args.out.now.items in
+    let out = g.W.Write.contents c.args.out.now in
     let (text, put, (rows, are, marks, first, is)) = c.in_ok-found.ensures in
-    let line =
-    joined out (codes "{\"blocks\":[") (items_text false (items_of row_json rows)) (end_text origin ++ 10 ∷ []) _ _ _
-    c.in_ok-extend_from_slice.ensures.items (put ∙ ap (λ z. c.extend_from_slice.new.self.items ++ z) is)
-    c.in_ok-push_end.ensures
-    ∙ ap (λ z. out ++ z) (document_line origin rows) in
+    let begun = g.W.Write.contents c.write_part.new.w in
+    let filled = g.W.Write.contents c.push_rows.new.out in
+    let after = g.W.Write.contents c.write_end.new.out in
+    let name = codes "{\"blocks\":[" in
+    let items = items_text false (items_of row_json rows) in
+    let end = end_text origin ++ 10 ∷ [] in
+    let ended : Appends begun after (items ++ end) =
+    Appends-trans begun filled after items end (subst (Appends begun filled) is put) c.in_ok-write_end.ensures in
+    let line : Appends out after (rows_text rows origin) =
+    subst (Appends out after) (document_line origin rows)
+    (Appends-trans out begun after name (items ++ end) c.in_ok-write_part.ensures.written ended) in
     let o = c.outermost.ensures in
     let octets = c.args.octets.now in
     let whole : AreRowsOf octets rows =

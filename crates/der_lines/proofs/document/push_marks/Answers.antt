@@ -9,7 +9,7 @@ use Rattle.der_lines.proofs.Dumps.{fault_line, fault_lines_join}
 use Rattle.der_lines.proofs.document.push_marks.Goals as goal
 
 pub loop-mark-preserved : goal.loop-mark-preserved
-loop-mark-preserved c =
+loop-mark-preserved g c =
     let marks = c.args.marks.now in
     let i = c.loop-mark.mark-index in
     let mark = c.mark-item.result in
@@ -17,8 +17,10 @@ loop-mark-preserved c =
     ap mark_offsets (take_more marks i mark c.loop-mark-test.true
     ∙ ap (λ z. take i marks ++ z ∷ []) (sym c.mark-item.is))
     ∙ map-append (λ m. m.offset) (take i marks) (mark ∷ []) in
-    subst (λ z. IsPrinted (AreFaultLines z) c.args.printer.now c.push_mark_line.new.printer) (sym more)
-    (printed_both _ _ (AreFaultLines (mark_offsets (take i marks) ++ mark.offset ∷ [])) c.args.printer.now
+    subst (λ z. IsPrinted g.W.Write.contents (AreFaultLines z) c.args.printer.now c.push_mark_line.new.printer)
+    (sym more)
+    (printed_both g.W.Write.contents _ _ (AreFaultLines (mark_offsets (take i marks) ++ mark.offset ∷ []))
+    c.args.printer.now
     c.loop-mark.printer
     c.push_mark_line.new.printer
     (λ text line lines last. fault_lines_join (mark_offsets (take i marks)) (mark.offset ∷ []) text line lines

@@ -6,4 +6,5 @@ use Rattle.der_lines.specs.Steps.{mark_offsets}
 use Rattle.der_lines.proofs.document.push_marks.Given as goal
 
 abbrev pub invariant-loop-mark : goal.invariant-loop-mark
-invariant-loop-mark l = IsPrinted (AreFaultLines (mark_offsets (take l.mark-index l.marks))) l.fn.printer l.printer
+invariant-loop-mark g l =
+    IsPrinted g.W.Write.contents (AreFaultLines (mark_offsets (take l.mark-index l.marks))) l.fn.printer l.printer

@@ -13,22 +13,23 @@ use Rattle.der_lines.proofs.Fronts.{nested_adds}
 use Rattle.der_lines.proofs.encodings.+encodings.Goals as goal
 
 pub push_encodings-loop-walk-init : goal.push_encodings-loop-walk-init
-push_encodings-loop-walk-init t c =
+push_encodings-loop-walk-init g t c =
     let o = c.in_ok-walk.ensures in
-    printed_none (ShownTo c.args.place c.args.octets.now c.in_ok-walk.walk None _) c.args.printer.now
+    printed_none g.W.Write.contents (ShownTo c.args.place c.args.octets.now c.in_ok-walk.walk None _) c.args.printer.now
     (subst (λ m. ShownTo c.args.place c.args.octets.now c.in_ok-walk.walk None m [])
     (sym (ap mark_offsets c.new.ensures.items))
     (shown_none c.args.place c.args.octets.now c.in_ok-walk.walk o.octets o.place o.ahead))
 
 pub push_encodings-loop-walk-preserved : goal.push_encodings-loop-walk-preserved
-push_encodings-loop-walk-preserved t c =
+push_encodings-loop-walk-preserved g t c =
     let place = c.args.place in
     let octets = c.args.octets.now in
     let found = c.loop-walk.found in
     let piece = c.in-Some.piece in
     let p : Passes c.loop-walk.walk c.next.new.self piece = rw c.in-Some.is at c.in_ok-piece.ensures in
     let k = c.in_ok-keep.ensures in
-    let all = printed_both _ _ (ShownTo place octets c.next.new.self (earlier_fault found.fault piece.fault) _)
+    let all = printed_both g.W.Write.contents _ _ (ShownTo place octets c.next.new.self
+    (earlier_fault found.fault piece.fault) _)
     c.args.printer.now c.loop-walk.printer c.push_piece.new.printer
     (λ text own s put. shown_more place octets c.loop-walk.walk c.next.new.self piece found.fault _ _ _ text own p
     k.marks
@@ -37,18 +38,19 @@ push_encodings-loop-walk-preserved t c =
     rw (k.fault) all
 
 pub push_encodings-returns : goal.push_encodings-returns
-push_encodings-returns t c =
+push_encodings-returns g t c =
     let ended : IsAhead c.loop-walk.walk.cursor [] [] = rw c.in_default.is at c.in_ok-piece.ensures in
-    printed_as _ _ c.args.printer.now c.loop-walk.printer
+    printed_as g.W.Write.contents _ _ c.args.printer.now c.loop-walk.printer
     (λ text. shown_all c.args.place c.args.octets.now c.loop-walk.walk c.loop-walk.found text ended)
     c.loop-walk.invariant
 
 pub push_nested-returns-in_default : goal.push_nested-returns-in_default
-push_nested-returns-in_default t c = λ left holding.
-    printed_none _ c.args.printer.now (no_lines refl refl, no_more refl (ap mark_offsets c.new.ensures.items))
+push_nested-returns-in_default g t c = λ left holding.
+    printed_none g.W.Write.contents _ c.args.printer.now (no_lines refl refl, no_more refl
+    (ap mark_offsets c.new.ensures.items))
 
 pub push_nested-returns : goal.push_nested-returns
-push_nested-returns t c = λ left holding.
+push_nested-returns g t c = λ left holding.
     let piece = c.args.piece.now in
     let header = kind_header piece.kind in
     let nested = c.in-Some.nested in
@@ -63,16 +65,18 @@ push_nested-returns t c = λ left holding.
       c.in_ok-document_offset.ensures,
       c.header_size.ensures,
     ) in
-    nested_adds c.in_ok-inside.inside left piece nested.octets.now nested.before c.in_ok-found.found c.args.printer.now
+    nested_adds g.W.Write.contents c.in_ok-inside.inside left piece nested.octets.now nested.before
+    c.in_ok-found.found c.args.printer.now
     c.push_encodings.new.printer stands i.inside base
     c.in_ok-found.ensures
 
 pub push_piece-returns : goal.push_piece-returns
-push_piece-returns t c =
+push_piece-returns g t c =
     let piece = c.args.piece.now in
     IfOk-weaker c.push_nested.result _ _
     (λ marks inside left holding.
-    printed_both _ _ (IsPieceDump left piece (mark_offsets marks.items)) c.args.printer.now c.push_row.new.printer
+    printed_both g.W.Write.contents _ _ (IsPieceDump left piece (mark_offsets marks.items)) c.args.printer.now
+    c.push_row.new.printer
     c.push_nested.new.printer
     (λ first rest line more. record
     { first = first; rest = rest; text_is = refl; line = line; inside = more.0; marked = more.1 })

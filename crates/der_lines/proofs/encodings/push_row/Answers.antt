@@ -15,13 +15,14 @@ use Rattle.der_rows.specs.declared.row.Row.{Row}
 use Rattle.der_lines.proofs.encodings.push_row.Goals as goal
 
 pub returns-then-is_too_deep : goal.returns-then-is_too_deep
-returns-then-is_too_deep c =
+returns-then-is_too_deep g c =
     let place = c.args.piece.now.place in
-    nothing_deep (is_too_deep place.most_depth place.depth) place.is_inside (shown_front c.args.piece.now)
+    nothing_deep g.W.Write.contents (is_too_deep place.most_depth place.depth) place.is_inside
+    (shown_front c.args.piece.now)
     (is_some c.args.piece.now.fault ∷ []) c.args.printer.now (sym c.is_too_deep.ensures ∙ c.if-is_too_deep.true)
 
 pub returns : goal.returns
-returns c =
+returns g c =
     let piece = c.args.piece.now in
     let place = piece.place in
     let row : Row = record {
@@ -44,10 +45,10 @@ returns c =
     ∙ on_one_line-shown text (mark_shown piece.breaches.rules.items piece.breaches.has_spare_bits) in
     let words_line = ap on_one_line c.requires.words
     ∙ on_one_line-shown (kind_words piece.kind) (type_shown piece.kind) in
-    row_printed (is_too_deep place.most_depth place.depth) place.is_inside row (shown_front piece)
+    row_printed g.W.Write.contents (is_too_deep place.most_depth place.depth) place.is_inside row (shown_front piece)
     (is_some piece.fault ∷ [])
     c.args.printer.now c.push.new.self (sym c.is_too_deep.ensures ∙ c.if-is_too_deep.false)
-    (subst (λ z. Prints (z ∷ []) (row_line row ++ 10 ∷ []) c.args.printer.now c.push.new.self) fault
+    (subst (λ z. Prints g.W.Write.contents (z ∷ []) (row_line row ++ 10 ∷ []) c.args.printer.now c.push.new.self) fault
     c.in_ok-push.ensures)
     (row_line_of place.is_inside row (shown_front piece) refl c.in_ok-document_offset.ensures c.header_size.ensures
     c.contents_size.ensures c.is_indefinite.ensures refl words_line mark_line)

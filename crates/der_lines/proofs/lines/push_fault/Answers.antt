@@ -5,7 +5,7 @@ use Rattle.der_rows.proofs.OneLine.{one_line_made}
 use Rattle.der_lines.proofs.lines.push_fault.Goals as goal
 
 pub returns : goal.returns
-returns c =
+returns g c =
     let words = c.args.words.now in
     let line = fault_line c.args.offset words in (
       _,

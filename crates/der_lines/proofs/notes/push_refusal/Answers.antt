@@ -6,8 +6,8 @@ use Rattle.der_rows.proofs.Printed.{printed_as}
 use Rattle.der_lines.proofs.notes.push_refusal.Goals as goal
 
 pub returns : goal.returns
-returns c =
-    printed_as _ _ c.args.printer.now c.push_note.new.printer (λ text line. (refl, line))
-    (subst (λ words. IsPrinted (IsLine (IsNote 33 words)) c.args.printer.now c.push_note.new.printer)
+returns g c =
+    printed_as g.W.Write.contents _ _ c.args.printer.now c.push_note.new.printer (λ text line. (refl, line))
+    (subst (λ words. IsPrinted g.W.Write.contents (IsLine (IsNote 33 words)) c.args.printer.now c.push_note.new.printer)
     c.as_bytes.ensures.value
     c.in_ok-push_note.ensures)

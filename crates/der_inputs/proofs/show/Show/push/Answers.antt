@@ -2,10 +2,10 @@
 use Rattle.der_inputs.proofs.show.Show.push.Goals as goal
 
 pub returns-in-Lines : goal.returns-in-Lines
-returns-in-Lines c = rw c.in-Lines.is c.push_as_lines.ensures
+returns-in-Lines g c = rw c.in-Lines.is c.push_as_lines.ensures
 
 pub returns-in-Json : goal.returns-in-Json
-returns-in-Json c = rw c.in-Json.is c.push_json.ensures
+returns-in-Json g c = rw c.in-Json.is c.push_json.ensures
 
 pub returns-in-Page : goal.returns-in-Page
-returns-in-Page c = rw c.in-Page.is c.push_on_page.ensures
+returns-in-Page g c = rw c.in-Page.is c.push_on_page.ensures

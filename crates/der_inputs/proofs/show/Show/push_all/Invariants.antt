@@ -1,7 +1,7 @@
 -- For `show::Show::push_all`: what each turn of its loop keeps.
 use Rattle.std.proofs.Common.{◌≡◌, List, map, take}
 use Rattle.std.specs.Option.{option_map}
-use Rattle.der_pieces.specs.Texts.{Adds}
+use Rattle.der_io.specs.Output.{IsWritten}
 use Rattle.der_inputs.specs.Inputs.{IsFindingText}
 use Rattle.der_inputs.specs.Outcomes.{all_read}
 use Rattle.der_inputs.specs.Parts.{finding_in, wanted_of}
@@ -11,7 +11,8 @@ use Rattle.der_inputs.proofs.show.Show.push_all.Given as goal
 
 -- the texts of those before this one are pushed
 abbrev pub invariant-loop-one : goal.invariant-loop-one
-invariant-loop-one l =
+invariant-loop-one g l =
     (verdicts : List Verdict) × (l.verdict ≡ all_read verdicts)
-    × Adds (AreTexts (IsFindingText (wanted_of l.self) (option_map (λ name. name.now) l.file))
-    (map finding_in (take l.one-index l.found)) verdicts) l.fn.out.items l.out.items
+    × IsWritten (AreTexts (IsFindingText (wanted_of l.self) (option_map (λ name. name.now) l.file))
+    (map finding_in (take l.one-index l.found)) verdicts) (g.W.Write.contents l.fn.printer.out)
+    (g.W.Write.contents l.printer.out)

@@ -4,19 +4,20 @@ use Rattle.std.proofs.lemmas.Grind.{common_steps}
 use Rattle.std.specs.Prelude.{IfOk}
 use Rattle.std.specs.Option.{option_map}
 use Rattle.std.specs.Str.Lossy.{utf8_lossy}
-use Rattle.der_pieces.specs.Texts.{Adds}
+use Rattle.der_io.specs.Output.{IsWritten}
 use Rattle.der_inputs.specs.Json.{IsFoundJson}
 use Rattle.der_inputs.specs.Parts.{finding_in, octets_in}
 use Rattle.der_json.specs.Json.{origin_members}
 use Rattle.der_inputs.proofs.show.Show.push_json.Goals as goal
 
 pub returns-in_ok-text-in-Some : goal.returns-in_ok-text-in-Some
-returns-in_ok-text-in-Some c =
+returns-in_ok-text-in-Some g c =
     let found = c.args.found.now in
     let own = c.as_str.result.now in
     let text : own ≡ utf8_lossy c.in-Some.label.items = grind (arith, common_steps) in
     let label : Some own ≡ option_map utf8_lossy (finding_in found).label = grind (arith, common_steps, text) in
-    subst (λ z. IfOk c.push_from.result (λ verdict. Adds (IsFoundJson c.args.self.now.is_strict (octets_in found.octets)
-    (origin_members (option_map (λ name. name.now) c.args.file) z) verdict) c.args.out.now.items
-    c.push_from.new.out.items))
+    subst (λ z. IfOk c.push_from.result (λ verdict. IsWritten (IsFoundJson c.args.self.now.is_strict
+    (octets_in found.octets)
+    (origin_members (option_map (λ name. name.now) c.args.file) z) verdict)
+    (g.W.Write.contents c.args.out.now) (g.W.Write.contents c.push_from.new.out)))
     label c.push_from.ensures

@@ -6,12 +6,13 @@ use Rattle.der_inputs.proofs.Lower.{title_printed}
 use Rattle.der_inputs.proofs.show.Show.push_label_of.Goals as goal
 
 pub returns-in-Some : goal.returns-in-Some
-returns-in-Some c =
+returns-in-Some g c =
     rw c.in-Some.is
     (on_ok_weaker c.push_label.result
-    (title_printed c.in-Some.label.items c.deref.result.now c.args.printer.now c.push_label.new.printer
+    (title_printed g.W.Write.contents c.in-Some.label.items c.deref.result.now c.args.printer.now
+    c.push_label.new.printer
     c.deref.ensures.value)
     c.push_label.ensures)
 
 pub returns-in-None : goal.returns-in-None
-returns-in-None c = rw c.in-None.is (printed_none _ c.args.printer.now refl)
+returns-in-None g c = rw c.in-None.is (printed_none g.W.Write.contents _ c.args.printer.now refl)

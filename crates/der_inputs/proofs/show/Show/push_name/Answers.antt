@@ -2,7 +2,7 @@
 use Rattle.der_inputs.proofs.show.Show.push_name.Goals as goal
 
 pub returns-in-Lines : goal.returns-in-Lines
-returns-in-Lines c = rw c.in-Lines.is c.push_name_line.ensures
+returns-in-Lines g c = rw c.in-Lines.is c.push_name_line.ensures
 
 pub returns-in-Page : goal.returns-in-Page
-returns-in-Page c = rw c.in-Page.is c.push_name_on_page.ensures
+returns-in-Page g c = rw c.in-Page.is c.push_name_on_page.ensures

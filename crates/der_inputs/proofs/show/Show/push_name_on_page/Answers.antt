@@ -1,11 +1,11 @@
 -- For `show::Show::push_name_on_page`: what it returns is right.
-use Rattle.std.proofs.Common.{[], ◌∙◌, ap, refl}
-use Rattle.der_inputs.proofs.Lower.{section_printed}
+use Rattle.std.proofs.Common.{[], refl}
+use Rattle.der_rows.proofs.Printed.{section_written}
+use Rattle.der_rows.specs.declared.printer.Look.TheVariants.{Page}
 use Rattle.der_inputs.proofs.show.Show.push_name_on_page.Goals as goal
 
 pub returns : goal.returns
-returns c =
-    section_printed _ c.behind-printer.result c.push_title.new.printer [] [] c.args.out.now.items
-    c.push_section_start.new.out.items _ c.push_section_end.new.out.items c.in_ok-push_section_start.ensures
-    c.behind-printer.ensures.look (c.behind-printer.ensures.out ∙ ap (λ z. z.items) c.replace-written.ensures.value)
-    c.in_ok-push_title.ensures c.in_ok-out.ensures refl c.in_ok-push_section_end.ensures
+returns g c =
+    section_written g.W.Write.contents _ [] (record c.args.printer.now { look = Page }) c.begin_section.new.self
+    c.push_title.new.printer c.end_section.new.self refl c.in_ok-begin_section.ensures c.in_ok-push_title.ensures
+    c.in_ok-end_section.ensures

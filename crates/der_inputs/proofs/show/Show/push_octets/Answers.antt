@@ -2,7 +2,7 @@
 use Rattle.der_inputs.proofs.show.Show.push_octets.Goals as goal
 
 pub returns-then-self : goal.returns-then-self
-returns-then-self c = rw c.if-self.true c.push_strict_document.ensures
+returns-then-self g c = rw c.if-self.true c.push_strict_document.ensures
 
 pub returns-else-self : goal.returns-else-self
-returns-else-self c = rw c.if-self.false c.push_document.ensures
+returns-else-self g c = rw c.if-self.false c.push_document.ensures

@@ -4,8 +4,8 @@ use Rattle.der_inputs.proofs.Lower.{title_printed}
 use Rattle.der_inputs.proofs.show.Show.push_title.Goals as goal
 
 pub returns : goal.returns
-returns c =
+returns g c =
     on_ok_weaker c.push_label.result
-    (title_printed c.args.name.now c.as_bytes.result.now c.args.printer.now c.push_label.new.printer
+    (title_printed g.W.Write.contents c.args.name.now c.as_bytes.result.now c.args.printer.now c.push_label.new.printer
     c.as_bytes.ensures.value)
     c.push_label.ensures

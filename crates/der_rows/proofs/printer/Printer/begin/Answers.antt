@@ -1,11 +1,18 @@
 -- For `printer::Printer::begin`: what it returns is right.
-use Rattle.std.proofs.Common.{[], ◌∷◌, refl}
+use Rattle.std.proofs.Common.{[], ◌∷◌, refl, subst}
+use Rattle.der_rows.specs.Printing.{Pushes}
 use Rattle.der_rows.proofs.Printed.{pushes_then}
 use Rattle.der_rows.proofs.printer.Printer.begin.Goals as goal
 
 pub returns : goal.returns
-returns c = (
-  refl,
-  pushes_then c.args.self.now.look [] (c.args.element.is_fault ∷ []) [] [] _ _ _ c.in_ok-close_folds.ensures
-      c.in_ok-begin_element.ensures,
-)
+returns g c =
+    let look = c.args.self.now.look in
+    let faults = c.args.element.is_fault ∷ [] in
+    record {
+      look = refl;
+      out = refl;
+      line = pushes_then look [] faults [] [] [] _ _
+          (subst (λ z. Pushes look [] [] z c.close_folds.new.out.items) c.clear.ensures.items
+          c.in_ok-close_folds.ensures)
+          c.in_ok-begin_element.ensures;
+    }

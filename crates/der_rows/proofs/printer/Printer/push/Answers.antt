@@ -1,15 +1,23 @@
 -- For `printer::Printer::push`: what it returns is right.
-use Rattle.std.proofs.Common.{[], ◌∷◌, ap}
+use Rattle.std.proofs.Common.{[], ◌∷◌, ap, subst, ◌∙◌}
+use Rattle.std.specs.Io.KnownBytes.{Appends}
 use Rattle.std.specs.Option.{is_some}
 use Rattle.der_rows.specs.Rows.{row_line}
 use Rattle.der_rows.proofs.Printed.{line_pushed}
 use Rattle.der_rows.proofs.printer.Printer.push.Goals as goal
 
 pub returns : goal.returns
-returns c =
-    let row = c.args.row.now in
-    let (same, begun) = c.in_ok-begin.ensures in (
-      same,
-      line_pushed c.args.self.now.look c.begin.new.self.look (is_some row.fault ∷ []) _ (row_line row) _ _ _ _ same
-          (ap (λ z. z ∷ []) c.element_of.ensures) begun c.in_ok-push_row_line.ensures c.in_ok-push_end.ensures,
+returns g c =
+    let begun = c.in_ok-begin.ensures in
+    let made = line_pushed c.args.self.now.look c.begin.new.self.look (is_some c.args.row.now.fault ∷ []) _
+    (row_line c.args.row.now) []
+    _ _ _ begun.look
+    (ap (λ z. z ∷ []) c.element_of.ensures) begun.line c.in_ok-push_row_line.ensures c.in_ok-push_end.ensures in (
+      c.in_ok-write_made.ensures.look ∙ begun.look,
+      (
+        c.push_end.new.out.items,
+        made,
+        subst (λ z. Appends (g.W.Write.contents z) (g.W.Write.contents c.write_made.new.self.out)
+            c.push_end.new.out.items) begun.out c.in_ok-write_made.ensures.written,
+      ),
     )

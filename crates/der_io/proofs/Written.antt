@@ -1,0 +1,13 @@
+-- Texts that are written one after another.
+use Rattle.std.proofs.Common.{ℕ, List, ◌++◌}
+use Rattle.std.specs.Prelude.{Option}
+use Rattle.std.proofs.KnownBytes.{Appends-trans}
+use Rattle.der_io.specs.Output.{IsWritten}
+
+-- one text and then another
+pub written_both :
+    (Is Later Other : List ℕ → Type 0) (a b c : Option (List ℕ)) →
+    ((text more : List ℕ) → Is text → Later more → Other (text ++ more)) → IsWritten Is a b → IsWritten Later b c →
+    IsWritten Other a c
+written_both Is Later Other a b c turn (text, first, is) (more, next, later) =
+    (text ++ more, Appends-trans a b c text more first next, turn text more is later)

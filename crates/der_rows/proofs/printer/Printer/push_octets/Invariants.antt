@@ -1,0 +1,13 @@
+-- For `printer::Printer::push_octets`: what each turn of its loop keeps and what grows less, so that it ends.
+use Rattle.std.proofs.Common.{◌≡◌, ◌++◌, List, ℕ, length}
+use Rattle.der_rows.specs.Printing.{PrintsOctets}
+use Rattle.der_rows.proofs.printer.Printer.push_octets.Given as goal
+
+-- those before the rest were printed
+abbrev pub invariant-loop-rest : goal.invariant-loop-rest
+invariant-loop-rest g l =
+    (printed : List ℕ) × (l.fn.octets ≡ printed ++ l.rest)
+    × PrintsOctets g.W.Write.contents printed l.fn.self l.self
+
+abbrev pub decreases-loop-rest : goal.decreases-loop-rest
+decreases-loop-rest g l = length l.rest
