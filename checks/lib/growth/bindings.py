@@ -8,6 +8,7 @@ in microseconds and a status; or `json`, for `der_dump`. It fails where twice th
 long, or where 100 kB take more than a second. The decimal digits of one long number take quadratic time: there the
 second alone counts. Of `memory`, PROGRAM is given a call alone, and prints how many kB it takes for 100 MB without room
 for what it writes, a status and a count. Of `signed`, PROGRAM is `der_signed`, which may take twice its input.
+`der_dump` may take its input and 20 MiB, as lines, as JSON and on a page.
 """
 import filecmp
 import json
@@ -97,6 +98,10 @@ MOST_KILOBYTES = 4_096
 # how many times its input der_signed may hold: the room that it reads into may be twice as large
 SIGNED_SIZE, MOST_TIMES = 20_000_000, 2
 
+# the words for the forms of a dump, and how many bytes it may take beside its input
+DUMPS = [], ["--json"], ["--html"]
+DUMPED_SIZE, MOST_BESIDE = 20_000_000, 20 * 2**20
+
 
 def ran(kind, program, call, path):
     """Processor time in microseconds, and status."""
@@ -160,6 +165,26 @@ def signed_memory(program, work):
     return int(not good)
 
 
+def dump_memory(program, work):
+    """How many forms of a dump of many items took more memory than the input and some."""
+    path, wrong = os.path.join(work, "items.der"), 0
+    # piece by piece, as above
+    with open(path, "wb") as file:
+        file.write(header(0x30, DUMPED_SIZE))
+        for _ in range(DUMPED_SIZE // 40_000):
+            file.write((header(0x04, 38) + bytes(range(38))) * 1_000)
+    for words in DUMPS:
+        with open(path, "rb") as source:
+            child = subprocess.Popen([program, *words], stdin=source, stdout=subprocess.DEVNULL)
+            _, status, used = os.wait4(child.pid, 0)
+            child.returncode = status
+        good = status == 0 and used.ru_maxrss * 1024 <= DUMPED_SIZE + MOST_BESIDE
+        wrong += not good
+        print(f"growth: {' '.join(['der_dump', *words])} of 20 MB takes {used.ru_maxrss} kB" +
+              ("" if good else ": WRONG"), flush=True)
+    return wrong
+
+
 def main():
     work, wrong, tried = sys.argv[1], 0, 0
     programs = dict(word.split("=", 1) for word in sys.argv[2:])
@@ -169,6 +194,9 @@ def main():
     if "signed" in programs:
         wrong += signed_memory(programs.pop("signed"), work)
         tried += 1
+    if "json" in programs:
+        wrong += dump_memory(programs["json"], work)
+        tried += len(DUMPS)
     for shape, make in SHAPES.items():
         paths = [os.path.join(work, f"{size}.der") for size in SIZES]
         for path, size in zip(paths, SIZES):
