@@ -60,6 +60,21 @@ pub fn push_escaped(text: &str, out: &mut String) -> Result<(), AllocError>
     Ok(())
 }
 
+/// Puts the text at the end, with `\u{..}` in the place of each character that is not shown. Backslashes and quotation
+/// marks stay as they are.
+///
+/// # Errors
+/// Memory ran out.
+pub fn push_shown(text: &str, out: &mut String) -> Result<(), AllocError>
+    ensures { OnOk result (string_bytes out.new
+        ≡ string_bytes out.old ++ all_escaped escape_of_other (chars text.now)) }
+{
+    for c in text.chars() {
+        push_plain(c, out)?;
+    }
+    Ok(())
+}
+
 fn push_octets(octets: &[u8], out: &mut String) -> Result<(), AllocError>
     ensures { OnOk result (string_bytes out.new ≡ string_bytes out.old ++ all_escaped escape_of_octet octets.now) }
 {
@@ -104,7 +119,9 @@ fn push_plain(c: char, out: &mut String) -> Result<(), AllocError>
     }
 }
 
-fn is_shown(c: char) -> bool
+/// Whether the character is shown as it is: it is no control character, and none that Unicode has as format, private
+/// use, unassigned, line end or invisible.
+pub fn is_shown(c: char) -> bool
     ensures { result ≡ is_shown_by c }
 {
     !is_control(c) && (c.is_ascii() || !is_invisible(c))

@@ -19,7 +19,7 @@ mod escape;
 pub mod failing;
 
 pub use arguments::words;
-pub use escape::{escaped, push_escaped};
+pub use escape::{escaped, is_shown, push_escaped, push_shown};
 use memchr::memchr;
 use std::alloc::{AllocError, Global};
 use std::io::{Read, Write};

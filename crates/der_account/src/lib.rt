@@ -1,0 +1,166 @@
+//! Short accounts of certificates, certification requests, lists of revoked certificates, and keys, for people.
+//!
+//! An account has a title, and a line for each thing that it tells, a label and a value:
+//!
+//! ```text
+//! certificate
+//!   subject             CN=example.org,O=Example Ltd,C=GB
+//!   issuer              CN=Example Root,O=Example Ltd,C=GB
+//!   serial number       0A1B2C
+//!   not before          2026-01-01T00:00:00Z
+//!   not after           2027-01-01T00:00:00Z (35 days left)
+//!   public key          EC, prime256v1
+//!   alternative names   DNS:example.org, IP Address:192.0.2.1
+//!   signature           ecdsa-with-SHA256
+//!   SHA-256             5A6B..
+//! ```
+//!
+//! Names are written as RFC 4514 writes them. A document is known by its fields, and read by its headers: a certificate
+//! in which a value is malformed has an account as well.
+#![tactic(auto)]
+
+mod document;
+mod extension;
+mod lines;
+mod name;
+mod node;
+mod value;
+
+use crate::document::{Certificate, Request, RevocationList, Signed, push_key, push_signature};
+use crate::lines::Lines;
+pub use crate::lines::{Line, joined};
+use crate::node::Node;
+use asn1_departures::departures;
+use asn1_headers::error::ASN1DecodeErr;
+use asn1_outline::headers::Headers;
+use der_names::Names;
+use jiff::civil::DateTime;
+use sha2::{Digest, Sha256};
+use std::alloc::{AllocError, Global};
+
+/// What is said of a document.
+#[derive(Debug, Drop)]
+pub struct Account {
+    /// It is a document of a kind that is known.
+    pub is_known: bool,
+    /// The lines, of which the first is the title.
+    pub lines: Vec<Line>,
+}
+
+/// The account of a document: a certificate, a certification request, a list of revoked certificates, or a key. Of
+/// other octets it is a line that says that they are none of these. If the time `now` is given, in UTC, it is told how
+/// many days are left.
+///
+/// It takes memory for the headers of the document.
+///
+/// # Errors
+/// Memory ran out.
+pub fn account_of(
+    alloc: Global,
+    names: &Names,
+    octets: &[u8],
+    now: Option<DateTime>,
+) -> Result<Account, AllocError> {
+    match known_account(alloc, names, octets, now)? {
+        Some(lines) => Ok(Account {
+            is_known: true,
+            lines,
+        }),
+        None => unknown_account(alloc),
+    }
+}
+
+// The line that says that octets are of no kind that is known.
+fn unknown_account(alloc: Global) -> Result<Account, AllocError> {
+    let mut lines = Vec::new(alloc);
+    let words = "! no certificate, certification request, list of revoked certificates or key";
+    lines.push(Line::shown(alloc, words)?)?;
+    Ok(Account {
+        is_known: false,
+        lines,
+    })
+}
+
+// The lines of the account of a document of a known kind.
+fn known_account(
+    alloc: Global,
+    names: &Names,
+    octets: &[u8],
+    now: Option<DateTime>,
+) -> Result<Option<Vec<Line>>, AllocError> {
+    let headers = match Headers::read(alloc, octets) {
+        Ok(headers) => headers,
+        Err(e) => return none_unless_memory(&e.error),
+    };
+    let Some(first) = Node::first(&headers) else {
+        return Ok(None);
+    };
+    let mut lines = Lines {
+        alloc,
+        names,
+        pushed: Vec::new(alloc),
+    };
+    if !push_known(&mut lines, &first, now)? {
+        return Ok(None);
+    }
+    push_departures(&mut lines, octets)?;
+    Ok(Some(lines.pushed))
+}
+
+// Octets that are no document have no account; only memory that ran out is an error.
+fn none_unless_memory(error: &ASN1DecodeErr) -> Result<Option<Vec<Line>>, AllocError> {
+    match error {
+        ASN1DecodeErr::OutOfMemory => Err(AllocError),
+        _ => Ok(None),
+    }
+}
+
+// Pushes the account of a document of a known kind, and returns whether it is of one.
+fn push_known(
+    lines: &mut Lines<'_>,
+    first: &Node<'_, '_>,
+    now: Option<DateTime>,
+) -> Result<bool, AllocError> {
+    let Some(signed) = Signed::find(lines.alloc, first)? else {
+        return push_key(lines, first);
+    };
+    if let Some(certificate) = Certificate::find(lines.alloc, &signed.content)? {
+        certificate.push(lines, now)?;
+    } else if let Some(list) = RevocationList::find(lines.alloc, &signed.content)? {
+        list.push(lines, now)?;
+    } else if let Some(request) = Request::find(lines.alloc, &signed.content)? {
+        request.push(lines)?;
+    } else {
+        return Ok(false);
+    }
+    push_signature(lines, &signed.algorithm)?;
+    push_digest(lines, first.encoding())?;
+    Ok(true)
+}
+
+// Pushes the line of the fingerprint: SHA-256 of the encoding.
+fn push_digest(lines: &mut Lines<'_>, octets: &[u8]) -> Result<(), AllocError> {
+    let digest = Sha256::digest(octets);
+    let text = hex::encode_upper(lines.alloc, &digest)?;
+    lines.line("SHA-256", &text)
+}
+
+// Pushes a line for each rule of DER that is broken.
+fn push_departures(lines: &mut Lines<'_>, octets: &[u8]) -> Result<(), AllocError> {
+    let found = match departures(lines.alloc, octets) {
+        Ok(found) => found,
+        Err(e) => {
+            return match e.error {
+                ASN1DecodeErr::OutOfMemory => Err(AllocError),
+                _ => Ok(()),
+            };
+        }
+    };
+    for departure in &found {
+        let offset = departure.offset;
+        let rule = departure.rule.text();
+        let text = format!(in lines.alloc; "{rule}, at offset {offset}")?;
+        lines.line("not DER", &text)?;
+    }
+    Ok(())
+}
