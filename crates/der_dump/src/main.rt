@@ -8,10 +8,14 @@ use der_inputs::{Outcome, Source, run, status};
 use der_io::{StreamFault, fault_text, read_all, words};
 use der_names::{NamesFault, OwnNames};
 use der_options::{Options, OptionsFault, options_of};
+use jiff::Timestamp;
+use jiff::civil::DateTime;
+use jiff::tz::TimeZone;
 use std::alloc::AllocError;
 use std::io;
 use std::io::{BufWriter, Write};
 use std::process::ExitCode;
+use std::time::SystemTime;
 
 // The exit status of words that are no command line.
 const WRONG_WORDS: u8 = 2;
@@ -111,7 +115,7 @@ fn answer(rt: &HostRuntime, options: &Options<'_>, own: OwnNames) -> u8 {
         tell_memory(rt, &StreamFault::Memory);
         return status(&Err(StreamFault::Memory));
     };
-    let (outcome, mut writer) = run(rt.alloc(), options, own, &mut sources, writer);
+    let (outcome, mut writer) = run(rt.alloc(), options, own, now(rt), &mut sources, writer);
     match &outcome {
         Ok(outcomes) => tell_lacking(rt, options, outcomes),
         Err(fault) => {
@@ -123,6 +127,12 @@ fn answer(rt: &HostRuntime, options: &Options<'_>, own: OwnNames) -> u8 {
         }
     }
     status(&outcome)
+}
+
+// The time in UTC, if the clock has one.
+fn now(rt: &HostRuntime) -> Option<DateTime> {
+    let now = Timestamp::try_from(SystemTime::now(rt).ok()?).ok()?;
+    Some(now.to_zoned(TimeZone::UTC).datetime())
 }
 
 // How many octets of the output are kept until they are written.

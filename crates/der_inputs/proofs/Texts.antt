@@ -10,7 +10,7 @@ use Rattle.der_io.specs.Output.{IsWritten}
 use Rattle.der_inputs.specs.Findings.{Finding}
 use Rattle.der_inputs.specs.Forms.{IsFrameOf, IsFramed}
 use Rattle.der_inputs.specs.declared.show.Form.{Form}
-use Rattle.der_inputs.specs.declared.show.Form.TheVariants.{Json, Lines, Page}
+use Rattle.der_inputs.specs.declared.show.Form.TheVariants.{Accounts, Json, Lines, Page}
 use Rattle.der_inputs.specs.Outcomes.{all_read, both_read}
 use Rattle.der_inputs.specs.Texts.{AreTexts}
 use Rattle.der_io.proofs.Written.{written_both}
@@ -80,3 +80,4 @@ pub framed :
 framed Page texts first last begun ended = (first, last, refl)
 framed Lines texts first last begun ended = alone texts first last begun ended
 framed Json texts first last begun ended = alone texts first last begun ended
+framed Accounts texts first last begun ended = alone texts first last begun ended

@@ -1,14 +1,17 @@
 -- What is written of a finding: as lines, as JSON, or on a page.
 use Rattle.std.specs.Prelude.{◌≡◌, ℕ, Bool, true, false, List, [], ◌++◌, Option, Some, None, unwrap_or, ⊤}
+use Rattle.asn1_der.specs.Der.{IsDer}
+use Rattle.der_account.specs.Shown.{AreLines}
 use Rattle.der_html.specs.Page.{Shows}
 use Rattle.der_io.specs.Characters.{equals_sign}
 use Rattle.der_io.specs.Escaped.{escaped}
 use Rattle.der_inputs.specs.Findings.{Finding}
 use Rattle.der_inputs.specs.Json.{IsJson}
 use Rattle.der_inputs.specs.declared.show.Form.{Form}
-use Rattle.der_inputs.specs.declared.show.Form.TheVariants.{Json, Lines, Page}
+use Rattle.der_inputs.specs.declared.show.Form.TheVariants.{Accounts, Json, Lines, Page}
 use Rattle.der_lines.specs.Dump.{IsDumpOf, IsLine, IsNote, IsRefusal}
 use Rattle.der_lines.specs.declared.document.Verdict.{Verdict}
+use Rattle.der_lines.specs.declared.document.Verdict.TheVariants.{AllRead}
 use Rattle.der_rows.specs.Printing.{Pushes}
 use Rattle.der_rows.specs.declared.printer.Look.{Look}
 use Rattle.der_rows.specs.declared.printer.Look.TheVariants.{Colored, Plain}
@@ -55,12 +58,19 @@ IsSection strict most finding verdict text =
     (dump : List ℕ) × (faults : List Bool) × IsDump strict most finding verdict dump
     × Shows faults dump (unwrap_or finding.octets []) [] text
 
+-- the account of octets: lines, in which each character is shown. Strictly, all is read only if the octets are DER.
+-- Where there are no octets, the line `!` says why in words
+abbrev pub IsAccount : Bool → Option (List ℕ) → Verdict → List ℕ → Type 0
+IsAccount strict (Some octets) verdict text = AreLines text × (verdict ≡ AllRead → strict ≡ true → IsDer octets)
+IsAccount strict None verdict text = (why line : List ℕ) × IsRefusal why verdict line × IsShown false line text
+
 -- what is written in this form of a finding in the file of this name, if it is told: as JSON, which has all blocks, on
--- a page, or as lines, with colors or not
+-- a page, as an account, or as lines, with colors or not
 abbrev pub IsText : Form → Bool → Bool → Option ℕ → Option (List ℕ) → Finding → Verdict → List ℕ → Type 0
 IsText Lines colored strict most file = IsLines colored strict most
 IsText Json colored strict most file = IsJson strict file
 IsText Page colored strict most file = IsSection strict most
+IsText Accounts colored strict most file = λ finding. IsAccount strict finding.octets
 
 -- the line of a name above dumps, with colors or not, and its section of a page
 abbrev pub IsTitleLine : Bool → List ℕ → List ℕ → Type 0
@@ -72,6 +82,7 @@ IsTitleSection name text = (line : List ℕ) × (faults : List Bool) × IsTitle 
 -- the name above dumps in a form: JSON tells it in each line
 abbrev pub IsName : Form → Bool → List ℕ → List ℕ → Type 0
 IsName Lines colored name text = IsTitleLine colored name text
+IsName Accounts colored name text = IsTitleLine colored name text
 IsName Json colored name text = text ≡ []
 IsName Page colored name text = IsTitleSection name text
 
@@ -79,16 +90,19 @@ IsName Page colored name text = IsTitleSection name text
 abbrev pub IsFrameOf : Form → List ℕ → Type 0
 IsFrameOf Page text = ⊤
 IsFrameOf Lines text = text ≡ []
+IsFrameOf Accounts text = text ≡ []
 IsFrameOf Json text = text ≡ []
 
 -- what is written of these texts: they, and around the sections of a page its beginning and its end
 abbrev pub IsFramed : Form → List ℕ → List ℕ → Type 0
 IsFramed Page texts output = (beginning end : List ℕ) × (output ≡ beginning ++ (texts ++ end))
 IsFramed Lines texts output = output ≡ texts
+IsFramed Accounts texts output = output ≡ texts
 IsFramed Json texts output = output ≡ texts
 
--- JSON where it is wanted, or else a page
-abbrev pub form_by : Bool → Bool → Form
-form_by true html = Json
-form_by false true = Page
-form_by false false = Lines
+-- JSON where it is wanted, or else a page, or else accounts
+abbrev pub form_by : (json html text : Bool) → Form
+form_by true html text = Json
+form_by false true text = Page
+form_by false false true = Accounts
+form_by false false false = Lines

@@ -50,7 +50,7 @@ abbrev pub wanted_by : Options → ℕ → Wanted
 wanted_by options count = record {
   task = options.task;
   named = names_shown options.task options.is_json count;
-  form = form_by options.is_json options.is_html;
+  form = form_by options.is_json options.is_html options.is_text;
   colored = are_colors_shown options.task options.color;
   strict = options.is_strict;
   most_depth = options.most_depth;

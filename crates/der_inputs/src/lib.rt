@@ -11,6 +11,7 @@
 //! It opens nothing by itself: `der_dump` gives it files and standard input, and tests give it octets.
 #![tactic(auto)]
 
+mod account;
 mod appended;
 mod before;
 mod found;

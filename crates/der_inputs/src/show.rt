@@ -20,6 +20,7 @@ use der_lines::{Style, Verdict, push_document, push_label, push_refusal, push_st
 use der_names::{Names, OwnNames};
 use der_options::{Color, Options, Task};
 use der_rows::{Look, Printer};
+use jiff::civil::DateTime;
 use std::alloc::{AllocError, Global};
 use std::io::Write;
 
@@ -29,6 +30,7 @@ pub enum Form {
     Lines,
     Json,
     Page,
+    Accounts,
 }
 
 // What is done with each input, and how what is found is shown.
@@ -44,6 +46,8 @@ pub struct Show {
     // lines are colored
     pub is_colored: bool,
     pub style: Style,
+    // the time at which it is shown, in UTC
+    pub time: Option<DateTime>,
 }
 
 impl Show {
@@ -53,6 +57,7 @@ impl Show {
         options: &Options<'_>,
         own: OwnNames,
         count: usize,
+        time: Option<DateTime>,
     ) -> Result<Show, AllocError>
         ensures { IfOk result (λ show. wanted_of show ≡ wanted_by options.now count) }
     {
@@ -61,7 +66,7 @@ impl Show {
             names: Names::with(alloc, own)?,
             task: options.task,
             is_named: are_names_shown(options.task, options.is_json, count),
-            form: form_of(options.is_json, options.is_html),
+            form: form_of(options.is_json, options.is_html, options.is_text),
             is_strict: options.is_strict,
             is_colored: are_colors_shown(options.task, options.color),
             style: Style {
@@ -69,6 +74,7 @@ impl Show {
                 is_flat: options.is_flat,
                 most_depth: options.most_depth,
             },
+            time,
         })
     }
 
@@ -105,6 +111,7 @@ impl Show {
             Form::Lines => self.push_as_lines(found, printer),
             Form::Json => self.push_json(file, found, &mut printer.out),
             Form::Page => self.push_on_page(found, printer),
+            Form::Accounts => self.push_account(found, printer),
         }
     }
 
@@ -220,6 +227,7 @@ impl Show {
             Form::Lines => self.push_name_line(name, printer),
             Form::Json => Ok(()),
             Form::Page => self.push_name_on_page(name, printer),
+            Form::Accounts => self.push_name_line(name, printer),
         }
     }
 
@@ -265,6 +273,7 @@ impl Show {
             Form::Page => write_head(self.alloc, out),
             Form::Lines => Ok(()),
             Form::Json => Ok(()),
+            Form::Accounts => Ok(()),
         }
     }
 
@@ -276,6 +285,7 @@ impl Show {
             Form::Page => write_foot(self.alloc, out),
             Form::Lines => Ok(()),
             Form::Json => Ok(()),
+            Form::Accounts => Ok(()),
         }
     }
 }
@@ -316,13 +326,15 @@ fn both(a: Verdict, b: Verdict) -> Verdict
     }
 }
 
-fn form_of(is_json: bool, is_html: bool) -> Form
-    ensures { result ≡ form_by is_json is_html }
+fn form_of(is_json: bool, is_html: bool, is_text: bool) -> Form
+    ensures { result ≡ form_by is_json is_html is_text }
 {
     if is_json {
         Form::Json
     } else if is_html {
         Form::Page
+    } else if is_text {
+        Form::Accounts
     } else {
         Form::Lines
     }

@@ -22,6 +22,7 @@ use der_lines::Verdict;
 use der_names::OwnNames;
 use der_options::{Options, Task};
 use der_rows::{Look, Printer};
+use jiff::civil::DateTime;
 use std::alloc::Global;
 use std::io::{Read, Write};
 use std::marker::{Brand, PhantomData};
@@ -37,8 +38,9 @@ pub struct Source<'a, R> {
 /// Returns what came of each, and the writer. The readers of those that could be read are at their ends.
 ///
 /// An input is DER, PEM, hex digits or base64, told apart by its bytes. A document is put as a dump, as a line of JSON,
-/// or on a page of HTML; names of object identifiers are first those of `own`. Lines are colored if the options say
-/// `Always`. One input at a time is kept in memory, with what is open in it, and no output.
+/// on a page of HTML, or as a short account, which tells how many days are left if it is given the time; names of
+/// object identifiers are first those of `own`. Lines are colored if the options say `Always`. One input at a time is
+/// kept in memory, with what is open in it, and no output.
 ///
 /// # Errors
 /// `Memory` and `Write`, after which what was written before stays: a front of the output, behind what the writer held.
@@ -47,19 +49,20 @@ pub fn run<R: Read + Drop, W: Write>(
     alloc: Global,
     options: &Options<'_>,
     own: OwnNames,
+    time: Option<DateTime>,
     sources: &mut [Source<'_, R>],
     w: W,
 ) -> (Result<Vec<Outcome>, StreamFault>, W)
     ensures answered { IfOk result.0 (λ came. (texts output : List ℕ)
         × AreTexts (IsInputText (wanted_by options.now (length sources.old)))
         (map (λ source. input_of source.name.now (R.remaining source.reader)) sources.old) came.items texts
-        × IsFramed (form_by options.now.is_json options.now.is_html) texts output
+        × IsFramed (form_by options.now.is_json options.now.is_html options.now.is_text) texts output
         × Appends (W.contents w) (W.contents result.1) output) }
     ensures read { IfOk result.0 (λ came. AreReadToEnds came.items
         (map (λ source. R.remaining source.reader) sources.new)) }
     ensures kept { ∥ Grows (W.contents w) (W.contents result.1) ∥₁ }
 {
-    run_on::<Brand, R, W>(alloc, options, own, sources, w)
+    run_on::<Brand, R, W>(alloc, options, own, time, sources, w)
 }
 
 // The run, over what the writer holds before it.
@@ -67,6 +70,7 @@ fn run_on<B: Before, R: Read + Drop, W: Write>(
     alloc: Global,
     options: &Options<'_>,
     own: OwnNames,
+    time: Option<DateTime>,
     sources: &mut [Source<'_, R>],
     w: W,
 ) -> (Result<Vec<Outcome>, StreamFault>, W)
@@ -74,13 +78,13 @@ fn run_on<B: Before, R: Read + Drop, W: Write>(
     ensures answered { IfOk result.0 (λ came. (texts output : List ℕ)
         × AreTexts (IsInputText (wanted_by options.now (length sources.old)))
         (map (λ source. input_of source.name.now (R.remaining source.reader)) sources.old) came.items texts
-        × IsFramed (form_by options.now.is_json options.now.is_html) texts output
+        × IsFramed (form_by options.now.is_json options.now.is_html options.now.is_text) texts output
         × Appends (W.contents w) (W.contents result.1) output) }
     ensures read { IfOk result.0 (λ came. AreReadToEnds came.items
         (map (λ source. R.remaining source.reader) sources.new)) }
     ensures kept { ∥ Grows (W.contents w) (W.contents result.1) ∥₁ }
 {
-    let Ok(show) = Show::new(alloc, options, own, sources.len()) else {
+    let Ok(show) = Show::new(alloc, options, own, sources.len(), time) else {
         return (Err(StreamFault::Memory), w);
     };
     let out: Appended<W, B> = Appended {

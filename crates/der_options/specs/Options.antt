@@ -41,7 +41,7 @@ abbrev pub look_rules : List Rule
 look_rules = valued (codes "oids") ∷ valued (codes "color") ∷ []
 
 abbrev pub form_rules : List Rule
-form_rules = flag (codes "json") ∷ flag (codes "html") ∷ []
+form_rules = flag (codes "json") ∷ flag (codes "html") ∷ flag (codes "text") ∷ []
 
 abbrev pub with_rules : App → List Rule → App
 with_rules = fold with_rule
@@ -123,6 +123,13 @@ html_exclusions =
     (codes "html", codes "json") ∷ (codes "html", codes "extract") ∷ (codes "html", codes "contents")
     ∷ (codes "html", codes "value") ∷ []
 
+-- accounts, which show no blocks, with what shows some of them, and with other forms of output
+abbrev pub text_exclusions : List (Text × Text)
+text_exclusions =
+    (codes "text", codes "json") ∷ (codes "text", codes "html") ∷ (codes "text", codes "color")
+    ∷ (codes "text", codes "extract") ∷ (codes "text", codes "contents") ∷ (codes "text", codes "value")
+    ∷ (codes "text", codes "depth") ∷ (codes "text", codes "full") ∷ (codes "text", codes "flat") ∷ []
+
 -- colors of lines with what writes none
 abbrev pub color_exclusions : List (Text × Text)
 color_exclusions =
@@ -136,7 +143,8 @@ oids_exclusions =
 
 -- all of them
 abbrev pub exclusions : List (Text × Text)
-exclusions = task_exclusions ++ json_exclusions ++ html_exclusions ++ color_exclusions ++ oids_exclusions
+exclusions =
+    task_exclusions ++ json_exclusions ++ html_exclusions ++ text_exclusions ++ color_exclusions ++ oids_exclusions
 
 abbrev pub are_exclusive : Text → Text → Bool
 are_exclusive first second = list_any (λ pair. bytes_eq pair.0 first && bytes_eq pair.1 second) exclusions
@@ -187,6 +195,7 @@ pub record AsksFor (rows : List Row) (options : Options) : Type 0 where
   pub flat : options.is_flat ≡ is_true (first_of (codes "flat") rows)
   pub json : options.is_json ≡ is_true (first_of (codes "json") rows)
   pub html : options.is_html ≡ is_true (first_of (codes "html") rows)
+  pub text : options.is_text ≡ is_true (first_of (codes "text") rows)
   pub depth : IsNumberOf (codes "depth") rows options.most_depth
   pub oids : option_map (λ name. name.now) options.oids ≡ first_of (codes "oids") rows
   pub color : color_by (first_of (codes "color") rows) ≡ Some options.color

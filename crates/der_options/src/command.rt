@@ -123,7 +123,12 @@ fn with_forms<'a>(alloc: Global, command: Command<'a>) -> Result<Command<'a>, Al
         "html",
         "Write one page of HTML that shows all documents, their bytes beside them",
     );
-    command.arg(json)?.arg(html)
+    let text = flag(
+        alloc,
+        "text",
+        "Write a short account of each certificate, request, list or key",
+    );
+    command.arg(json)?.arg(html)?.arg(text)
 }
 
 // An argument `--name` with no value.

@@ -5,7 +5,7 @@ ghost use Rattle.clap.specs.Words.{all_of, first_of, found_of, rows_of};
 ghost use Rattle.der_options.specs.Options.{AsksFor, AsksForNothing, IsNumberOf, IsRefused, IsTask, Means};
 ghost use Rattle.der_options.specs.Options.{are_both_given, are_exclusive, go_together, is_given as is_given_by};
 ghost use Rattle.der_options.specs.Options.{color_exclusions, go_together_of, html_exclusions, json_exclusions};
-ghost use Rattle.der_options.specs.Options.{oids_exclusions, task_exclusions};
+ghost use Rattle.der_options.specs.Options.{oids_exclusions, task_exclusions, text_exclusions};
 ghost use Rattle.der_options.specs.Options.{IsNumber, begins_hex, is_true, names_of, takes_number};
 ghost use Rattle.der_options.specs.Options.{color_by, color_in as color_in_is};
 ghost use Rattle.der_options.specs.Steps.{IsMatched, IsUnmatched, LacksOptions};
@@ -33,6 +33,8 @@ pub struct Options<'a> {
     pub is_json: bool,
     /// Documents are shown on a page of HTML, one for all inputs.
     pub is_html: bool,
+    /// A short account of each document is written in place of a dump.
+    pub is_text: bool,
     /// The most blocks around a block that is shown; the outermost has none. `None` shows all blocks.
     pub most_depth: Option<usize>,
     /// The name of the file that names object identifiers, before the names that are built in.
@@ -108,6 +110,7 @@ fn asked_for<'a>(alloc: Global, matches: &ArgMatches<'a>) -> Result<Options<'a>,
         is_flat: is_set(matches, "flat"),
         is_json: is_set(matches, "json"),
         is_html: is_set(matches, "html"),
+        is_text: is_set(matches, "text"),
         most_depth: number_of(matches, "depth")?,
         oids: value(matches, "oids"),
         color: color_of(matches)?,
@@ -122,6 +125,7 @@ fn refuse_exclusions<'a>(matches: &ArgMatches<'a>) -> Result<(), OptionsFault<'a
     refuse_tasks(matches)?;
     refuse_with_json(matches)?;
     refuse_with_html(matches)?;
+    refuse_with_text(matches)?;
     refuse_with_color(matches)?;
     refuse_with_oids(matches)
 }
@@ -161,6 +165,22 @@ fn refuse_with_html<'a>(matches: &ArgMatches<'a>) -> Result<(), OptionsFault<'a>
     refuse_both(matches, "html", "extract")?;
     refuse_both(matches, "html", "contents")?;
     refuse_both(matches, "html", "value")
+}
+
+// Refuses accounts with what shows some blocks, and with other forms of output.
+fn refuse_with_text<'a>(matches: &ArgMatches<'a>) -> Result<(), OptionsFault<'a>>
+    ensures kept { OnOk result (go_together_of text_exclusions (rows_of (found_of matches.now)) ≡ true) }
+    ensures refused { IfErr result (AsksForNothing (rows_of (found_of matches.now))) }
+{
+    refuse_both(matches, "text", "json")?;
+    refuse_both(matches, "text", "html")?;
+    refuse_both(matches, "text", "color")?;
+    refuse_both(matches, "text", "extract")?;
+    refuse_both(matches, "text", "contents")?;
+    refuse_both(matches, "text", "value")?;
+    refuse_both(matches, "text", "depth")?;
+    refuse_both(matches, "text", "full")?;
+    refuse_both(matches, "text", "flat")
 }
 
 // Refuses colors of lines with what writes none.

@@ -58,6 +58,7 @@ fn what_cannot_be_read_is_left_out(rt: HostRuntime) -> Result<(), Fail> {
             alloc,
             &options,
             OwnNames::none(alloc),
+            None,
             &mut sources,
             Vec::new(alloc),
         );
@@ -132,6 +133,7 @@ fn a_fault_of_a_flush_is_told(rt: HostRuntime) -> Result<(), Fail> {
             alloc,
             &options,
             OwnNames::none(alloc),
+            None,
             &mut sources,
             FailingWriter { writes },
         );

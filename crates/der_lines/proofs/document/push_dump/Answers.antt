@@ -16,6 +16,6 @@ pub returns : goal.returns
 returns g c =
     let some : 0 < length c.args.octets.now = grind (arith, common_steps) in
     IfOk-weaker c.push_lines.result _ _
-    (λ verdict. printed_as g.W.Write.contents _ _ c.args.printer.now c.push_lines.new.printer 
+    (λ verdict. printed_as g.W.Write.contents _ _ c.args.printer.now c.push_lines.new.printer
     (λ text lines. inl (some, lines)))
     c.push_lines.ensures

@@ -46,8 +46,11 @@ push_encodings-returns g t c =
 
 pub push_nested-returns-in_default : goal.push_nested-returns-in_default
 push_nested-returns-in_default g t c = λ left holding.
-    printed_none g.W.Write.contents _ c.args.printer.now (no_lines refl refl, no_more refl
-    (ap mark_offsets c.new.ensures.items))
+    printed_none g.W.Write.contents _ c.args.printer.now (
+      no_lines refl refl,
+      no_more refl
+          (ap mark_offsets c.new.ensures.items),
+    )
 
 pub push_nested-returns : goal.push_nested-returns
 push_nested-returns g t c = λ left holding.

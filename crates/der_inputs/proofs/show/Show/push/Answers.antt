@@ -9,3 +9,6 @@ returns-in-Json g c = rw c.in-Json.is c.push_json.ensures
 
 pub returns-in-Page : goal.returns-in-Page
 returns-in-Page g c = rw c.in-Page.is c.push_on_page.ensures
+
+pub returns-in-Accounts : goal.returns-in-Accounts
+returns-in-Accounts g c = rw c.in-Accounts.is c.push_account.ensures

@@ -6,3 +6,6 @@ returns-in-Lines g c = rw c.in-Lines.is c.push_name_line.ensures
 
 pub returns-in-Page : goal.returns-in-Page
 returns-in-Page g c = rw c.in-Page.is c.push_name_on_page.ensures
+
+pub returns-in-Accounts : goal.returns-in-Accounts
+returns-in-Accounts g c = rw c.in-Accounts.is c.push_name_line-in-Accounts.ensures

@@ -1,0 +1,74 @@
+"""Compares accounts with what openssl says of the same certificates: PROGRAM FOLDER."""
+import datetime
+import pathlib
+import re
+import subprocess
+import sys
+import tempfile
+
+from certificates import certificates
+
+# how many characters the label of a line takes, behind two spaces
+LABEL = 20
+NAMES = ["-nameopt", "RFC2253,utf8,-esc_msb"]
+
+
+def openssl(file, *words):
+    said = subprocess.run(["openssl", "x509", "-inform", "DER", "-in", file, "-noout", *words], capture_output=True)
+    return said.stdout.decode().strip()
+
+
+def behind_sign(text):
+    return text.partition("=")[2].strip()
+
+
+def moment(text):
+    """A date as openssl has it, `May  5 09:37:37 2011 GMT`, as accounts have it."""
+    return datetime.datetime.strptime(behind_sign(text), "%b %d %H:%M:%S %Y GMT").strftime("%Y-%m-%dT%H:%M:%SZ")
+
+
+def wanted(file):
+    """What openssl says, by the labels of an account."""
+    lines = {
+        "subject": behind_sign(openssl(file, "-subject", *NAMES)),
+        "issuer": behind_sign(openssl(file, "-issuer", *NAMES)),
+        "serial number": behind_sign(openssl(file, "-serial")),
+        "not before": moment(openssl(file, "-startdate")),
+        "not after": moment(openssl(file, "-enddate")),
+        "SHA-256": behind_sign(openssl(file, "-fingerprint", "-sha256")).replace(":", ""),
+    }
+    names = openssl(file, "-ext", "subjectAltName").splitlines()[1:]
+    # openssl has the name of a directory in another form than those of subjects
+    if names and not any("DirName" in line for line in names):
+        lines["alternative names"] = ", ".join(map(str.strip, names))
+    return lines
+
+
+def told(program, file):
+    """What the account says, by labels. How many days are left is not compared."""
+    said = subprocess.run([program, "--text", file], capture_output=True, check=True).stdout.decode()
+    lines = {}
+    for line in said.splitlines()[1:]:
+        lines[line[2:2 + LABEL].strip()] = line[2 + LABEL:]
+    lines["not after"] = re.sub(r" \(.*\)$", "", lines["not after"])
+    return lines
+
+
+def main():
+    program, folder = sys.argv[1:]
+    count = wrong = 0
+    with tempfile.TemporaryDirectory() as room:
+        file = pathlib.Path(room) / "certificate.der"
+        for octets in certificates(folder):
+            file.write_bytes(octets)
+            ours, theirs = told(program, file), wanted(file)
+            count += 1
+            for label, text in theirs.items():
+                if ours.get(label) != text:
+                    wrong += 1
+                    print(f"{theirs['subject']}: {label}: {ours.get(label)!r}, and openssl says {text!r}")
+    print(f"accounts: {count} certificates, {wrong} lines not as openssl has them")
+    sys.exit(1 if wrong or not count else 0)
+
+
+main()

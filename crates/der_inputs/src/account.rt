@@ -1,0 +1,61 @@
+// Accounts of what is found.
+ghost use Rattle.std.specs.Prelude.{◌≡◌, IfOk, true};
+ghost use Rattle.asn1_der.specs.Der.{IsDer};
+ghost use Rattle.der_inputs.specs.Forms.{IsAccount};
+ghost use Rattle.der_inputs.specs.Parts.{finding_in};
+ghost use Rattle.der_io.specs.Output.{IsWritten};
+ghost use Rattle.der_lines.specs.declared.document.Verdict.TheVariants.{AllRead};
+
+use crate::found::Found;
+use crate::show::Show;
+use asn1_der::is_der;
+use der_account::{account_of, joined};
+use der_io::{StreamFault, write_part};
+use der_lines::{Verdict, push_refusal};
+use der_rows::{Look, Printer};
+use std::alloc::AllocError;
+use std::io::Write;
+
+impl Show {
+    // Writes the account of octets, or why there are none to be read.
+    pub fn push_account<W: Write>(
+        &self,
+        found: &Found,
+        printer: &mut Printer<W>,
+    ) -> Result<Verdict, StreamFault>
+        ensures { IfOk result (λ verdict. IsWritten (IsAccount self.now.is_strict (finding_in found.now).octets verdict)
+            (W.contents printer.old.out) (W.contents printer.new.out)) }
+    {
+        match &found.octets {
+            Ok(octets) => self.write_account(octets, &mut printer.out),
+            Err(why) => {
+                printer.look = Look::Plain;
+                push_refusal(why, printer)
+            }
+        }
+    }
+
+    // Writes the account of octets. They are rejected if they are of no known kind, and strictly if they are not DER.
+    fn write_account<W: Write>(&self, octets: &[u8], out: &mut W) -> Result<Verdict, StreamFault>
+        ensures { IfOk result (λ verdict. IsWritten (IsAccount self.now.is_strict (Some octets.now) verdict)
+            (W.contents out.old) (W.contents out.new)) }
+    {
+        let account = account_of(self.alloc, &self.names, octets, self.time)?;
+        let text = joined(self.alloc, &account.lines)?;
+        write_part(out, text.as_bytes())?;
+        let verdict = self.verdict_of(account.is_known, octets)?;
+        Ok(verdict)
+    }
+
+    fn verdict_of(&self, is_known: bool, octets: &[u8]) -> Result<Verdict, AllocError>
+        ensures { IfOk result (λ verdict. verdict ≡ AllRead → self.now.is_strict ≡ true → IsDer octets.now) }
+    {
+        if !is_known {
+            return Ok(Verdict::Refused);
+        }
+        if self.is_strict && !is_der(self.alloc, octets)? {
+            return Ok(Verdict::Refused);
+        }
+        Ok(Verdict::AllRead)
+    }
+}
