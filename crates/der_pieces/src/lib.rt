@@ -9,7 +9,6 @@
 #![tactic(auto)]
 
 pub mod faults;
-pub mod fields;
 pub mod leaf;
 pub mod marks;
 pub mod nested;

@@ -22,8 +22,6 @@ fn dump(alloc: Global) -> Options<'static> {
         is_html: false,
         most_depth: None,
         oids: None,
-        is_plain: false,
-        type_name: None,
         color: Color::Never,
     }
 }
