@@ -20,6 +20,7 @@ fn dump(alloc: Global) -> Options<'static> {
         is_flat: false,
         is_json: false,
         is_html: false,
+        is_text: false,
         most_depth: None,
         oids: None,
         color: Color::Never,
@@ -111,7 +112,8 @@ fn lines_before_a_fault_of_writing_are_written(rt: HostRuntime) -> Result<(), Fa
             written: Vec::new(alloc),
             writes,
         };
-        let (outcome, writer) = run(alloc, &options, OwnNames::none(alloc), &mut sources, writer);
+        let own = OwnNames::none(alloc);
+        let (outcome, writer) = run(alloc, &options, own, None, &mut sources, writer);
         assert_eq!(rt; status(&outcome), 2);
         assert!(rt; outcome.is_err_and(|fault| fault == StreamFault::Write));
         assert_eq!(rt;
