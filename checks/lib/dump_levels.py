@@ -29,7 +29,7 @@ DEEP = [
 
 
 def dump(program, octets):
-    return subprocess.run(["sh", "-c", 'ulimit -s 256 && exec "$0"', program], input=octets, capture_output=True)
+    return subprocess.run(["sh", "-c", 'ulimit -s 256 && exec "$0" --plain', program], input=octets, capture_output=True)
 
 
 def is_shown(program, name, octets, status, lines):

@@ -250,6 +250,12 @@ def words_in(row):
         yield row["shown"] if cut_short(row) else row["fault"]["text"]
 
 
+def field_of(row):
+    """What stands before the type: the field, or the name of the type unless the line says as much."""
+    name = row.get("field", row.get("of", ""))
+    return "" if not name or "field" not in row and name.startswith(words_of(row)) else name + " "
+
+
 def is_of_line(row, inside, line):
     """Whether the line is that of the row."""
     if not (found := BLOCK_LINE.fullmatch(line)):
@@ -257,7 +263,7 @@ def is_of_line(row, inside, line):
     mark, offset, header, contents, spaces, words = found.groups()
     numbers = (str(row["offset"]), str(row["header"]), contents_size(row), 2 * min(row["depth"], MOST_LEVELS))
     told = ", ".join(it["text"] for it in row.get("not_der", []))
-    start, end = words_of(row), f" (not DER: {told})" if told else ""
+    start, end = field_of(row) + words_of(row), f" (not DER: {told})" if told else ""
     return (
         (mark == ">") == inside and (offset, header, contents, len(spaces)) == numbers
         and words.startswith(start) and words[len(start):len(start) + 1] in ("", " ", ":", ",")

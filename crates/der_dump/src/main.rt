@@ -5,9 +5,10 @@ mod host;
 
 use crate::host::{HostReader, HostWriter, color_here, tell_error};
 use der_inputs::{Outcome, Source, run, status};
-use der_io::{StreamFault, fault_text, read_all, words};
+use der_io::{StreamFault, escaped, fault_text, read_all, words};
 use der_names::{NamesFault, OwnNames};
 use der_options::{Options, OptionsFault, options_of};
+use der_shapes::Shapes;
 use jiff::Timestamp;
 use jiff::civil::DateTime;
 use jiff::tz::TimeZone;
@@ -43,6 +44,9 @@ fn obey(rt: &HostRuntime, words: &[String]) -> u8 {
     match options_of(rt.alloc(), words) {
         Ok(mut options) => {
             options.color = color_here(rt, options.color);
+            if !is_type_known(rt, options.type_name) {
+                return WRONG_WORDS;
+            }
             match own_names(rt, &options) {
                 Some(own) => answer(rt, &options, own),
                 None => WRONG_WORDS,
@@ -65,6 +69,34 @@ fn tell(rt: &HostRuntime, fault: &OptionsFault<'_>) -> u8 {
     } else {
         tell_error(rt, &text);
         WRONG_WORDS
+    }
+}
+
+// Whether a type that the options name is known; where it is not, says that it is none.
+fn is_type_known(rt: &HostRuntime, type_name: Option<&str>) -> bool {
+    let Some(name) = type_name else {
+        return true;
+    };
+    let Ok(shapes) = Shapes::new(rt.alloc()) else {
+        tell_memory(rt, &StreamFault::Memory);
+        return false;
+    };
+    if shapes.named(name).is_some() {
+        return true;
+    }
+    match escaped(rt.alloc(), name.as_bytes()) {
+        Ok(name) => tell_type(rt, &name),
+        Err(_) => tell_memory(rt, &StreamFault::Memory),
+    }
+    false
+}
+
+// Says that a type is not known.
+fn tell_type(rt: &HostRuntime, name: &str) {
+    if let Ok(words) = format!(in rt.alloc();
+        "error: no type '{name}' is known: give one of an RFC, such as Certificate"
+    ) {
+        tell_error(rt, &words);
     }
 }
 

@@ -10,7 +10,7 @@ use crate::found::Found;
 use crate::show::Show;
 use der_io::{StreamFault, write_part};
 use der_json::{Fault, Origin, push_json, push_refusal, push_strict_json};
-use der_lines::Verdict;
+use der_lines::{Style, Verdict};
 use std::alloc::{AllocError, Global};
 use std::io::Write;
 
@@ -49,7 +49,7 @@ impl Show {
             (told_of origin.entry) verdict) (W.contents out.old) (W.contents out.new)) }
     {
         match &found.octets {
-            Ok(octets) => self.push_read(origin, octets, out),
+            Ok(octets) => self.push_read(self.style_of(found), origin, octets, out),
             Err(why) => {
                 push_words(self.alloc, origin, why, out)?;
                 Ok(Verdict::Refused)
@@ -60,6 +60,7 @@ impl Show {
     // Writes the lines of octets; strictly, also that of what is not DER.
     fn push_read<W: Write>(
         &self,
+        style: Style,
         origin: Origin<'_>,
         octets: &[u8],
         out: &mut W,
@@ -68,9 +69,9 @@ impl Show {
             verdict) (W.contents out.old) (W.contents out.new)) }
     {
         if self.is_strict {
-            Ok(verdict_of(push_strict_json(self.alloc, &self.names, origin, octets, out)?))
+            Ok(verdict_of(push_strict_json(self.alloc, &self.names, style, origin, octets, out)?))
         } else {
-            Ok(verdict_of(push_json(self.alloc, &self.names, origin, octets, out)?))
+            Ok(verdict_of(push_json(self.alloc, &self.names, style, origin, octets, out)?))
         }
     }
 }

@@ -23,6 +23,7 @@ use der_rows::{Look, Printer};
 use jiff::civil::DateTime;
 use std::alloc::{AllocError, Global};
 use std::io::Write;
+use std::str;
 
 // What the output is.
 #[derive(Clone, Copy)]
@@ -61,9 +62,14 @@ impl Show {
     ) -> Result<Show, AllocError>
         ensures { IfOk result (λ show. wanted_of show ≡ wanted_by options.now count) }
     {
+        let names = Names::with(alloc, own)?;
+        let shape = match options.type_name {
+            Some(name) => names.shapes.named(name),
+            None => None,
+        };
         Ok(Show {
             alloc,
-            names: Names::with(alloc, own)?,
+            names,
             task: options.task,
             is_named: are_names_shown(options.task, options.is_json, count),
             form: form_of(options.is_json, options.is_html, options.is_text),
@@ -73,6 +79,8 @@ impl Show {
                 is_full: options.is_full,
                 is_flat: options.is_flat,
                 most_depth: options.most_depth,
+                is_plain: options.is_plain,
+                shape,
             },
             time,
         })
@@ -194,24 +202,41 @@ impl Show {
             self.now.style.most_depth (octets_in found.now.octets) verdict) printer.old printer.new) }
     {
         match &found.octets {
-            Ok(octets) => self.push_octets(octets, printer),
+            Ok(octets) => self.push_octets(self.style_of(found), octets, printer),
             Err(why) => push_refusal(why, printer),
         }
     }
 
     fn push_octets<W: Write>(
         &self,
+        style: Style,
         octets: &[u8],
         printer: &mut Printer<W>,
     ) -> Result<Verdict, StreamFault>
         ensures { IfOk result (λ verdict. IsPrinted W.contents (IsDumpOf self.now.is_strict
-            self.now.style.most_depth octets.now verdict) printer.old printer.new) }
+            style.most_depth octets.now verdict) printer.old printer.new) }
     {
         if self.is_strict {
-            push_strict_document(self.alloc, &self.names, self.style, octets, printer)
+            push_strict_document(self.alloc, &self.names, style, octets, printer)
         } else {
-            push_document(self.alloc, &self.names, self.style, octets, printer)
+            push_document(self.alloc, &self.names, style, octets, printer)
         }
+    }
+
+    // How what was found is shown: its shape is that of its label, where none is wanted.
+    pub fn style_of(&self, found: &Found) -> Style
+        ensures { result.most_depth ≡ self.now.style.most_depth }
+    {
+        Style {
+            shape: self.style.shape.or_else(|| self.labelled(found)),
+            ..self.style
+        }
+    }
+
+    // The shape of what stands behind the label of what was found.
+    fn labelled(&self, found: &Found) -> Option<usize> {
+        let label = found.label.as_deref()?;
+        self.names.shapes.labelled(str::from_utf8(label).ok()?)
     }
 
     // Prints the line of a name above dumps, on a page or not: JSON tells it in each line.

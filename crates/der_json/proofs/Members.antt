@@ -76,7 +76,21 @@ unfolding serde_json_on_literals
 name_end None others rest e = e
 name_end (Some t) others rest e = ap (λ z. (codes ",\"name\":" ++ compact_text (string t)) ++ z) e
 
--- the members that not every object has, and the closing bracket
+field_end :
+    (words : Option (List ℕ)) (others : Members) (rest : List ℕ) → rest ≡ members_text true others →
+    told_text (codes ",\"field\":") words ++ rest ≡ members_text true (member_if (codes "field") words others)
+unfolding serde_json_on_literals
+field_end None others rest e = e
+field_end (Some t) others rest e = ap (λ z. (codes ",\"field\":" ++ compact_text (string t)) ++ z) e
+
+type_end :
+    (words : Option (List ℕ)) (others : Members) (rest : List ℕ) → rest ≡ members_text true others →
+    told_text (codes ",\"of\":") words ++ rest ≡ members_text true (member_if (codes "of") words others)
+unfolding serde_json_on_literals
+type_end None others rest e = e
+type_end (Some t) others rest e = ap (λ z. (codes ",\"of\":" ++ compact_text (string t)) ++ z) e
+
+-- the members that not every object has behind its names, and the closing bracket
 others_end :
     (name shown octets : Option (List ℕ)) (told : List Told) (fault : Option ToldFault) (inside : Option Items) →
     (told_text (codes ",\"name\":") name ++ (told_text (codes ",\"shown\":") shown
@@ -100,6 +114,31 @@ others_end name shown octets told fault inside =
     (joined_front s (o ++ (d ++ f)) end (o ++ (d ++ (f ++ end)))
     (joined_front o (d ++ f) end (d ++ (f ++ end)) (append_assoc d f end)))
     ∙ name_end name (member_if (codes "shown") shown (member_if (codes "octets") octets rules)) _ beside
+
+-- so with the names of its field
+named_end :
+    (field of name shown octets : Option (List ℕ)) (told : List Told) (fault : Option ToldFault)
+    (inside : Option Items) →
+    (told_text (codes ",\"field\":") field ++ (told_text (codes ",\"of\":") of
+    ++ (told_text (codes ",\"name\":") name ++ (told_text (codes ",\"shown\":") shown
+    ++ (told_text (codes ",\"octets\":") octets
+    ++ (rules_text told ++ fault_text fault)))))) ++ (blocks_text inside ++ 125 ∷ [])
+    ≡ members_text true (member_if (codes "field") field (member_if (codes "of") of
+    (member_if (codes "name") name (member_if (codes "shown") shown
+    (member_if (codes "octets") octets (rules_if told (fault_if fault (blocks_if inside))))))))
+named_end field of name shown octets told fault inside =
+    let end = blocks_text inside ++ 125 ∷ [] in
+    let f = told_text (codes ",\"field\":") field in
+    let t = told_text (codes ",\"of\":") of in
+    let o =
+    told_text (codes ",\"name\":") name ++ (told_text (codes ",\"shown\":") shown
+    ++ (told_text (codes ",\"octets\":") octets ++ (rules_text told ++ fault_text fault))) in
+    let others =
+    member_if (codes "name") name (member_if (codes "shown") shown
+    (member_if (codes "octets") octets (rules_if told (fault_if fault (blocks_if inside))))) in
+    joined_front f (t ++ o) end (t ++ (o ++ end)) (append_assoc t o end)
+    ∙ field_end field (member_if (codes "of") of others) (t ++ (o ++ end))
+    (type_end of others (o ++ end) (others_end name shown octets told fault inside))
 
 nine_front :
     (m0 m1 m2 m3 m4 m5 m6 m7 m8 rest : List ℕ) →
@@ -128,7 +167,7 @@ object_text object inside marks =
     let row = row_of object inside marks in
     nine_front m0 m1 m2 m3 m4 m5 m6 m7 m8 (last_members object ++ (blocks_text inside ++ 125 ∷ []))
     ∙ ap (λ z. m0 ++ (m1 ++ (m2 ++ (m3 ++ (m4 ++ (m5 ++ (m6 ++ (m7 ++ (m8 ++ z)))))))))
-    (others_end row.name row.beside row.octets row.not_der row.fault inside)
+    (named_end row.field row.of_type row.name row.beside row.octets row.not_der row.fault inside)
 
 -- the member of blocks
 pub blocks_put :

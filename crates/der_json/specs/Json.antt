@@ -239,6 +239,8 @@ pub record Row : Type 0 where
   pub tag : Data
   pub kind : Option (List ℕ)
   pub value : Data
+  pub field : Option (List ℕ)
+  pub of_type : Option (List ℕ)
   pub name : Option (List ℕ)
   pub beside : Option (List ℕ)
   pub octets : Option (List ℕ)
@@ -348,11 +350,13 @@ rules_if (told ∷ more) others = member (codes "not_der") (array (items_of rule
 -- the members that not every object has
 abbrev pub rest_members : Row → Members
 rest_members row =
-    member_if (codes "name") row.name
+    member_if (codes "field") row.field
+    (member_if (codes "of") row.of_type
+    (member_if (codes "name") row.name
     (member_if (codes "shown") row.beside
     (member_if (codes "octets") row.octets
     (rules_if row.not_der
-    (fault_if row.fault (blocks_if row.inside)))))
+    (fault_if row.fault (blocks_if row.inside)))))))
 
 abbrev pub row_json : Row → Data
 row_json row =

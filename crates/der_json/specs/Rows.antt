@@ -47,6 +47,8 @@ row_of object inside marks = record {
   tag = view object.tag.number;
   kind = option_map (λ t. t.now) object.tag.kind;
   value = view object.value;
+  field = option_map (λ t. t.now) object.field;
+  of_type = option_map (λ t. t.now) object.of;
   name = option_map string_bytes object.name;
   beside = option_map string_bytes object.shown;
   octets = option_map string_bytes object.octets;
@@ -200,11 +202,13 @@ rules_text (told ∷ more) = codes ",\"not_der\":" ++ compact_text (array (items
 -- those that not every object has, but for blocks
 abbrev pub last_members : Object → List ℕ
 last_members object =
-    told_text (codes ",\"name\":") (option_map string_bytes object.name)
+    told_text (codes ",\"field\":") (option_map (λ t. t.now) object.field)
+    ++ (told_text (codes ",\"of\":") (option_map (λ t. t.now) object.of)
+    ++ (told_text (codes ",\"name\":") (option_map string_bytes object.name)
     ++ (told_text (codes ",\"shown\":") (option_map string_bytes object.shown)
     ++ (told_text (codes ",\"octets\":") (option_map string_bytes object.octets)
     ++ (rules_text (map told_of object.not_der.items)
-    ++ fault_text (option_map fault_told object.fault))))
+    ++ fault_text (option_map fault_told object.fault))))))
 
 -- the member of blocks inside octets, where there are some
 abbrev pub blocks_text : Option Items → List ℕ

@@ -1,15 +1,15 @@
 // A document as a line of JSON.
-ghost use Rattle.std.specs.Prelude.{◌≡◌, ◌++◌, ◌∷◌, [], IfOk, OnOk, option_map};
+ghost use Rattle.std.specs.Prelude.{◌≡◌, ◌++◌, ◌∷◌, [], false, IfOk, None, OnOk, option_map};
 ghost use Rattle.std.specs.Option.{is_none};
 ghost use Rattle.std.specs.Io.KnownBytes.{Appends};
 ghost use Rattle.der_io.specs.Output.{IsWritten};
 ghost use Rattle.der_pieces.specs.Texts.{Adds};
 ghost use Rattle.der_json.specs.Json.{IsEmptyLine, IsJsonOf, fault_told, first_text, line_text, refusal_json};
 ghost use Rattle.der_json.specs.Json.{told_of};
-ghost use Rattle.der_json.specs.Rows.{IsRowsLine, end_text, told_text};
+ghost use Rattle.der_json.specs.Rows.{IsRowsLine, end_text};
 
 use crate::fault::{Fault, fault_at};
-use crate::member::push_text;
+use crate::member::push_told;
 use crate::object::push_fault_object;
 use crate::rows::{Found, push_rows};
 use asn1_headers::error::ASN1DecodeErr;
@@ -33,7 +33,7 @@ pub struct Origin<'a> {
 /// Writes the octets as a line of JSON, as the page of this crate describes it: `{"blocks":[..]}` with an
 /// object for each line of a dump. Where some are at fault, a second line is the first fault:
 /// `{"fault":{"code":..,"offset":..,"text":".."}}`; of no octets it is the only one. Where the octets are from follows,
-/// as the members `file` and `label`. Whether nothing is at fault.
+/// as the members `file` and `label`. Of the style only the names of fields count. Whether nothing is at fault.
 ///
 /// Each object is written before the next is made. It takes the memory of one object, two words for each encoding that
 /// is open, and some for each rule of DER that is broken.
@@ -44,6 +44,7 @@ pub struct Origin<'a> {
 pub fn push_json<W: Write>(
     alloc: Global,
     names: &Names,
+    style: Style,
     origin: Origin<'_>,
     octets: &[u8],
     out: &mut W,
@@ -57,7 +58,7 @@ pub fn push_json<W: Write>(
         write_part(out, &line)?;
         return Ok(false);
     }
-    let found = push_blocks(alloc, names, origin, octets, out)?;
+    let found = push_blocks(alloc, names, style, origin, octets, out)?;
     let is_right = push_first(alloc, origin, &found.first, &mut line)?;
     write_part(out, &line)?;
     Ok(is_right)
@@ -71,17 +72,24 @@ pub fn push_empty(alloc: Global, origin: Origin<'_>, out: &mut Vec<u8>) -> Resul
     push_refusal(alloc, origin, &fault, out)
 }
 
-// All of a document.
-const STYLE: Style = Style {
-    is_full: true,
-    is_flat: false,
-    most_depth: None,
-};
+// All of a document, with the names of fields as in the style.
+fn all_of(style: Style) -> Style
+    ensures full { result.is_flat ≡ false }
+    ensures deep { result.most_depth ≡ None }
+{
+    Style {
+        is_full: true,
+        is_flat: false,
+        most_depth: None,
+        ..style
+    }
+}
 
 // Writes the line of the objects of octets. What was found in them.
 pub fn push_blocks<W: Write>(
     alloc: Global,
     names: &Names,
+    style: Style,
     origin: Origin<'_>,
     octets: &[u8],
     out: &mut W,
@@ -90,7 +98,7 @@ pub fn push_blocks<W: Write>(
         (W.contents out.old) (W.contents out.new)) }
 {
     write_part(out, b"{\"blocks\":[")?;
-    let found = push_rows(alloc, names, octets, outermost(STYLE), out)?;
+    let found = push_rows(alloc, names, octets, outermost(all_of(style)), out)?;
     write_end(alloc, origin, out)?;
     Ok(found)
 }
@@ -153,20 +161,4 @@ pub fn push_end(alloc: Global, origin: Origin<'_>, out: &mut Vec<u8>) -> Result<
     push_told(alloc, b",\"label\":", origin.label, out)?;
     out.extend_from_slice(b"}\n")?;
     Ok(())
-}
-
-// Puts a text behind its name, if there is one.
-fn push_told(
-    alloc: Global,
-    name: &[u8],
-    told: Option<&str>,
-    out: &mut Vec<u8>,
-) -> Result<(), AllocError>
-    ensures { OnOk result (out.new.items
-        ≡ out.old.items ++ told_text name.now (option_map (λ t. t.now) told.entry)) }
-{
-    match told {
-        Some(told) => push_text(alloc, name, told, out),
-        None => Ok(()),
-    }
 }

@@ -1,10 +1,11 @@
 // Members of objects, each behind its name. Texts and numbers, which most values are, are written in place.
-ghost use Rattle.std.specs.Prelude.{◌≡◌, ◌++◌, decimal, false, OnOk};
+ghost use Rattle.std.specs.Prelude.{◌≡◌, ◌++◌, decimal, false, option_map, OnOk};
 ghost use Rattle.json.specs.Print.{IsPrintable, token_text};
 ghost use Rattle.json.specs.Reads.{token_of};
 ghost use Rattle.serde_json.specs.Data.{string};
 ghost use Rattle.serde_json.specs.View.{view};
 ghost use Rattle.serde_json.specs.Written.{compact_text, has_float};
+ghost use Rattle.der_json.specs.Rows.{told_text};
 
 use json::{Token, Writer};
 use serde_json::Value;
@@ -36,6 +37,22 @@ pub fn push_text(
 {
     out.extend_from_slice(name)?;
     push_token(alloc, Token::String(text), out)
+}
+
+// Puts a text behind its name, if there is one.
+pub fn push_told(
+    alloc: Global,
+    name: &[u8],
+    told: Option<&str>,
+    out: &mut Vec<u8>,
+) -> Result<(), AllocError>
+    ensures { OnOk result (out.new.items
+        ≡ out.old.items ++ told_text name.now (option_map (λ t. t.now) told.entry)) }
+{
+    match told {
+        Some(told) => push_text(alloc, name, told, out),
+        None => Ok(()),
+    }
 }
 
 // Puts a value that is no float.

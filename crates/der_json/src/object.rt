@@ -8,7 +8,7 @@ ghost use Rattle.der_json.specs.Json.{number_or_null as number_or_null_is, text_
 ghost use Rattle.der_json.specs.Rows.{IsExact, fault_text, first_members, last_members, rules_text, told_text};
 
 use crate::fault::{Fault, fault_value};
-use crate::member::{push_member, push_text};
+use crate::member::{push_member, push_text, push_told};
 use der_pieces::marks::ToldRule;
 use serde_json::{Value, json};
 use std::alloc::{AllocError, Global};
@@ -32,6 +32,9 @@ pub struct Object {
     pub depth: usize,
     pub tag: Tag,
     pub value: Value,
+    // the field that it is, and the name of its type
+    pub field: Option<&'static str>,
+    pub of: Option<&'static str>,
     pub name: Option<String>,
     pub shown: Option<String>,
     // its contents octets in hex digits, where they have no value
@@ -76,6 +79,8 @@ impl Object {
     fn push_others(&self, alloc: Global, out: &mut Vec<u8>) -> Result<(), AllocError>
         ensures { OnOk result (out.new.items ≡ out.old.items ++ last_members self.now) }
     {
+        push_told(alloc, b",\"field\":", self.field, out)?;
+        push_told(alloc, b",\"of\":", self.of, out)?;
         push_words(alloc, b",\"name\":", &self.name, out)?;
         push_words(alloc, b",\"shown\":", &self.shown, out)?;
         push_words(alloc, b",\"octets\":", &self.octets, out)?;

@@ -24,6 +24,7 @@ use der_pieces::piece::{Kind, Piece};
 use der_pieces::place::Place;
 use der_pieces::strings::joined_string;
 use der_pieces::tag::name_of;
+use der_shapes::Named;
 use serde_json::Value;
 use std::alloc::{AllocError, Global};
 
@@ -37,6 +38,7 @@ pub fn object_of(alloc: Global, names: &Names, piece: Piece<'_>) -> Result<Objec
     let Shown { value, octets } = shown_of(alloc, &piece)?;
     let has_value = octets.is_none();
     let said = beside_of(alloc, names, &piece.kind, piece.place, has_value)?;
+    let named = piece.names(&names.shapes);
     Ok(Object {
         offset,
         header: piece.header_size(),
@@ -44,12 +46,26 @@ pub fn object_of(alloc: Global, names: &Names, piece: Piece<'_>) -> Result<Objec
         depth: piece.place.depth,
         tag: tag_of(alloc, &piece.kind)?,
         value,
-        name: said.name,
+        field: named.and_then(|named| named.field),
+        of: named.map(|named| named.of),
+        name: name_or(alloc, said.name, named)?,
         shown: said.shown,
         octets,
         not_der: piece.breaches.told(alloc)?,
         fault: placed_if(piece.fault, offset),
     })
+}
+
+// A name, or else that of a number.
+fn name_or(
+    alloc: Global,
+    name: Option<String>,
+    named: Option<Named>,
+) -> Result<Option<String>, AllocError> {
+    match (name, named.and_then(|named| named.value)) {
+        (None, Some(value)) => Ok(Some(String::from_str(alloc, value)?)),
+        (name, _) => Ok(name),
+    }
 }
 
 // Its fault, if it has one, which stands at the offset of the document.

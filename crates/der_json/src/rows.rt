@@ -93,7 +93,7 @@ pub fn push_rows<W: Write>(
         first: None,
     };
     let mut is_later = false;
-    let mut walk = Walk::over(alloc, octets, place)?;
+    let mut walk = Walk::over(alloc, &names.shapes, octets, place)?;
     while let Some(piece) = walk.next(alloc)? {
         let (here, nested) = (piece.place, piece.nested);
         let object = object_of(alloc, names, piece)?;

@@ -13,6 +13,7 @@ use crate::object::push_comma;
 use crate::rows::Departure;
 use der_io::{StreamFault, write_part};
 use der_names::Names;
+use der_pieces::style::Style;
 use serde_json::{Value, json};
 use std::alloc::{AllocError, Global};
 use std::io::Write;
@@ -29,6 +30,7 @@ use std::io::Write;
 pub fn push_strict_json<W: Write>(
     alloc: Global,
     names: &Names,
+    style: Style,
     origin: Origin<'_>,
     octets: &[u8],
     out: &mut W,
@@ -42,7 +44,7 @@ pub fn push_strict_json<W: Write>(
         write_part(out, &lines)?;
         return Ok(false);
     }
-    let found = push_blocks(alloc, names, origin, octets, out)?;
+    let found = push_blocks(alloc, names, style, origin, octets, out)?;
     let is_der = push_marks(alloc, origin, &found.marks, &mut lines)?;
     let is_right = push_first(alloc, origin, &found.first, &mut lines)?;
     write_part(out, &lines)?;

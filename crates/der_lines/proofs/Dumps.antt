@@ -102,8 +102,8 @@ outer_none false most = refl
 abbrev row_rest : Row → List ℕ
 row_rest row =
     32 ∷ [] ++ (right_of 2 row.header ++ (32 ∷ [] ++ (contents_column row.is_indefinite row.contents
-    ++ (32 ∷ 32 ∷ [] ++ (indentation row.depth ++ (on_one_line row.words.now ++ (on_one_line row.value.now
-    ++ (on_one_line (fault_words row) ++ on_one_line row.mark.now))))))))
+    ++ (32 ∷ 32 ∷ [] ++ (indentation row.depth ++ (on_one_line row.field.now ++ (on_one_line row.words.now
+    ++ (on_one_line row.value.now ++ (on_one_line (fault_words row) ++ on_one_line row.mark.now)))))))))
 
 -- the line of a row
 row_block :
@@ -112,19 +112,22 @@ row_block :
     on_one_line row.mark.now ≡ mark_text (told_rules f.rules f.has_spare_bits) → (width : ℕ) (line : List ℕ) →
     line ≡ right_of width row.offset ++ row_rest row → IsBlockLine f line
 row_block row f o h c i d w m width line is =
+    let field = on_one_line row.field.now in
     let value = on_one_line row.value.now in
     let fault = on_one_line (fault_words row) in
     let same : line ≡
     replicate (width - length (decimal f.offset)) 32
     ++ (decimal f.offset ++ (32 ∷ [] ++ (right_of 2 f.header ++ (32 ∷ []
     ++ (contents_column f.indefinite f.contents ++ (32 ∷ 32 ∷ []
-    ++ (indentation f.depth ++ (f.words ++ ((value ++ fault) ++ on_one_line row.mark.now)))))))))
+    ++ (indentation f.depth ++ (field ++ (f.words ++ ((value ++ fault) ++ on_one_line row.mark.now))))))))))
     = rw (is, o, h, c, i, d, w) (simp append_assoc) in
     record {
       spaces = width - length (decimal f.offset);
+      field = field;
       said = value ++ fault;
       mark = on_one_line row.mark.now;
       line_is = same;
+      one_field = one_line_made row.field.now;
       one = one_line_both value fault (one_line_made row.value.now) (one_line_made (fault_words row));
       mark_is = m;
     }

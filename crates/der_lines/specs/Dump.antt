@@ -20,15 +20,17 @@ down_to most (front ∷ fronts) =
     if is_too_deep most front.depth then down_to most fronts else front ∷ down_to most fronts
 
 -- a line of an encoding: spaces, the offset, the sizes of header and contents in columns, spaces for the depth, the
--- words, what else is said of it, and the mark
+-- field, the words, what else is said of it, and the mark
 pub record IsBlockLine (front : Front) (line : List ℕ) : Type 0 where
   pub spaces : ℕ
+  pub field : List ℕ
   pub said : List ℕ
   pub mark : List ℕ
   pub line_is : line ≡
       replicate spaces space ++ (decimal front.offset ++ (space ∷ [] ++ (right_of 2 front.header ++ (space ∷ []
       ++ (contents_column front.indefinite front.contents ++ (space ∷ space ∷ []
-      ++ (indentation front.depth ++ (front.words ++ (said ++ mark)))))))))
+      ++ (indentation front.depth ++ (field ++ (front.words ++ (said ++ mark))))))))))
+  pub one_field : IsOneLine field
   pub one : IsOneLine said
   pub mark_is : mark ≡ mark_text (told_rules front.rules front.has_spare_bits)
 

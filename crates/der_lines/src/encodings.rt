@@ -20,6 +20,8 @@ use der_pieces::place::{Place, is_too_deep};
 use der_pieces::scalars::write_after_space;
 use der_pieces::walk::Walk;
 use der_rows::{Printer, Row};
+use der_shapes::Named;
+use der_values::Role;
 use std::alloc::{AllocError, Global};
 use std::io::Write;
 
@@ -89,7 +91,7 @@ pub fn push_encodings<W: Write>(
         fault: None,
         marks: Vec::new(alloc),
     };
-    let mut walk = Walk::over(alloc, octets, place)?;
+    let mut walk = Walk::over(alloc, &names.shapes, octets, place)?;
     while let Some(piece) = walk.next(alloc)? {
         let inside = push_piece(alloc, names, &piece, printer)?;
         found.keep(alloc, piece, inside)?;
@@ -111,7 +113,7 @@ fn push_piece<W: Write>(
         → IsPrinted W.contents (IsPieceDump left piece.now (mark_offsets marks.items)) printer.old printer.new) }
 {
     let words = piece.words(alloc)?;
-    let shown = shown_of(alloc, names, piece)?;
+    let shown = shown_of(alloc, names, piece, &words)?;
     push_row(alloc, piece, &words, &shown, printer)?;
     push_nested(alloc, names, piece, printer)
 }
@@ -144,6 +146,7 @@ fn push_row<W: Write>(
         depth: place.depth,
         is_inside: place.is_inside,
         has_rows_inside: has_rows_inside(piece),
+        field: &shown.field,
         words,
         value: &shown.value,
         fault: shown.fault.as_deref(),
@@ -190,31 +193,76 @@ fn push_nested<W: Write>(
     Ok(found.marks)
 }
 
-// What is shown of a piece behind its type: its value, and what is wrong with it.
+// What is shown of a piece: its field before its type, and behind it its value, and what is wrong with it.
 #[derive(Drop)]
 struct Shown {
+    field: String,
     value: String,
     fault: Option<String>,
 }
 
-fn shown_of(alloc: Global, names: &Names, piece: &Piece<'_>) -> Result<Shown, AllocError>
+// What is shown of a piece whose type is these words.
+fn shown_of(
+    alloc: Global,
+    names: &Names,
+    piece: &Piece<'_>,
+    words: &str,
+) -> Result<Shown, AllocError>
     ensures { IfOk result (λ shown. is_some shown.fault ≡ is_some piece.now.fault) }
 {
+    let named = piece.names(&names.shapes);
+    let mut value = value_text(alloc, names, piece, named)?;
+    if let Some(name) = value_name(piece, named) {
+        write!(value, " ({name})")?;
+    }
     Ok(Shown {
-        value: value_text(alloc, names, piece)?,
+        field: field_text(alloc, words, named)?,
+        value,
         fault: fault_text(alloc, piece)?,
     })
 }
 
+// The name of the value of a piece, unless it is a GeneralName, whose name stands behind its tag.
+fn value_name(piece: &Piece<'_>, named: Option<Named>) -> Option<&'static str> {
+    let name = named?.value?;
+    match &piece.kind {
+        Kind::Opened(header, _) | Kind::Leaf(header, _, _) => match piece.place.role(header) {
+            Role::Name(_) => None,
+            Role::Plain | Role::Bits(_) => Some(name),
+        },
+        Kind::EndOfContents(_) | Kind::Unreadable(_) | Kind::Cut(_, _) => None,
+    }
+}
+
+// The field of a piece, as it stands before the words of its type: its name, or that of its type where it has none.
+// Nothing where the words say as much.
+fn field_text(alloc: Global, words: &str, named: Option<Named>) -> Result<String, AllocError> {
+    let Some(Named { field, of, .. }) = named else {
+        return Ok(String::new(alloc));
+    };
+    match field {
+        Some(name) => format!(in alloc; "{name} "),
+        None if of.starts_with(words) => Ok(String::new(alloc)),
+        None => format!(in alloc; "{of} "),
+    }
+}
+
 // The value of a piece, as it stands behind its type.
-fn value_text(alloc: Global, names: &Names, piece: &Piece<'_>) -> Result<String, AllocError> {
+fn value_text(
+    alloc: Global,
+    names: &Names,
+    piece: &Piece<'_>,
+    named: Option<Named>,
+) -> Result<String, AllocError> {
     let place = piece.place;
+    let field = named.and_then(|named| named.field);
     match &piece.kind {
         Kind::EndOfContents(_) | Kind::Cut(_, _) => Ok(String::new(alloc)),
         Kind::Unreadable(octets) => octets_text(alloc, octets, place.is_full),
         Kind::Opened(header, contents) => {
             let joined = joined_value(alloc, names, header, contents, place)?;
-            opened_text(alloc, header, place.role(header), joined.as_deref())
+            let role = place.role(header);
+            opened_text(alloc, header, role, field, joined.as_deref())
         }
         Kind::Leaf(_, contents, Meaning::Nothing) => octets_text(alloc, contents, place.is_full),
         Kind::Leaf(header, contents, meaning) => {
@@ -222,6 +270,7 @@ fn value_text(alloc: Global, names: &Names, piece: &Piece<'_>) -> Result<String,
                 is_opened: piece.nested.is_some(),
                 is_full: place.is_full,
                 role: place.role(header),
+                field,
             };
             read_text(alloc, names, header, contents, meaning, style)
         }

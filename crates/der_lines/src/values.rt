@@ -32,6 +32,8 @@ pub struct ValueStyle {
     pub is_full: bool,
     // what they are in an extension
     pub role: Role,
+    // the name of the field that is shown before them
+    pub field: Option<&'static str>,
 }
 
 // What is said of an encoding that is gone into, behind its tag: what it is in an extension. That it is constructed is
@@ -40,6 +42,7 @@ pub fn opened_text(
     alloc: Global,
     header: &Header,
     role: Role,
+    field: Option<&'static str>,
     joined: Option<&str>,
 ) -> Result<String, AllocError> {
     let is_told = match universal_tag(header) {
@@ -47,7 +50,7 @@ pub fn opened_text(
         None => header.announced > 0 || header.is_indefinite,
     };
     let mut said = String::new(alloc);
-    write_role(&mut said, role)?;
+    write_role(&mut said, role, field)?;
     if !is_told {
         said.push_str(", constructed")?;
     }
@@ -123,6 +126,7 @@ pub fn joined_value(
         is_opened: false,
         is_full: place.is_full,
         role: Role::Plain,
+        field: None,
     };
     match meaning {
         Meaning::Nothing => Ok(None),
@@ -130,12 +134,18 @@ pub fn joined_value(
     }
 }
 
-// The name of a GeneralName.
-fn write_role(out: &mut String, role: Role) -> Result<(), AllocError> {
+// The name of a GeneralName, unless it is that of the field.
+fn write_role(
+    out: &mut String,
+    role: Role,
+    field: Option<&'static str>,
+) -> Result<(), AllocError> {
     if let Role::Name(tag) = role {
         if let Some(name) = general_name(tag) {
-            out.push_str(" ")?;
-            out.push_str(name)?;
+            if field != Some(name) {
+                out.push_str(" ")?;
+                out.push_str(name)?;
+            }
         }
     }
     Ok(())
@@ -199,7 +209,7 @@ fn write_tagged(
     contents: &[u8],
     style: ValueStyle,
 ) -> Result<(), AllocError> {
-    write_role(out, style.role)?;
+    write_role(out, style.role, style.field)?;
     match style.role {
         Role::Plain => write_unknown(out, contents, LEAST_TEXT, style),
         Role::Bits(_) => write_bits(alloc, out, contents, style),

@@ -31,15 +31,18 @@ use joint::JOINT;
 use member_bodies::MEMBER_BODIES;
 use organizations::ORGANIZATIONS;
 pub use own::{NamesFault, OwnNames};
+use der_shapes::Shapes;
 use std::alloc::{AllocError, Global};
 
-/// The names of object identifiers, by their numbers: a table, which is made once.
+/// The names of object identifiers, by their numbers, and of fields, by their shapes: tables, which are made once.
 #[derive(Drop)]
 pub struct Names {
     // in the order of the table
     rows: Vec<&'static str>,
     // these come before the rows
     own: OwnNames,
+    /// The names of fields.
+    pub shapes: Shapes,
 }
 
 impl Names {
@@ -62,7 +65,8 @@ impl Names {
                 rows.push(row)?;
             }
         }
-        Ok(Names { rows, own })
+        let shapes = Shapes::new(alloc)?;
+        Ok(Names { rows, own, shapes })
     }
 
     /// The name of an object identifier and the standard, or what else is said of it, by its components in decimal with

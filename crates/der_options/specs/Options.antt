@@ -40,6 +40,9 @@ style_rules = flag (codes "strict") ∷ flag (codes "full") ∷ flag (codes "fla
 abbrev pub look_rules : List Rule
 look_rules = valued (codes "oids") ∷ valued (codes "color") ∷ []
 
+abbrev pub field_rules : List Rule
+field_rules = flag (codes "plain") ∷ valued (codes "as") ∷ []
+
 abbrev pub form_rules : List Rule
 form_rules = flag (codes "json") ∷ flag (codes "html") ∷ flag (codes "text") ∷ []
 
@@ -54,7 +57,9 @@ bare_command =
 
 -- the whole command
 unfoldable pub command : App
-command = with_rules (with_rules (with_rules (with_rules bare_command task_rules) style_rules) look_rules) form_rules
+command =
+    with_rules (with_rules (with_rules (with_rules (with_rules bare_command task_rules) style_rules) look_rules)
+    field_rules) form_rules
 
 -- a flag is set: its value is `true`
 abbrev pub is_true : Option Text → Bool
@@ -95,7 +100,7 @@ abbrev pub takes_value : Text → Bool
 takes_value name =
     list_any (bytes_eq name)
     (codes "at" ∷ codes "extract" ∷ codes "contents" ∷ codes "value" ∷ codes "depth" ∷ codes "oids"
-    ∷ codes "color" ∷ [])
+    ∷ codes "color" ∷ codes "as" ∷ [])
 
 -- the argument is among the words: one that takes a value has one, and a flag is set
 abbrev pub is_given : Text → List Row → Bool
@@ -141,10 +146,17 @@ abbrev pub oids_exclusions : List (Text × Text)
 oids_exclusions =
     (codes "oids", codes "extract") ∷ (codes "oids", codes "contents") ∷ (codes "oids", codes "value") ∷ []
 
+-- the type of a document with no names of fields, or octets
+abbrev pub type_exclusions : List (Text × Text)
+type_exclusions =
+    (codes "as", codes "plain") ∷ (codes "as", codes "extract") ∷ (codes "as", codes "contents")
+    ∷ (codes "as", codes "value") ∷ []
+
 -- all of them
 abbrev pub exclusions : List (Text × Text)
 exclusions =
     task_exclusions ++ json_exclusions ++ html_exclusions ++ text_exclusions ++ color_exclusions ++ oids_exclusions
+    ++ type_exclusions
 
 abbrev pub are_exclusive : Text → Text → Bool
 are_exclusive first second = list_any (λ pair. bytes_eq pair.0 first && bytes_eq pair.1 second) exclusions
@@ -198,6 +210,8 @@ pub record AsksFor (rows : List Row) (options : Options) : Type 0 where
   pub text : options.is_text ≡ is_true (first_of (codes "text") rows)
   pub depth : IsNumberOf (codes "depth") rows options.most_depth
   pub oids : option_map (λ name. name.now) options.oids ≡ first_of (codes "oids") rows
+  pub plain : options.is_plain ≡ is_true (first_of (codes "plain") rows)
+  pub type_name : option_map (λ name. name.now) options.type_name ≡ first_of (codes "as") rows
   pub color : color_by (first_of (codes "color") rows) ≡ Some options.color
 
 -- the words, of which the first is the program's name, ask for the options: the command takes them, and its matches do

@@ -2,7 +2,7 @@
 ghost use Rattle.std.specs.Prelude.{◌≡◌, IfOk, false};
 ghost use Rattle.clap.specs.Words.{app_of, rule_of};
 ghost use Rattle.der_options.specs.Options.{command as command_is, flag as flag_is, valued as valued_is};
-ghost use Rattle.der_options.specs.Options.{bare_command, form_rules, look_rules, style_rules};
+ghost use Rattle.der_options.specs.Options.{bare_command, field_rules, form_rules, look_rules, style_rules};
 ghost use Rattle.der_options.specs.Options.{task_rules, with_rules};
 
 use clap::{Arg, ArgAction, Command};
@@ -23,7 +23,8 @@ pub fn command<'a>(alloc: Global) -> Result<Command<'a>, AllocError>
     let with_tasks = with_tasks(alloc, bare)?;
     let with_styles = with_styles(alloc, with_tasks)?;
     let with_looks = with_looks(alloc, with_styles)?;
-    with_forms(alloc, with_looks)
+    let with_fields = with_fields(alloc, with_looks)?;
+    with_forms(alloc, with_fields)
 }
 
 // The command with its files alone.
@@ -107,6 +108,20 @@ fn with_looks<'a>(alloc: Global, command: Command<'a>) -> Result<Command<'a>, Al
         "Color lines: always, never, or auto, on a terminal without NO_COLOR [default: auto]",
     );
     command.arg(oids)?.arg(color)
+}
+
+// The command with the names of fields.
+fn with_fields<'a>(alloc: Global, command: Command<'a>) -> Result<Command<'a>, AllocError>
+    ensures { IfOk result (λ c. app_of c ≡ with_rules (app_of command.entry) field_rules) }
+{
+    let plain = flag(alloc, "plain", "Do not name the fields of known types");
+    let type_name = valued(
+        alloc,
+        "as",
+        "TYPE",
+        "Name fields as those of this type, such as Certificate [default: by label, or what fits]",
+    );
+    command.arg(plain)?.arg(type_name)
 }
 
 // The command with the forms in which documents are written.

@@ -5,7 +5,7 @@ ghost use Rattle.clap.specs.Words.{all_of, first_of, found_of, rows_of};
 ghost use Rattle.der_options.specs.Options.{AsksFor, AsksForNothing, IsNumberOf, IsRefused, IsTask, Means};
 ghost use Rattle.der_options.specs.Options.{are_both_given, are_exclusive, go_together, is_given as is_given_by};
 ghost use Rattle.der_options.specs.Options.{color_exclusions, go_together_of, html_exclusions, json_exclusions};
-ghost use Rattle.der_options.specs.Options.{oids_exclusions, task_exclusions, text_exclusions};
+ghost use Rattle.der_options.specs.Options.{oids_exclusions, task_exclusions, text_exclusions, type_exclusions};
 ghost use Rattle.der_options.specs.Options.{IsNumber, begins_hex, is_true, names_of, takes_number};
 ghost use Rattle.der_options.specs.Options.{color_by, color_in as color_in_is};
 ghost use Rattle.der_options.specs.Steps.{IsMatched, IsUnmatched, LacksOptions};
@@ -39,6 +39,10 @@ pub struct Options<'a> {
     pub most_depth: Option<usize>,
     /// The name of the file that names object identifiers, before the names that are built in.
     pub oids: Option<&'a str>,
+    /// Fields have no names.
+    pub is_plain: bool,
+    /// The name of the type of the documents, in place of what their labels say or what fits.
+    pub type_name: Option<&'a str>,
     /// When lines are colored.
     pub color: Color,
 }
@@ -113,6 +117,8 @@ fn asked_for<'a>(alloc: Global, matches: &ArgMatches<'a>) -> Result<Options<'a>,
         is_text: is_set(matches, "text"),
         most_depth: number_of(matches, "depth")?,
         oids: value(matches, "oids"),
+        is_plain: is_set(matches, "plain"),
+        type_name: value(matches, "as"),
         color: color_of(matches)?,
     })
 }
@@ -127,7 +133,8 @@ fn refuse_exclusions<'a>(matches: &ArgMatches<'a>) -> Result<(), OptionsFault<'a
     refuse_with_html(matches)?;
     refuse_with_text(matches)?;
     refuse_with_color(matches)?;
-    refuse_with_oids(matches)
+    refuse_with_oids(matches)?;
+    refuse_with_type(matches)
 }
 
 // Refuses two tasks.
@@ -205,6 +212,17 @@ fn refuse_with_oids<'a>(matches: &ArgMatches<'a>) -> Result<(), OptionsFault<'a>
     refuse_both(matches, "oids", "value")
 }
 
+// Refuses the type of a document with no names of fields, and with octets.
+fn refuse_with_type<'a>(matches: &ArgMatches<'a>) -> Result<(), OptionsFault<'a>>
+    ensures kept { OnOk result (go_together_of type_exclusions (rows_of (found_of matches.now)) ≡ true) }
+    ensures refused { IfErr result (AsksForNothing (rows_of (found_of matches.now))) }
+{
+    refuse_both(matches, "as", "plain")?;
+    refuse_both(matches, "as", "extract")?;
+    refuse_both(matches, "as", "contents")?;
+    refuse_both(matches, "as", "value")
+}
+
 // Refuses two arguments, where both are given.
 fn refuse_both<'a>(
     matches: &ArgMatches<'a>,
@@ -227,7 +245,7 @@ fn is_given(matches: &ArgMatches<'_>, name: &str) -> bool
     ensures { result ≡ is_given_by name.now (rows_of (found_of matches.now)) }
 {
     match name {
-        "at" | "extract" | "contents" | "value" | "depth" | "oids" | "color" => {
+        "at" | "extract" | "contents" | "value" | "depth" | "oids" | "color" | "as" => {
             value(matches, name).is_some()
         }
         _ => is_set(matches, name),

@@ -9,6 +9,7 @@
 #![tactic(auto)]
 
 pub mod faults;
+pub mod fields;
 pub mod leaf;
 pub mod marks;
 pub mod nested;

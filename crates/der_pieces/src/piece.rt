@@ -18,6 +18,7 @@ use asn1_headers::header::HeaderCount;
 use der_elements::cursor::{Left, Step};
 use der_elements::header::{has_stray_form, holds_encodings, size_of, step_of};
 use der_elements::sum::sum_of;
+use der_shapes::{Named, Shapes};
 use der_values::Extension;
 use std::alloc::{AllocError, Global};
 
@@ -108,6 +109,16 @@ impl<'a> Piece<'a> {
             Kind::Cut(header, _) | Kind::Opened(header, _) | Kind::Leaf(header, _, _) => {
                 tag_words(alloc, header.class, &header.tag)
             }
+        }
+    }
+
+    // The names of the field that it is, if it is one.
+    pub fn names(&self, shapes: &Shapes) -> Option<Named> {
+        let spot = self.place.spot?;
+        match &self.kind {
+            Kind::EndOfContents(_) | Kind::Unreadable(_) => None,
+            Kind::Cut(_, _) | Kind::Opened(_, _) => shapes.names_of(spot, b""),
+            Kind::Leaf(_, contents, _) => shapes.names_of(spot, contents),
         }
     }
 

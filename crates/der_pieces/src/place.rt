@@ -7,6 +7,7 @@ use asn1_headers::front::Header;
 use asn1_headers::header::ASN1Class;
 use der_elements::header::universal_tag;
 use der_elements::sum::sum_of;
+use der_shapes::Spot;
 use der_values::{Extension, Role, extension_of, role_in};
 use std::alloc::AllocError;
 
@@ -35,6 +36,20 @@ pub struct Place {
     pub next: Extension,
     // whether they stand in a string that is constructed
     pub is_segment: bool,
+    // which fields they are, as far as what is around them says it, and which field the one that stands here is
+    pub around: Around,
+    pub spot: Option<Spot>,
+}
+
+// What says which fields blocks are.
+#[derive(Clone, Copy, Drop)]
+pub enum Around {
+    // nothing: they have no names
+    Nothing,
+    // a document, whose shape may be known
+    Document(Option<usize>),
+    // a string that is this field
+    String(Spot),
 }
 
 // The place of the document itself.
@@ -56,6 +71,12 @@ pub fn outermost(style: Style) -> Place
         value_depth: 0,
         next: Extension::Other,
         is_segment: false,
+        around: if style.is_plain {
+            Around::Nothing
+        } else {
+            Around::Document(style.shape)
+        },
+        spot: None,
     }
 }
 
@@ -71,13 +92,14 @@ impl Place {
         self.documents > 0 && !is_deep
     }
 
-    // The place of encodings that stand so many levels further in, maybe in a string; a string there is the value of
-    // the extension.
+    // The place of an encoding that stands so many levels further in, maybe in a string, and is this field; a string
+    // there is the value of the extension.
     pub fn deeper(
         self,
         levels: usize,
         next: Extension,
         is_segment: bool,
+        spot: Option<Spot>,
     ) -> Result<Place, AllocError>
         ensures same { IfOk result (λ p. p.is_inside ≡ self.is_inside) }
         ensures base { IfOk result (λ p. p.base ≡ self.base) }
@@ -89,6 +111,7 @@ impl Place {
             depth: sum_of(self.depth, levels)?,
             next,
             is_segment,
+            spot,
             ..self
         })
     }
@@ -111,6 +134,11 @@ impl Place {
             value_depth: self.depth.saturating_add(1),
             next: Extension::Other,
             is_segment: false,
+            around: match self.spot {
+                Some(spot) => Around::String(spot),
+                None => Around::Nothing,
+            },
+            spot: None,
             ..self
         })
     }

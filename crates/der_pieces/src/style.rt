@@ -11,4 +11,8 @@ pub struct Style {
     /// The most blocks that may be around a block that is shown; an outermost one has none. `None` where all are shown.
     /// Octets that are no document are shown as deep as they can be read.
     pub most_depth: Option<usize>,
+    /// Fields have no names.
+    pub is_plain: bool,
+    /// The shape of the document, where it is known; where it is not, the first shape that fits.
+    pub shape: Option<usize>,
 }

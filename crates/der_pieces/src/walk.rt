@@ -4,10 +4,12 @@ ghost use Rattle.der_pieces.specs.Fronts.{AreFrontsOf, Front};
 ghost use Rattle.der_pieces.specs.Pieces.{Passes};
 ghost use Rattle.der_pieces.specs.Steps.{IsAhead};
 
+use crate::fields::Fields;
 use crate::piece::{Piece, read_piece};
 use crate::place::Place;
 use crate::strings::{is_in_string, string_around};
-use der_elements::cursor::Cursor;
+use der_elements::cursor::{Cursor, Left};
+use der_shapes::{Shapes, Spot};
 use der_values::Extension;
 use std::alloc::{AllocError, Global};
 
@@ -20,11 +22,18 @@ pub struct Walk<'a> {
     pub extension: Extension,
     // inside how many encodings the outermost string is that is open and constructed, if there is one
     pub string: Option<usize>,
+    // which fields the pieces are, if they have names
+    pub fields: Option<Fields<'a>>,
 }
 
 impl<'a> Walk<'a> {
     // Over the pieces of octets.
-    pub fn over(alloc: Global, octets: &'a [u8], place: Place) -> Result<Walk<'a>, AllocError>
+    pub fn over(
+        alloc: Global,
+        shapes: &'a Shapes,
+        octets: &'a [u8],
+        place: Place,
+    ) -> Result<Walk<'a>, AllocError>
         ensures octets { IfOk result (λ walk. walk.cursor.octets.now ≡ octets.now) }
         ensures place { IfOk result (λ walk. walk.place ≡ place) }
         ensures ahead { IfOk result (λ walk. (fronts : List Front) (faults : List ℕ)
@@ -35,6 +44,7 @@ impl<'a> Walk<'a> {
             place,
             extension: Extension::Other,
             string: None,
+            fields: Fields::at(alloc, shapes, place),
         })
     }
 
@@ -49,11 +59,34 @@ impl<'a> Walk<'a> {
         };
         let depth = self.cursor.depth();
         let is_segment = is_in_string(self.string, depth);
-        let place = self.place.deeper(depth, self.extension, is_segment)?;
+        let spot = spot_of(alloc, &mut self.fields, depth, left)?;
+        let place = self.place.deeper(depth, self.extension, is_segment, spot)?;
         let piece = read_piece(alloc, left, self.cursor.offset, place)?;
         self.cursor.go(piece.step)?;
         self.extension = piece.extension();
+        see(&mut self.fields, &piece)?;
         self.string = string_around(self.string, depth, piece.is_string());
         Ok(Some(piece))
+    }
+}
+
+// Which field the piece is that begins what is left, inside so many encodings, where pieces have names.
+fn spot_of(
+    alloc: Global,
+    fields: &mut Option<Fields<'_>>,
+    depth: usize,
+    left: Left<'_>,
+) -> Result<Option<Spot>, AllocError> {
+    match fields {
+        Some(fields) => fields.next(alloc, depth, left),
+        None => Ok(None),
+    }
+}
+
+// Sees the piece that was gone on to, which may say what fields are behind it.
+fn see(fields: &mut Option<Fields<'_>>, piece: &Piece<'_>) -> Result<(), AllocError> {
+    match fields {
+        Some(fields) => fields.see(piece),
+        None => Ok(()),
     }
 }

@@ -82,10 +82,12 @@ one_line_row row =
     let fault = on_one_line (fault_words row) in
     let value = on_one_line row.value.now in
     let words = on_one_line row.words.now in
-    one_line_both (columns_text row) (words ++ (value ++ (fault ++ mark))) (one_line_columns row)
+    let field = on_one_line row.field.now in
+    one_line_both (columns_text row) (field ++ (words ++ (value ++ (fault ++ mark)))) (one_line_columns row)
+    (one_line_both field (words ++ (value ++ (fault ++ mark))) (one_line_made row.field.now)
     (one_line_both words (value ++ (fault ++ mark)) (one_line_made row.words.now)
     (one_line_both value (fault ++ mark) (one_line_made row.value.now)
-    (one_line_both fault mark (one_line_made (fault_words row)) (one_line_made row.mark.now))))
+    (one_line_both fault mark (one_line_made (fault_words row)) (one_line_made row.mark.now)))))
 
 pub one_line_note : (kind : NoteKind) (text : List ℕ) → IsOneLine (note_line kind text)
 one_line_note Title text = one_line_made text

@@ -49,11 +49,11 @@ columns_text row =
 abbrev pub fault_words : Row → List ℕ
 fault_words row = unwrap_or (option_map (λ words. words.now) row.fault) []
 
--- the line of a row: its columns, its type, its value, what is wrong with it, and what of DER it breaks
+-- the line of a row: its columns, its field, its type, its value, what is wrong with it, and what of DER it breaks
 abbrev pub row_line : Row → List ℕ
 row_line row =
-    columns_text row ++ (on_one_line row.words.now
-    ++ (on_one_line row.value.now ++ (on_one_line (fault_words row) ++ on_one_line row.mark.now)))
+    columns_text row ++ (on_one_line row.field.now ++ (on_one_line row.words.now
+    ++ (on_one_line row.value.now ++ (on_one_line (fault_words row) ++ on_one_line row.mark.now))))
 
 -- the octet that the line of a note begins with
 abbrev pub note_mark : NoteKind → ℕ

@@ -12,9 +12,9 @@
 //! >     6  2       0        NULL
 //! ```
 //!
-//! The line of a row has its offset, the sizes of its header and of its contents octets, its type, its value, what is
-//! wrong with it, and what of DER it breaks. [`Printer::push_note`] prints a line about documents: `=` and a title, or
-//! `!` and what is wrong. No line has a control character, by [`law_one_line`].
+//! The line of a row has its offset, the sizes of its header and of its contents octets, its field, its type, its
+//! value, what is wrong with it, and what of DER it breaks. [`Printer::push_note`] prints a line about documents: `=`
+//! and a title, or `!` and what is wrong. No line has a control character, by [`law_one_line`].
 //!
 //! The errors are that memory ran out, and that a write failed. What was written before stays.
 #![tactic(auto)]

@@ -31,6 +31,7 @@ pub fn push_row_line(
     ensures { OnOk result (Pushes look [] (row_line row.now) out.old.items out.new.items) }
 {
     push_columns_in(alloc, look, row, out)?;
+    push_words(alloc, look, Paint::Bold, row.field.as_bytes(), out)?;
     push_words(alloc, look, Paint::Cyan, row.words.as_bytes(), out)?;
     push_words(alloc, look, Paint::Plain, row.value.as_bytes(), out)?;
     push_fault_words(alloc, look, row, out)?;

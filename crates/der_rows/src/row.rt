@@ -18,6 +18,8 @@ pub struct Row<'a> {
     pub is_inside: bool,
     /// Rows of what stands inside it follow.
     pub has_rows_inside: bool,
+    /// The field that it is, as it stands before the type; nothing if it has no name.
+    pub field: &'a str,
     /// Its type.
     pub words: &'a str,
     /// Its value, as it stands behind the type.

@@ -23,6 +23,8 @@ fn dump(alloc: Global) -> Options<'static> {
         is_text: false,
         most_depth: None,
         oids: None,
+        is_plain: false,
+        type_name: None,
         color: Color::Never,
     }
 }

@@ -1,9 +1,8 @@
 -- For `line::push_blocks`: what it returns is right.
-use Rattle.std.proofs.Common.{◌++◌, ◌∷◌, [], codes, false, refl}
+use Rattle.std.proofs.Common.{◌++◌, ◌∷◌, [], ◌∙◌, ap, codes, false, if◌then◌else◌, refl, subst}
 use Rattle.std.proofs.KnownBytes.{Appends-trans}
 use Rattle.std.specs.Io.KnownBytes.{Appends}
 use Rattle.serde_json.specs.Written.{items_text}
-use Rattle.std.proofs.Common.{subst}
 use Rattle.der_json.specs.Json.{AreInside, AreRows, AreRowsOf, items_of, row_json, rows_text, told_of}
 use Rattle.der_json.specs.Rows.{end_text}
 use Rattle.der_json.proofs.Lines.{document_line}
@@ -30,7 +29,8 @@ returns g c =
     let whole : AreRowsOf octets rows =
     subst (λ z. AreRows (AreInside 8) false octets 0 z rows) o.depth
     (subst (λ z. AreRows (AreInside 8) false octets z c.outermost.result.depth rows) o.base
-    (subst (λ z. AreRows (AreInside z) false octets c.outermost.result.base c.outermost.result.depth rows) o.documents
+    (subst (λ z. AreRows (AreInside z) false octets c.outermost.result.base c.outermost.result.depth rows)
+    (o.documents ∙ ap (λ z. if z then 0 else 8) c.all_of.ensures.full)
     (subst (λ z. AreRows (AreInside c.outermost.result.documents) z octets c.outermost.result.base
     c.outermost.result.depth rows) o.outside are))) in
     (rows_text rows origin, line, (rows, whole, marks, first, refl))

@@ -33,14 +33,15 @@ returns g c =
       depth = place.depth;
       is_inside = place.is_inside;
       has_rows_inside = c.has_rows_inside.result;
+      field = c.deref.result;
       words = c.args.words;
-      value = c.deref.result;
+      value = c.deref-2.result;
       fault = c.as_deref.result;
-      mark = c.deref-2.result;
+      mark = c.deref-3.result;
     } in
     let fault : is_some row.fault ≡ is_some piece.fault = c.as_deref.ensures.variant ∙ c.requires.fault in
     let text = mark_text (told_rules piece.breaches.rules.items piece.breaches.has_spare_bits) in
-    let mark = c.deref-2.ensures.value ∙ (c.in_ok-push_mark.ensures ∙ ap (λ z. z ++ text) c.new-mark.ensures.items) in
+    let mark = c.deref-3.ensures.value ∙ (c.in_ok-push_mark.ensures ∙ ap (λ z. z ++ text) c.new-mark.ensures.items) in
     let mark_line = ap on_one_line mark
     ∙ on_one_line-shown text (mark_shown piece.breaches.rules.items piece.breaches.has_spare_bits) in
     let words_line = ap on_one_line c.requires.words

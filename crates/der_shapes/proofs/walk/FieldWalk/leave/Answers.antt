@@ -1,0 +1,11 @@
+-- For `walk::FieldWalk::leave`: those that stay open stand one inside the next.
+use Rattle.der_shapes.proofs.Paths.{path_left}
+use Rattle.der_shapes.proofs.walk.FieldWalk.leave.Goals as goal
+
+pub invariant_of-self : goal.invariant_of-self
+invariant_of-self c =
+    let walk = c.loop-self.self in
+    record {
+      path = path_left walk.shapes.now walk.all walk.frames.items c.pop.new.self.items c.pop.result c.pop.ensures.items
+          walk.path;
+    }

@@ -1,0 +1,120 @@
+-- Which field of its shape an element is. A shape is a type of X.680: a record is a SEQUENCE or a SET (25, 27), items
+-- are those of a SEQUENCE OF or a SET OF (26, 28), or what a string holds; a choice is of 29, tags are of 31.
+use Rattle.std.specs.Prelude.{◌≡◌, ◌⊎◌, ℕ, ◌<◌, ◌≤◌, Option, Some, None, List, [], ◌∷◌, MatchBool, slice_get}
+use Rattle.std.specs.Prelude.{⊤}
+use Rattle.asn1_headers.specs.declared.header.ASN1Class.TheVariants.{Universal}
+use Rattle.der_shapes.specs.declared.shapes.Shapes.{Shapes}
+use Rattle.der_shapes.specs.declared.shapes.Shape.{Shape}
+use Rattle.der_shapes.specs.declared.shapes.Field.{Field}
+use Rattle.der_shapes.specs.declared.shapes.Row.{Row}
+use Rattle.der_shapes.specs.declared.shapes.Tag.{Tag}
+use Rattle.der_shapes.specs.declared.shapes.Form.{Form}
+use Rattle.der_shapes.specs.declared.shapes.Form.TheVariants.{Leaf, Record, Items, Choice, Open, Known}
+use Rattle.der_shapes.specs.declared.take.Inside.{Inside}
+use Rattle.der_shapes.specs.declared.take.Inside.TheVariants.{Nothing, Fields, Each, Whole}
+use Rattle.der_shapes.specs.declared.take.Spot.{Spot}
+
+-- the tag is the one with this number of class Universal
+abbrev pub IsUniversal : ℕ → Tag → Type 0
+IsUniversal number tag = (tag.class ≡ Universal) × (tag.number ≡ number)
+
+-- elements of the form have the tag
+abbrev pub HasTag : Form → Tag → Type 0
+HasTag (Leaf number) tag = IsUniversal number tag
+HasTag (Record number) tag = IsUniversal number tag
+HasTag (Items number) tag = IsUniversal number tag
+HasTag Choice tag = ⊥
+HasTag Open tag = ⊥
+HasTag Known tag = ⊥
+
+-- what stands inside an element of a form, whose parts are these
+abbrev pub inside_of : Form → ℕ → ℕ → Inside
+inside_of (Leaf number) first end = Nothing
+inside_of (Record number) first end = Fields first end
+inside_of (Items number) first end = Each first
+inside_of Choice first end = Nothing
+inside_of Open first end = Nothing
+inside_of Known first end = Nothing
+
+-- inside an element of the shape there stands this
+abbrev pub Holds : Shapes → ℕ → Inside → Type 0
+Holds shapes shape inside =
+    (found : Shape) × (slice_get shapes.shapes.items shape ≡ Some found)
+    × (inside ≡ inside_of found.form found.first found.end)
+
+-- an element with the tag is of the shape, and inside it there stands this
+abbrev pub IsPlain : Shapes → ℕ → Tag → Inside → Type 0
+IsPlain shapes shape tag inside =
+    (found : Shape) × (slice_get shapes.shapes.items shape ≡ Some found) × HasTag found.form tag
+    × (inside ≡ inside_of found.form found.first found.end)
+
+-- an element with the tag is the field by the tag of its own (X.680 31.2.7)
+abbrev pub IsTagged : Shapes → Field → Tag → Inside → Type 0
+IsTagged shapes field tag inside =
+    (field.tag ≡ Some tag)
+    × MatchBool field.is_explicit (inside ≡ Whole field.shape) (Holds shapes field.shape inside)
+
+-- an element with the tag is the alternative
+abbrev pub IsAlternative : Shapes → Field → Tag → Inside → Type 0
+IsAlternative shapes field tag inside =
+    ((field.tag ≡ None) × IsPlain shapes field.shape tag inside) ⊎ IsTagged shapes field tag inside
+
+-- the element is of the choice, by one of its alternatives
+abbrev pub IsChosen : Shapes → ℕ → Spot → Type 0
+IsChosen shapes shape spot =
+    (found : Shape) × (i : ℕ) × (field : Field) × (slice_get shapes.shapes.items shape ≡ Some found)
+    × (found.form ≡ Choice) × (found.first ≤ i) × (i < found.end) × (slice_get shapes.fields.items i ≡ Some field)
+    × (spot.alternative ≡ Some i) × IsAlternative shapes field spot.tag spot.inside
+
+-- the element is of the shape, which is not open
+abbrev pub IsOne : Shapes → ℕ → Spot → Type 0
+IsOne shapes shape spot =
+    (spot.shape ≡ shape) × (((spot.alternative ≡ None) × IsPlain shapes shape spot.tag spot.inside)
+    ⊎ IsChosen shapes shape spot)
+
+-- the row says what the shape is, which is open
+abbrev pub IsRowOf : Shapes → ℕ → Row → Type 0
+IsRowOf shapes shape row =
+    (found : Shape) × (k : ℕ) × (slice_get shapes.shapes.items shape ≡ Some found) × (found.first ≤ k)
+    × (k < found.end) × (slice_get shapes.rows.items k ≡ Some row)
+
+-- the element is what the identifier says that was seen before it, of an open shape
+abbrev pub IsSaid : Shapes → ℕ → Spot → Type 0
+IsSaid shapes shape spot =
+    (row : Row) × IsRowOf shapes shape row × (spot.identifier ≡ Some row.identifier) × IsOne shapes row.shape spot
+
+-- the element may be anything
+abbrev pub IsAnything : Shapes → ℕ → Spot → Type 0
+IsAnything shapes shape spot =
+    (found : Shape) × (slice_get shapes.shapes.items shape ≡ Some found) × (found.form ≡ Open)
+    × (spot.shape ≡ shape) × (spot.alternative ≡ None) × (spot.inside ≡ Nothing)
+
+-- the element is of the shape
+abbrev pub IsOfShape : Shapes → ℕ → Spot → Type 0
+IsOfShape shapes shape spot =
+    IsOne shapes shape spot ⊎ (IsSaid shapes shape spot ⊎ IsAnything shapes shape spot)
+
+-- the element is the field
+abbrev pub IsOfField : Shapes → ℕ → Spot → Type 0
+IsOfField shapes i spot =
+    (field : Field) × (slice_get shapes.fields.items i ≡ Some field) × (spot.field ≡ Some i)
+    × (((field.tag ≡ None) × IsOfShape shapes field.shape spot)
+    ⊎ ((spot.shape ≡ field.shape) × (spot.alternative ≡ None) × IsTagged shapes field spot.tag spot.inside))
+
+-- the element is one of those that stand inside another
+abbrev pub StandsIn : Shapes → Inside → Spot → Type 0
+StandsIn shapes Nothing spot = ⊥
+StandsIn shapes (Fields first end) spot = (i : ℕ) × (first ≤ i) × (i < end) × IsOfField shapes i spot
+StandsIn shapes (Each i) spot = IsOfField shapes i spot
+StandsIn shapes (Whole shape) spot = (spot.field ≡ None) × IsOfShape shapes shape spot
+
+-- what stands around the elements of a document of the shape, or of none that is known
+abbrev pub document_of : Option ℕ → Inside
+document_of (Some shape) = Whole shape
+document_of None = Nothing
+
+-- the elements stand one inside the next, the last of them among those that stand around all
+abbrev pub IsPath : Shapes → Inside → List Spot → Type 0
+IsPath shapes all [] = ⊤
+IsPath shapes all (spot ∷ []) = StandsIn shapes all spot
+IsPath shapes all (spot ∷ around ∷ path) = StandsIn shapes around.inside spot × IsPath shapes all (around ∷ path)

@@ -1,0 +1,17 @@
+-- How far the elements of a document were gone over.
+use Rattle.std.specs.Prelude.{◌≡◌, ℕ, List, ◌∷◌, length, map, reverse}
+use Rattle.der_shapes.specs.declared.shapes.Shapes.{Shapes}
+use Rattle.der_shapes.specs.declared.take.Inside.{Inside}
+use Rattle.der_shapes.specs.declared.take.Spot.{Spot}
+use Rattle.der_shapes.specs.declared.walk.Frame.{Frame}
+use Rattle.der_shapes.specs.Spots.{IsPath}
+
+-- the elements that are open, the innermost first
+abbrev pub path_of : List Frame → List Spot
+path_of frames = reverse (map (λ frame. frame.spot) frames)
+
+-- an element with so many around it is at the end of the path of those that are open, which stand one inside the next
+abbrev pub IsReached : Shapes → Inside → ℕ → List Frame → Spot → Type 0
+IsReached shapes all depth frames spot =
+    (around : List Spot) × (path_of frames ≡ spot ∷ around) × (length around ≡ depth)
+    × ∥ IsPath shapes all (path_of frames) ∥₁

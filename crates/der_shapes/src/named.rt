@@ -1,0 +1,76 @@
+// The names of an element, by which field it is.
+ghost use Rattle.std.specs.Prelude.{IfSome};
+ghost use Rattle.der_shapes.specs.Names.{IsNameAt, IsNameOf, IsNamed};
+
+use crate::shapes::{Form, Shape, Shapes};
+use crate::take::{Inside, Spot};
+
+/// The names of an element.
+#[derive(Clone, Copy, Debug, Drop, PartialEq)]
+pub struct Named {
+    /// The field that it is, or the alternative of a choice. Items of a SEQUENCE OF have none.
+    pub field: Option<&'static str>,
+    /// The name of its type.
+    pub of: &'static str,
+    /// The name of its value, where the type has names for numbers, or of the alternative that its tag chooses.
+    pub value: Option<&'static str>,
+}
+
+impl Shapes {
+    /// The names of an element, by which field it is and its contents octets.
+    pub fn names_of(&self, spot: Spot, contents: &[u8]) -> Option<Named>
+        ensures { IfSome result (IsNamed self.now spot contents.now) }
+    {
+        let shape = self.shape(spot.shape)?;
+        Some(Named {
+            field: self.field_name(spot),
+            of: shape.name,
+            value: self.value_name(shape, spot, contents),
+        })
+    }
+
+    // The name of the field, or else of the alternative. `None` where they have none.
+    fn field_name(&self, spot: Spot) -> Option<&'static str>
+        ensures { IfSome result (λ name. IsNameOf self.now spot name.now) }
+    {
+        match self.name_at(spot.field) {
+            Some(name) => Some(name),
+            None => self.name_at(spot.alternative),
+        }
+    }
+
+    // The name of a field that has one.
+    fn name_at(&self, place: Option<usize>) -> Option<&'static str>
+        ensures { IfSome result (λ name. IsNameAt self.now place name.now) }
+    {
+        let field = self.field(place?)?;
+        if field.name.is_empty() {
+            None
+        } else {
+            Some(field.name)
+        }
+    }
+
+    // The name of the value of an element: that of a number; or of an alternative by its tag, where the field has a
+    // name.
+    fn value_name(&self, shape: Shape, spot: Spot, contents: &[u8]) -> Option<&'static str> {
+        match (shape.form, spot.inside) {
+            (Form::Leaf(_), Inside::Nothing) => self.number_name(shape, small_number(contents)?),
+            (Form::Choice, _) => {
+                self.name_at(spot.field)?;
+                self.field(spot.alternative?)?.tag?;
+                self.name_at(spot.alternative)
+            }
+            _ => None,
+        }
+    }
+}
+
+// The number of contents octets of an INTEGER or an ENUMERATED (X.690 8.3), if it is at least 0 and below 2^15.
+fn small_number(contents: &[u8]) -> Option<u64> {
+    match contents {
+        [low] if *low < 128 => Some(*low as u64),
+        [high, low] if *high < 128 => Some(*high as u64 * 256 + *low as u64),
+        _ => None,
+    }
+}
