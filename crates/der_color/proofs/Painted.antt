@@ -6,22 +6,22 @@ use Rattle.der_color.specs.Paints.{Paints, Piece, paint, part, sequence, text_in
 use Rattle.der_color.specs.declared.paint.Paint.{Paint}
 use Rattle.der_color.specs.declared.paint.Paint.TheVariants.{Plain}
 
-text_more : (ps qs : List Piece) → text_in (ps ++ qs) ≡ text_in ps ++ text_in qs
-text_more [] qs = refl
-text_more (paint p ∷ ps) qs = text_more ps qs
-text_more (part octets ∷ ps) qs =
-    ap (λ z. octets ++ z) (text_more ps qs) ∙ sym (append_assoc octets (text_in ps) (text_in qs))
+text_in-append : (ps qs : List Piece) → text_in (ps ++ qs) ≡ text_in ps ++ text_in qs
+text_in-append [] qs = refl
+text_in-append (paint p ∷ ps) qs = text_in-append ps qs
+text_in-append (part octets ∷ ps) qs =
+    ap (λ z. octets ++ z) (text_in-append ps qs) ∙ sym (append_assoc octets (text_in ps) (text_in qs))
 
 -- nothing was pushed
-pub paints_none : (a : List ℕ) → Paints [] a a
-paints_none a = record { pieces = []; text_is = refl; after_is = sym (append-nil a) }
+pub Paints-nil : (a : List ℕ) → Paints [] a a
+Paints-nil a = record { pieces = []; text_is = refl; after_is = sym (append-nil a) }
 
 -- one text and then another
-pub paints_then : (s t a b c : List ℕ) → Paints s a b → Paints t b c → Paints (s ++ t) a c
-paints_then s t a b c one next = record {
+pub Paints-append : (s t a b c : List ℕ) → Paints s a b → Paints t b c → Paints (s ++ t) a c
+Paints-append s t a b c one next = record {
   pieces = one.pieces ++ next.pieces;
   text_is =
-      text_more one.pieces next.pieces
+      text_in-append one.pieces next.pieces
       ∙ (ap (λ z. z ++ text_in next.pieces) one.text_is ∙ ap (λ z. s ++ z) next.text_is);
   after_is =
       next.after_is
@@ -31,28 +31,28 @@ paints_then s t a b c one next = record {
 }
 
 -- what a terminal obeys is no text
-pub paints_paint : (p : Paint) (a b : List ℕ) → b ≡ a ++ sequence p → Paints [] a b
-paints_paint p a b e = record {
+pub Paints-sequence : (p : Paint) (a b : List ℕ) → b ≡ a ++ sequence p → Paints [] a b
+Paints-sequence p a b e = record {
   pieces = paint p ∷ [];
   text_is = refl;
   after_is = e ∙ ap (λ z. a ++ z) (sym (append-nil (sequence p)));
 }
 
-pub same_text : (s t a b : List ℕ) → s ≡ t → Paints s a b → Paints t a b
-same_text s t a b e h = record { pieces = h.pieces; text_is = h.text_is ∙ e; after_is = h.after_is }
+pub Paints-equal_text : (s t a b : List ℕ) → s ≡ t → Paints s a b → Paints t a b
+Paints-equal_text s t a b e h = record { pieces = h.pieces; text_is = h.text_is ∙ e; after_is = h.after_is }
 
 -- a text as it is
-pub paints_part : (t a b : List ℕ) → b ≡ a ++ t → Paints t a b
-paints_part t a b e = record {
+pub Paints-part : (t a b : List ℕ) → b ≡ a ++ t → Paints t a b
+Paints-part t a b e = record {
   pieces = part t ∷ [];
   text_is = append-nil t;
   after_is = e ∙ ap (λ z. a ++ z) (sym (append-nil t));
 }
 
 -- a text in a color
-pub painted :
+pub Paints-in_color :
     (p : Paint) (t a b c d : List ℕ) → b ≡ a ++ sequence p → c ≡ b ++ t → d ≡ c ++ sequence Plain → Paints t a d
-painted p t a b c d e f g =
-    same_text (t ++ []) t a d (append-nil t)
-    (paints_then t [] a c d (paints_then [] t a b c (paints_paint p a b e) (paints_part t b c f))
-    (paints_paint Plain c d g))
+Paints-in_color p t a b c d e f g =
+    Paints-equal_text (t ++ []) t a d (append-nil t)
+    (Paints-append t [] a c d (Paints-append [] t a b c (Paints-sequence p a b e) (Paints-part t b c f))
+    (Paints-sequence Plain c d g))

@@ -56,7 +56,8 @@ pub data LeadsTo (depth : ℕ) (octets : List ℕ) (offset : ℕ) (around : ℕ)
       ends_contents depth octets ≡ false → BeginsWithHeader octets size announced class constructed tag →
       (HasIndefiniteForm octets → ⊥) → around ≡ 0 →
       Holds class constructed tag (take announced (drop size octets)) before others →
-      before + later < announced → offset ≡ size + (before + later) → LeadsTo depth octets offset around others later
+      before + later < announced → offset ≡ size + (before + later) →
+      LeadsTo depth octets offset around others later
   behind_indefinite :
       (size announced : ℕ) (class : ASN1Class) (constructed : Bool) (tag : ℕ) →
       ends_contents depth octets ≡ false → BeginsWithHeader octets size announced class constructed tag →
@@ -70,7 +71,8 @@ pub data Reaches : ℕ → List ℕ → ℕ → ℕ → List ℕ → Type 0 wher
       {depth : ℕ} {octets : List ℕ} {offset around : ℕ} {others : List ℕ} →
       offset ≡ 0 → around ≡ depth → others ≡ octets → Reaches depth octets offset around others
   is_further :
-      {depth : ℕ} {octets : List ℕ} {offset around : ℕ} {others : List ℕ} (inside : ℕ) (nearer : List ℕ) (later : ℕ) →
+      {depth : ℕ} {octets : List ℕ} {offset around : ℕ} {others : List ℕ}
+      (inside : ℕ) (nearer : List ℕ) (later : ℕ) →
       LeadsTo depth octets offset inside nearer later → Reaches inside nearer later around others →
       Reaches depth octets offset around others
 
@@ -97,6 +99,7 @@ IsWhyNone CutShort around others =
 IsWhyNone Nothing around others = ⊥
 
 abbrev pub LacksBlock : List ℕ → ℕ → NoBlock → Type 0
-LacksBlock octets offset Nothing = (around : ℕ) (others : List ℕ) → Reaches 0 octets offset around others → others ≡ []
+LacksBlock octets offset Nothing =
+    (around : ℕ) (others : List ℕ) → Reaches 0 octets offset around others → others ≡ []
 LacksBlock octets offset why =
     (around : ℕ) × (others : List ℕ) × Reaches 0 octets offset around others × IsWhyNone why around others

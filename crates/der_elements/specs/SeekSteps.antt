@@ -37,4 +37,5 @@ IsWhy octets Nothing = octets ≡ []
 abbrev pub Closes : ℕ → List ℕ → List ℕ → Type 0
 Closes zero octets after = octets ≡ after
 Closes (suc depth) octets after =
-    (contents more : List ℕ) × (octets ≡ contents ++ (0 ∷ 0 ∷ more)) × AreElements contents × Closes depth more after
+    (contents more : List ℕ) × (octets ≡ contents ++ (0 ∷ 0 ∷ more)) × AreElements contents
+    × Closes depth more after

@@ -19,8 +19,8 @@ no_segments tag = if tag == 3 then 0 ∷ [] else []
 -- at most 7, and 0 where it has no bits (8.6.2)
 abbrev pub JoinsBits : List ℕ → List ℕ → List ℕ → Type 0
 JoinsBits before segment after =
-    (bits more : List ℕ) × (unused : ℕ) × (before ≡ 0 ∷ bits) × (segment ≡ unused ∷ more) × (unused ≤ 7)
-    × (more ≡ [] → unused ≡ 0) × (after ≡ unused ∷ (bits ++ more))
+    (bits more : List ℕ) × (unused : ℕ) × (before ≡ 0 ∷ bits) × (segment ≡ unused ∷ more)
+    × (unused ≤ 7) × (more ≡ [] → unused ≡ 0) × (after ≡ unused ∷ (bits ++ more))
 
 -- contents octets of a string with the tag, and then with one segment more
 abbrev pub Joins : ℕ → List ℕ → List ℕ → List ℕ → Type 0

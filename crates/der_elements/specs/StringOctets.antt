@@ -18,7 +18,8 @@ is_string_tag tag =
 abbrev pub AreInOnePiece : List ℕ → Bool → ℕ → List ℕ → List ℕ → Type 0
 AreInOnePiece element false tag contents joined = joined ≡ contents
 AreInOnePiece element true tag contents joined =
-    (indefinite : Bool) × (IsTrue indefinite ↔ HasIndefiniteForm element) × AreSegmentsOf tag contents indefinite joined
+    (indefinite : Bool) × (IsTrue indefinite ↔ HasIndefiniteForm element)
+    × AreSegmentsOf tag contents indefinite joined
 
 -- the octets of a string, by its contents octets: those of a BIT STRING stand behind the number of unused bits, which
 -- is 7 at most, and 0 where there are no bits (X.690 8.6.2)

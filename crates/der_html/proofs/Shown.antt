@@ -32,28 +32,28 @@ octets_in-append (number n ∷ ps) qs = octets_in-append ps qs
 octets_in-append (text shown ∷ ps) qs = octets_in-append ps qs
 octets_in-append (octet b ∷ ps) qs = ap (λ z. b ∷ z) (octets_in-append ps qs)
 
-both : {A : Type 0} (a b c d : List A) → a ≡ c → b ≡ d → a ++ b ≡ c ++ d
-both a b c d e f = ap (λ z. z ++ b) e ∙ ap (λ z. c ++ z) f
+append-equal : {A : Type 0} (a b c d : List A) → a ≡ c → b ≡ d → a ++ b ≡ c ++ d
+append-equal a b c d e f = ap (λ z. z ++ b) e ∙ ap (λ z. c ++ z) f
 
 -- nothing was pushed
-pub shows_none : (a : List ℕ) → Shows [] [] [] a a
-shows_none a =
+pub Shows-nil : (a : List ℕ) → Shows [] [] [] a a
+Shows-nil a =
     record { pieces = []; faults_are = refl; text_is = refl; octets_are = refl; after_is = sym (append-nil a) }
 
 -- some pieces and then others
-pub shows_then :
+pub Shows-append :
     (fs gs : List Bool) (xs ys us vs a b c : List ℕ) → Shows fs xs us a b → Shows gs ys vs b c →
     Shows (fs ++ gs) (xs ++ ys) (us ++ vs) a c
-shows_then fs gs xs ys us vs a b c s t =
+Shows-append fs gs xs ys us vs a b c s t =
     record {
       pieces = s.pieces ++ t.pieces;
       faults_are =
           faults_in-append s.pieces t.pieces
-          ∙ both (faults_in s.pieces) (faults_in t.pieces) fs gs s.faults_are t.faults_are;
-      text_is = text_in-append s.pieces t.pieces ∙ both (text_in s.pieces) (text_in t.pieces) xs ys s.text_is t.text_is;
+          ∙ append-equal (faults_in s.pieces) (faults_in t.pieces) fs gs s.faults_are t.faults_are;
+      text_is = text_in-append s.pieces t.pieces ∙ append-equal (text_in s.pieces) (text_in t.pieces) xs ys s.text_is t.text_is;
       octets_are =
           octets_in-append s.pieces t.pieces
-          ∙ both (octets_in s.pieces) (octets_in t.pieces) us vs s.octets_are t.octets_are;
+          ∙ append-equal (octets_in s.pieces) (octets_in t.pieces) us vs s.octets_are t.octets_are;
       after_is =
           t.after_is
           ∙ (ap (λ z. z ++ flat_map written t.pieces) s.after_is
@@ -62,13 +62,13 @@ shows_then fs gs xs ys us vs a b c s t =
     }
 
 -- what shows nothing, and then more
-pub markup_then : (gs : List Bool) (ys vs a b c : List ℕ) → Shows [] [] [] a b → Shows gs ys vs b c → Shows gs ys vs a c
-markup_then gs ys vs a b c s t = shows_then [] gs [] ys [] vs a b c s t
+pub Shows-nil_append : (gs : List Bool) (ys vs a b c : List ℕ) → Shows [] [] [] a b → Shows gs ys vs b c → Shows gs ys vs a c
+Shows-nil_append gs ys vs a b c s t = Shows-append [] gs [] ys [] vs a b c s t
 
-pub same_shown :
+pub Shows-equal :
     (fs gs : List Bool) (xs ys us vs a b : List ℕ) → fs ≡ gs → xs ≡ ys → us ≡ vs → Shows fs xs us a b →
     Shows gs ys vs a b
-same_shown fs gs xs ys us vs a b d e f s =
+Shows-equal fs gs xs ys us vs a b d e f s =
     record {
       pieces = s.pieces;
       faults_are = s.faults_are ∙ d;
@@ -78,10 +78,10 @@ same_shown fs gs xs ys us vs a b d e f s =
     }
 
 -- something, and then what shows nothing
-pub then_markup : (fs : List Bool) (xs us a b c : List ℕ) → Shows fs xs us a b → Shows [] [] [] b c → Shows fs xs us a c
-then_markup fs xs us a b c s t =
-    same_shown (fs ++ []) fs (xs ++ []) xs (us ++ []) us a c (append-nil fs) (append-nil xs) (append-nil us)
-    (shows_then fs [] xs [] us [] a b c s t)
+pub Shows-append_nil : (fs : List Bool) (xs us a b c : List ℕ) → Shows fs xs us a b → Shows [] [] [] b c → Shows fs xs us a c
+Shows-append_nil fs xs us a b c s t =
+    Shows-equal (fs ++ []) fs (xs ++ []) xs (us ++ []) us a c (append-nil fs) (append-nil xs) (append-nil us)
+    (Shows-append fs [] xs [] us [] a b c s t)
 
 faults_in-map-octet : (os : List ℕ) → faults_in (map octet os) ≡ []
 faults_in-map-octet [] = refl
@@ -96,9 +96,9 @@ octets_in-map-octet [] = refl
 octets_in-map-octet (o ∷ os) = ap (λ z. o ∷ z) (octets_in-map-octet os)
 
 -- one piece, and one for each of the octets
-pub shows_markup :
+pub Shows-markup :
     (m : Markup) (a b : List ℕ) → b ≡ a ++ written (markup m) → Shows (element_faults m) (line_end m) [] a b
-shows_markup m a b e =
+Shows-markup m a b e =
     record {
       pieces = markup m ∷ [];
       faults_are = append-nil (element_faults m);
@@ -107,8 +107,8 @@ shows_markup m a b e =
       after_is = e ∙ ap (λ z. a ++ z) (sym (append-nil (written (markup m))));
     }
 
-pub shows_number : (n : ℕ) (a b : List ℕ) → b ≡ a ++ written (number n) → Shows [] [] [] a b
-shows_number n a b e =
+pub Shows-number : (n : ℕ) (a b : List ℕ) → b ≡ a ++ written (number n) → Shows [] [] [] a b
+Shows-number n a b e =
     record {
       pieces = number n ∷ [];
       faults_are = refl;
@@ -117,8 +117,8 @@ shows_number n a b e =
       after_is = e ∙ ap (λ z. a ++ z) (sym (append-nil (written (number n))));
     }
 
-pub shows_text : (shown a b : List ℕ) → b ≡ a ++ written (text shown) → Shows [] shown [] a b
-shows_text shown a b e =
+pub Shows-text : (shown a b : List ℕ) → b ≡ a ++ written (text shown) → Shows [] shown [] a b
+Shows-text shown a b e =
     record {
       pieces = text shown ∷ [];
       faults_are = refl;
@@ -127,8 +127,8 @@ shows_text shown a b e =
       after_is = e ∙ ap (λ z. a ++ z) (sym (append-nil (written (text shown))));
     }
 
-pub shows_octets : (os a b : List ℕ) → b ≡ a ++ flat_map hex_octet os → Shows [] [] os a b
-shows_octets os a b e =
+pub Shows-octets : (os a b : List ℕ) → b ≡ a ++ flat_map hex_octet os → Shows [] [] os a b
+Shows-octets os a b e =
     record {
       pieces = map octet os;
       faults_are = faults_in-map-octet os;
@@ -138,9 +138,9 @@ shows_octets os a b e =
     }
 
 -- behind another text it is the same
-pub shows_behind :
+pub Shows-behind :
     (fs : List Bool) (xs us a own : List ℕ) → Shows fs xs us [] own → Shows fs xs us a (a ++ own)
-shows_behind fs xs us a own s =
+Shows-behind fs xs us a own s =
     record {
       pieces = s.pieces;
       faults_are = s.faults_are;

@@ -9,8 +9,8 @@ use Rattle.der_elements.specs.StringOctets.{HoldsNoOctets, HoldsOctets}
 use Rattle.asn1_blocks.specs.Places.{IsEncoding}
 
 -- an encoding has a header
-behind_it : (octets : List ℕ) (e : IsEncoding octets) → StandsBehindHeader octets e.contents
-behind_it octets e =
+StandsBehindHeader-encoding : (octets : List ℕ) (e : IsEncoding octets) → StandsBehindHeader octets e.contents
+StandsBehindHeader-encoding octets e =
     let parts = e.encoding in (
       parts.identifier ++ parts.len,
       parts.whole ∙ sym (append_assoc parts.identifier parts.len e.contents),
@@ -24,21 +24,21 @@ behind_it octets e =
     )
 
 -- an element has contents octets
-pub has_contents : (octets : List ℕ) → IsElement octets → HasNoContents octets → ⊥
-has_contents octets (of_definite_form definite e) none =
-    none e.contents (of_definite_length definite (behind_it octets e))
-has_contents octets (of_indefinite_form contents standing inside) none = none contents (of_indefinite_length standing)
+pub IsElement-has_contents : (octets : List ℕ) → IsElement octets → HasNoContents octets → ⊥
+IsElement-has_contents octets (of_definite_form definite e) none =
+    none e.contents (of_definite_length definite (StandsBehindHeader-encoding octets e))
+IsElement-has_contents octets (of_indefinite_form contents standing inside) none = none contents (of_indefinite_length standing)
 
 -- a block is an element
-pub block_element : (n : ℕ) (input block : List ℕ) → IsBlockAt n input (Some block) → IsElement block
-block_element n input block (document, e, at) = at.element.is_element
+pub IsBlockAt-element : (n : ℕ) (input block : List ℕ) → IsBlockAt n input (Some block) → IsElement block
+IsBlockAt-element n input block (document, e, at) = at.element.is_element
 
 -- the octets that the string at an offset holds
-pub value_in :
+pub IsValueAt-block :
     (n : ℕ) (input block : List ℕ) (octets : Option (List ℕ)) → IsBlockAt n input (Some block) →
     MatchOption octets (HoldsNoOctets block) (HoldsOctets block) → IsValueAt n input octets
-value_in n input block (Some octets) at h = (block, at, h)
-value_in n input block None at h = inr (block, at, h)
+IsValueAt-block n input block (Some octets) at h = (block, at, h)
+IsValueAt-block n input block None at h = inr (block, at, h)
 
 -- what is so of a value is also otherwise
 pub if_ok : {A E : Type 0} {P Q : A → Type 0} (r : Result A E) → ((a : A) → P a → Q a) → IfOk r P → IfOk r Q

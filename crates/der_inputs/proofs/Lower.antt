@@ -14,23 +14,23 @@ use Rattle.der_rows.specs.Printing.{IsPrinted}
 use Rattle.der_rows.specs.declared.printer.Printer.{Printer}
 
 -- the line of a name
-pub title_printed :
+pub IsPrinted-title :
     {W : Type 0} (contents : W → Option (List ℕ)) (name other : List ℕ) (a b : Printer W) → other ≡ name →
     IsPrinted contents (IsLine (IsNote equals_sign (escaped other))) a b → IsPrinted contents (IsTitle name) a b
-title_printed contents name other a b e h = subst (λ z. IsPrinted contents (IsTitle z) a b) e h
+IsPrinted-title contents name other a b e h = subst (λ z. IsPrinted contents (IsTitle z) a b) e h
 
 -- JSON of octets, strictly or not
-pub read_pushed :
+pub IsWritten-json :
     (octets : List ℕ) (origin : Members) (right : Bool) (verdict : Verdict)
     (a b : Option (List ℕ)) →
     is_all_read verdict ≡ right →
     IsWritten (IsJsonOf octets origin right) a b → IsWritten (IsOctetsJson false octets origin verdict) a b
-read_pushed octets origin right verdict a b same h = subst (λ z. IsWritten (IsJsonOf octets origin z) a b) (sym same) h
+IsWritten-json octets origin right verdict a b same h = subst (λ z. IsWritten (IsJsonOf octets origin z) a b) (sym same) h
 
-pub strictly_pushed :
+pub IsWritten-strict_json :
     (octets : List ℕ) (origin : Members) (right : Bool) (verdict : Verdict)
     (a b : Option (List ℕ)) →
     is_all_read verdict ≡ right →
     IsWritten (IsStrictJsonOf octets origin right) a b → IsWritten (IsOctetsJson true octets origin verdict) a b
-strictly_pushed octets origin right verdict a b same h =
+IsWritten-strict_json octets origin right verdict a b same h =
     subst (λ z. IsWritten (IsStrictJsonOf octets origin z) a b) (sym same) h

@@ -6,56 +6,56 @@ use Rattle.std.proofs.lemmas.List.{drop-set-lt, map-append, take_more}
 use Rattle.std.proofs.lemmas.Grind.{take-set_at}
 use Rattle.std.proofs.Math.Seq.{drop-cons}
 use Rattle.der_io.specs.Output.{IsWritten}
-use Rattle.der_inputs.proofs.Texts.{one_more}
+use Rattle.der_inputs.proofs.Texts.{IsWritten-append_last}
 use Rattle.der_inputs.specs.Inputs.{AreReadToEnds, Input, IsReadToEnd}
 use Rattle.der_inputs.specs.Texts.{AreTexts}
 use Rattle.der_inputs.specs.declared.outcome.Outcome.{Outcome}
 
 -- one reader more
-one_more_read :
+AreReadToEnds-append_last :
     (came : List Outcome) (left : List (Option (List ℕ))) (last : Outcome) (its : Option (List ℕ)) →
     AreReadToEnds came left → IsReadToEnd last its → AreReadToEnds (came ++ last ∷ []) (left ++ its ∷ [])
-one_more_read [] [] last its h e = (e, tt)
-one_more_read (v ∷ vs) (x ∷ xs) last its (first, rest) e = (first, one_more_read vs xs last its rest e)
-one_more_read [] (x ∷ xs) last its h e = absurd h
-one_more_read (v ∷ vs) [] last its h e = absurd h
+AreReadToEnds-append_last [] [] last its h e = (e, tt)
+AreReadToEnds-append_last (v ∷ vs) (x ∷ xs) last its (first, rest) e = (first, AreReadToEnds-append_last vs xs last its rest e)
+AreReadToEnds-append_last [] (x ∷ xs) last its h e = absurd h
+AreReadToEnds-append_last (v ∷ vs) [] last its h e = absurd h
 
-pushed :
+append-pushed :
     {T E : Type 0} (r : Result T E) (was now : List Outcome) (last : Outcome) → is_err r ≡ false →
     now ≡ (if is_ok r then was ++ last ∷ [] else was) → now ≡ was ++ last ∷ []
-pushed (Ok x) was now last e p = p
-pushed (Err x) was now last e p = absurd (cc e)
+append-pushed (Ok x) was now last e p = p
+append-pushed (Err x) was now last e p = absurd (cc e)
 
 -- a loop has come to the source at a place: those from there on are as they were
 module _ {S T E : Type 0} (i : ℕ) (all now : List S) (l : i < length all) (n : length now ≡ length all)
     (left : drop i now ≡ drop i all) (r : Result T E) (were are : List Outcome) (last : Outcome)
     (e : is_err r ≡ false) (p : are ≡ (if is_ok r then were ++ last ∷ [] else were)) where
-  from_here : (d : S) → get_or now i d ∷ drop (i + 1) now ≡ get_or all i d ∷ drop (i + 1) all
-  from_here d =
+  cons-get_or_drop : (d : S) → get_or now i d ∷ drop (i + 1) now ≡ get_or all i d ∷ drop (i + 1) all
+  cons-get_or_drop d =
       let m : i < length now = omega arith in
       let next : i + 1 ≡ suc i = omega arith in
       rw next (sym (drop-cons now i d m) ∙ left ∙ drop-cons all i d l)
 
-  here : (d : S) → get_or now i d ≡ get_or all i d
-  here d = let both = from_here d in cc
+  get_or-not_come_to : (d : S) → get_or now i d ≡ get_or all i d
+  get_or-not_come_to d = let both = cons-get_or_drop d in cc
 
-  pub left_later : (y : S) → drop (i + 1) (set now i y) ≡ drop (i + 1) all
-  left_later y = drop-set-lt (i + 1) now i y (omega arith) ∙ (let both = from_here y in cc)
+  pub drop-set_next : (y : S) → drop (i + 1) (set now i y) ≡ drop (i + 1) all
+  drop-set_next y = drop-set-lt (i + 1) now i y (omega arith) ∙ (let both = cons-get_or_drop y in cc)
 
-  pub one_put :
+  pub IsWritten-next_source :
       (Is : Input → Outcome → List ℕ → Type 0) (input : S → Input) (d : S) (a b c : Option (List ℕ)) →
       IsWritten (AreTexts Is (map input (take i all)) were) a b → IsWritten (Is (input (get_or now i d)) last) b c →
       IsWritten (AreTexts Is (map input (take (i + 1) all)) are) a c
-  one_put Is input d a b c earlier one =
+  IsWritten-next_source Is input d a b c earlier one =
       let more = map-append input (take i all) (get_or all i d ∷ []) in
-      rw (take_more all i d l, more, ← here d, pushed r were are last e p)
-      (one_more Is (map input (take i all)) were (input (get_or now i d)) last a b c earlier one)
+      rw (take_more all i d l, more, ← get_or-not_come_to d, append-pushed r were are last e p)
+      (IsWritten-append_last Is (map input (take i all)) were (input (get_or now i d)) last a b c earlier one)
 
-  pub one_read :
+  pub AreReadToEnds-next_source :
       (rest : S → Option (List ℕ)) (y : S) → AreReadToEnds were (map rest (take i now)) → IsReadToEnd last (rest y) →
       AreReadToEnds are (map rest (take (i + 1) (set now i y)))
-  one_read rest y earlier one =
+  AreReadToEnds-next_source rest y earlier one =
       let m : i < length now = omega arith in
       let more = map-append rest (take i now) (y ∷ []) in
-      rw (take-set_at now i (i + 1) y refl m, more, pushed r were are last e p)
-      (one_more_read were (map rest (take i now)) last (rest y) earlier one)
+      rw (take-set_at now i (i + 1) y refl m, more, append-pushed r were are last e p)
+      (AreReadToEnds-append_last were (map rest (take i now)) last (rest y) earlier one)

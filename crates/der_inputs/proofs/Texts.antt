@@ -13,34 +13,34 @@ use Rattle.der_inputs.specs.declared.show.Form.{Form}
 use Rattle.der_inputs.specs.declared.show.Form.TheVariants.{Accounts, Json, Lines, Page}
 use Rattle.der_inputs.specs.Outcomes.{all_read, both_read}
 use Rattle.der_inputs.specs.Texts.{AreTexts}
-use Rattle.der_io.proofs.Written.{written_both}
+use Rattle.der_io.proofs.Written.{IsWritten-append}
 use Rattle.der_lines.specs.declared.document.Verdict.{Verdict}
 use Rattle.der_lines.specs.declared.document.Verdict.TheVariants.{AllRead}
 
 module _ {A B : Type 0} (Is : A → B → List ℕ → Type 0) where
   -- the text of one more
-  one_text_more :
+  AreTexts-append_last :
       (xs : List A) (came : List B) (x : A) (last : B) (text own : List ℕ) → AreTexts Is xs came text → Is x last own →
       AreTexts Is (xs ++ x ∷ []) (came ++ last ∷ []) (text ++ own)
-  one_text_more [] [] x last text own e is = (own, [], ap (λ z. z ++ own) e ∙ sym (append-nil own), is, refl)
-  one_text_more (y ∷ ys) (v ∷ vs) x last text own (first, rest, e, h, later) is = (
+  AreTexts-append_last [] [] x last text own e is = (own, [], ap (λ z. z ++ own) e ∙ sym (append-nil own), is, refl)
+  AreTexts-append_last (y ∷ ys) (v ∷ vs) x last text own (first, rest, e, h, later) is = (
     first,
     rest ++ own,
     ap (λ z. z ++ own) e ∙ append_assoc first rest own,
     h,
-    one_text_more ys vs x last rest own later is,
+    AreTexts-append_last ys vs x last rest own later is,
   )
-  one_text_more [] (v ∷ vs) x last text own h is = absurd h
-  one_text_more (y ∷ ys) [] x last text own h is = absurd h
+  AreTexts-append_last [] (v ∷ vs) x last text own h is = absurd h
+  AreTexts-append_last (y ∷ ys) [] x last text own h is = absurd h
 
-  pub one_more :
+  pub IsWritten-append_last :
       (xs : List A) (came : List B) (x : A) (last : B) (a b c : Option (List ℕ)) →
       IsWritten (AreTexts Is xs came) a b →
       IsWritten (Is x last) b c → IsWritten (AreTexts Is (xs ++ x ∷ []) (came ++ last ∷ [])) a c
-  one_more xs came x last a b c = written_both _ _ _ a b c (one_text_more xs came x last)
+  IsWritten-append_last xs came x last a b c = IsWritten-append _ _ _ a b c (AreTexts-append_last xs came x last)
 
 -- the text of one more of what is found
-pub shown_more :
+pub IsWritten-next_finding :
     {F : Type 0} (Is : Finding → Verdict → List ℕ → Type 0) (f : F → Finding) (all : List F) (i : ℕ) (x : F)
     (read one both : Verdict) (a b c : Option (List ℕ)) → i < length all → x ≡ get_or all i x → both ≡ both_read read
     one →
@@ -49,35 +49,35 @@ pub shown_more :
     IsWritten (Is (f x) one) b c →
     (verdicts : List Verdict) × (both ≡ all_read verdicts)
     × IsWritten (AreTexts Is (map f (take (i + 1) all)) verdicts) a c
-shown_more Is f all i x read one both a b c l at is (verdicts, e, earlier) last =
+IsWritten-next_finding Is f all i x read one both a b c l at is (verdicts, e, earlier) last =
     let more = map-append f (take i all) (x ∷ []) in (
       verdicts ++ one ∷ [],
       is ∙ (ap (λ z. both_read z one) e ∙ sym (fold-append both_read AllRead verdicts (one ∷ []))),
-      rw (take_more all i x l, ← at, more) (one_more Is (map f (take i all)) verdicts (f x) one a b c earlier last),
+      rw (take_more all i x l, ← at, more) (IsWritten-append_last Is (map f (take i all)) verdicts (f x) one a b c earlier last),
     )
 
 -- what one more object has
 module _ {X Y : Type 0} (h : X → List Y) (old all : List Y) (left : List X) (earlier : old ++ flat_map h left ≡ all)
   where
-    pub found_more :
+    pub append-next_object :
         (x : X) (later : List X) (new : List Y) → left ≡ x ∷ later → new ≡ old ++ h x → new ++ flat_map h later ≡ all
-    found_more x later new e f =
+    append-next_object x later new e f =
         ap (λ z. z ++ flat_map h later) f
         ∙ (append_assoc old (h x) (flat_map h later)
         ∙ (ap (λ z. old ++ z) (sym (flat_map-cons h x later)) ∙ (ap (λ z. old ++ flat_map h z) (sym e) ∙ earlier)))
 
-    pub all_found : left ≡ [] → old ≡ all
-    all_found e = sym (append-nil old) ∙ (ap (λ z. old ++ flat_map h z) (sym e) ∙ earlier)
+    pub append-none_left : left ≡ [] → old ≡ all
+    append-none_left e = sym (append-nil old) ∙ (ap (λ z. old ++ flat_map h z) (sym e) ∙ earlier)
 
-alone : (texts first last : List ℕ) → first ≡ [] → last ≡ [] → first ++ (texts ++ last) ≡ texts
-alone texts first last begun ended =
+append-unframed : (texts first last : List ℕ) → first ≡ [] → last ≡ [] → first ++ (texts ++ last) ≡ texts
+append-unframed texts first last begun ended =
     ap (λ z. z ++ (texts ++ last)) begun ∙ (ap (λ z. texts ++ z) ended ∙ append-nil texts)
 
 -- texts between what stands before and behind them
-pub framed :
+pub IsFramed-append :
     (form : Form) (texts first last : List ℕ) → IsFrameOf form first → IsFrameOf form last →
     IsFramed form texts (first ++ (texts ++ last))
-framed Page texts first last begun ended = (first, last, refl)
-framed Lines texts first last begun ended = alone texts first last begun ended
-framed Json texts first last begun ended = alone texts first last begun ended
-framed Accounts texts first last begun ended = alone texts first last begun ended
+IsFramed-append Page texts first last begun ended = (first, last, refl)
+IsFramed-append Lines texts first last begun ended = append-unframed texts first last begun ended
+IsFramed-append Json texts first last begun ended = append-unframed texts first last begun ended
+IsFramed-append Accounts texts first last begun ended = append-unframed texts first last begun ended

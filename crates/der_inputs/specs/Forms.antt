@@ -61,12 +61,15 @@ IsSection strict most finding verdict text =
 -- the account of octets: lines, in which each character is shown. Strictly, all is read only if the octets are DER.
 -- Where there are no octets, the line `!` says why in words
 abbrev pub IsAccount : Bool → Option (List ℕ) → Verdict → List ℕ → Type 0
-IsAccount strict (Some octets) verdict text = AreLines text × (verdict ≡ AllRead → strict ≡ true → IsDer octets)
-IsAccount strict None verdict text = (why line : List ℕ) × IsRefusal why verdict line × IsShown false line text
+IsAccount strict (Some octets) verdict text =
+    AreLines text × (verdict ≡ AllRead → strict ≡ true → IsDer octets)
+IsAccount strict None verdict text =
+    (why line : List ℕ) × IsRefusal why verdict line × IsShown false line text
 
 -- what is written in this form of a finding in the file of this name, if it is told: as JSON, which has all blocks, on
 -- a page, as an account, or as lines, with colors or not
-abbrev pub IsText : Form → Bool → Bool → Option ℕ → Option (List ℕ) → Finding → Verdict → List ℕ → Type 0
+abbrev pub IsText :
+    Form → Bool → Bool → Option ℕ → Option (List ℕ) → Finding → Verdict → List ℕ → Type 0
 IsText Lines colored strict most file = IsLines colored strict most
 IsText Json colored strict most file = IsJson strict file
 IsText Page colored strict most file = IsSection strict most
@@ -77,7 +80,8 @@ abbrev pub IsTitleLine : Bool → List ℕ → List ℕ → Type 0
 IsTitleLine colored name text = (line : List ℕ) × IsTitle name line × IsShown colored line text
 
 abbrev pub IsTitleSection : List ℕ → List ℕ → Type 0
-IsTitleSection name text = (line : List ℕ) × (faults : List Bool) × IsTitle name line × Shows faults line [] [] text
+IsTitleSection name text =
+    (line : List ℕ) × (faults : List Bool) × IsTitle name line × Shows faults line [] [] text
 
 -- the name above dumps in a form: JSON tells it in each line
 abbrev pub IsName : Form → Bool → List ℕ → List ℕ → Type 0

@@ -23,7 +23,8 @@ impl Show {
         found: &Found,
         printer: &mut Printer<W>,
     ) -> Result<Verdict, StreamFault>
-        ensures { IfOk result (λ verdict. IsWritten (IsAccount self.now.is_strict (finding_in found.now).octets verdict)
+        ensures { IfOk result (λ verdict. IsWritten
+            (IsAccount self.now.is_strict (finding_in found.now).octets verdict)
             (W.contents printer.old.out) (W.contents printer.new.out)) }
     {
         match &found.octets {

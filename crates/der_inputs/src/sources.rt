@@ -91,7 +91,7 @@ fn run_on<B: Before, R: Read + Drop, W: Write>(
         writer: w,
         since: PhantomData,
     };
-    let mut printer = Printer::behind(alloc, Look::Plain, out);
+    let mut printer = Printer::new(alloc, Look::Plain, out);
     let came = write_all_of(&show, sources, &mut printer);
     let Appended { writer, since: _ } = printer.into_writer();
     (came, writer)

@@ -5,9 +5,9 @@ use Rattle.std.proofs.KnownBytes.{Appends-trans}
 use Rattle.der_io.specs.Output.{IsWritten}
 
 -- one text and then another
-pub written_both :
+pub IsWritten-append :
     (Is Later Other : List ℕ → Type 0) (a b c : Option (List ℕ)) →
     ((text more : List ℕ) → Is text → Later more → Other (text ++ more)) → IsWritten Is a b → IsWritten Later b c →
     IsWritten Other a c
-written_both Is Later Other a b c turn (text, first, is) (more, next, later) =
+IsWritten-append Is Later Other a b c turn (text, first, is) (more, next, later) =
     (text ++ more, Appends-trans a b c text more first next, turn text more is later)

@@ -12,7 +12,7 @@ use Rattle.der_lines.specs.declared.encodings.Found.{Found}
 use Rattle.der_lines.specs.declared.encodings.Marked.{Marked}
 use Rattle.der_pieces.specs.declared.faults.Fault.{Fault}
 use Rattle.der_pieces.specs.declared.place.Place.{Place}
-use Rattle.der_rows.proofs.Printed.{printed_both}
+use Rattle.der_rows.proofs.Printed.{IsPrinted-append}
 use Rattle.der_rows.specs.Printing.{IsPrinted}
 use Rattle.der_rows.specs.declared.printer.Printer.{Printer}
 use Rattle.der_lines.proofs.Dumps.{fault_line, fault_lines_join}
@@ -98,11 +98,11 @@ pub some_put :
     IfOk verdict (λ v. IsPrinted contents (IsDumpOfSome strict most octets v) a d)
 some_put contents place strict octets most found marks a b c d (Err e) i z m these put lines last = last
 some_put contents place strict octets most found marks a b c d (Ok v) i z m these put lines last =
-    printed_both contents _ _ (IsDumpOfSome strict most octets v) a b d
+    IsPrinted-append contents _ _ (IsDumpOfSome strict most octets v) a b d
     (λ x rest dump (y, w, is, are, end). some_text place strict octets most found marks x y w rest v i z m these dump is
     are end)
     put
-    (printed_both contents _ _
+    (IsPrinted-append contents _ _
     (λ rest. (y w : List ℕ) × (rest ≡ y ++ w) × AreFaultLines (mark_offsets marks) y
     × IsLast found.fault (mark_offsets marks) v w) b c d (λ y w are end. (y, w, refl, are, end)) lines last)
 

@@ -11,10 +11,10 @@ use Rattle.der_lines.specs.Dump.{StandsInside, block_line, down_to, inside_line,
 use Rattle.der_pieces.specs.Marks.{Told, told_rules}
 use Rattle.der_lines.specs.MarkText.{mark_text, words_text}
 use Rattle.der_lines.specs.Steps.{IsLineOf, IsLineUnless, outer}
-use Rattle.der_rows.proofs.OneLine.{one_line_both, one_line_made}
-use Rattle.der_rows.proofs.Printed.{prints_none}
+use Rattle.der_rows.proofs.OneLine.{IsOneLine-append, IsOneLine-on_one_line}
+use Rattle.der_rows.proofs.Printed.{Prints-nil}
 use Rattle.der_rows.specs.Printing.{IsPrintedAs, Prints}
-use Rattle.der_rows.specs.Rows.{contents_column, fault_words, indentation, on_one_line, right_of, row_line}
+use Rattle.der_rows.specs.Rows.{contents_column, fault_message, indentation, on_one_line, right_of, row_line}
 use Rattle.der_rows.specs.declared.printer.Printer.{Printer}
 use Rattle.der_rows.specs.declared.row.Row.{Row}
 
@@ -50,7 +50,7 @@ pub nothing_deep :
     {W : Type 0} (contents : W → Option (List ℕ)) (deep inside : Bool) (f : Front) (faults : List Bool)
     (a : Printer W) →
     deep ≡ true → IsPrintedAs contents (if deep then [] else faults) (IsLineUnless deep inside f) a a
-nothing_deep contents true inside f faults a e = ([], prints_none contents a, refl)
+nothing_deep contents true inside f faults a e = ([], Prints-nil contents a, refl)
 nothing_deep contents false inside f faults a e = absurd (cc e)
 
 pub row_printed :
@@ -102,19 +102,19 @@ outer_none false most = refl
 abbrev row_rest : Row → List ℕ
 row_rest row =
     32 ∷ [] ++ (right_of 2 row.header ++ (32 ∷ [] ++ (contents_column row.is_indefinite row.contents
-    ++ (32 ∷ 32 ∷ [] ++ (indentation row.depth ++ (on_one_line row.field.now ++ (on_one_line row.words.now
-    ++ (on_one_line row.value.now ++ (on_one_line (fault_words row) ++ on_one_line row.mark.now)))))))))
+    ++ (32 ∷ 32 ∷ [] ++ (indentation row.depth ++ (on_one_line row.field.now ++ (on_one_line row.type_name.now
+    ++ (on_one_line row.value.now ++ (on_one_line (fault_message row) ++ on_one_line row.mark.now)))))))))
 
 -- the line of a row
 row_block :
     (row : Row) (f : Front) → row.offset ≡ f.offset → row.header ≡ f.header → row.contents ≡ f.contents →
-    row.is_indefinite ≡ f.indefinite → row.depth ≡ f.depth → on_one_line row.words.now ≡ f.words →
+    row.is_indefinite ≡ f.indefinite → row.depth ≡ f.depth → on_one_line row.type_name.now ≡ f.words →
     on_one_line row.mark.now ≡ mark_text (told_rules f.rules f.has_spare_bits) → (width : ℕ) (line : List ℕ) →
     line ≡ right_of width row.offset ++ row_rest row → IsBlockLine f line
 row_block row f o h c i d w m width line is =
     let field = on_one_line row.field.now in
     let value = on_one_line row.value.now in
-    let fault = on_one_line (fault_words row) in
+    let fault = on_one_line (fault_message row) in
     let same : line ≡
     replicate (width - length (decimal f.offset)) 32
     ++ (decimal f.offset ++ (32 ∷ [] ++ (right_of 2 f.header ++ (32 ∷ []
@@ -127,15 +127,15 @@ row_block row f o h c i d w m width line is =
       said = value ++ fault;
       mark = on_one_line row.mark.now;
       line_is = same;
-      one_field = one_line_made row.field.now;
-      one = one_line_both value fault (one_line_made row.value.now) (one_line_made (fault_words row));
+      one_field = IsOneLine-on_one_line row.field.now;
+      one = IsOneLine-append value fault (IsOneLine-on_one_line row.value.now) (IsOneLine-on_one_line (fault_message row));
       mark_is = m;
     }
 
 pub row_line_of :
     (inside : Bool) (row : Row) (f : Front) → row.is_inside ≡ inside → row.offset ≡ f.offset → row.header ≡ f.header →
     row.contents ≡ f.contents → row.is_indefinite ≡ f.indefinite → row.depth ≡ f.depth →
-    on_one_line row.words.now ≡ f.words →
+    on_one_line row.type_name.now ≡ f.words →
     on_one_line row.mark.now ≡ mark_text (told_rules f.rules f.has_spare_bits) → IsLineOf inside f (row_line row)
 row_line_of true row f q o h c i d w m =
     let shown = right_of 6 row.offset ++ row_rest row in

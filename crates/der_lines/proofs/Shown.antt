@@ -15,7 +15,7 @@ use Rattle.der_pieces.specs.Marks.{spare_told, told_rules}
 use Rattle.der_pieces.specs.Pieces.{kind_words}
 use Rattle.der_pieces.specs.declared.piece.Kind.{Kind}
 use Rattle.der_pieces.specs.declared.piece.Kind.TheVariants.{Cut, EndOfContents, Leaf, Opened, Unreadable}
-use Rattle.der_rows.proofs.OneLine.{one_line_both, one_line_decimal, one_line_either}
+use Rattle.der_rows.proofs.OneLine.{IsOneLine-append, IsOneLine-decimal, IsOneLine-if}
 use Rattle.der_rows.specs.Rows.{IsOneLine, is_shown}
 
 rule_shown : (rule : Rule) → IsOneLine (text_of rule)
@@ -53,11 +53,11 @@ separator_shown false = refl
 
 words_shown : (later : Bool) (rules : List Rule) (spare : Bool) → IsOneLine (words_text later (told_rules rules spare))
 words_shown later [] false = refl
-words_shown later [] true = one_line_both (separator later) (spare_told.words ++ []) (separator_shown later) refl
+words_shown later [] true = IsOneLine-append (separator later) (spare_told.words ++ []) (separator_shown later) refl
 words_shown later (rule ∷ rules) spare =
     let more = words_text true (told_rules rules spare) in
-    one_line_both (separator later) (text_of rule ++ more) (separator_shown later)
-    (one_line_both (text_of rule) more (rule_shown rule) (words_shown true rules spare))
+    IsOneLine-append (separator later) (text_of rule ++ more) (separator_shown later)
+    (IsOneLine-append (text_of rule) more (rule_shown rule) (words_shown true rules spare))
 
 -- a mark
 pub mark_shown : (rules : List Rule) (spare : Bool) → IsOneLine (mark_text (told_rules rules spare))
@@ -65,8 +65,8 @@ mark_shown [] false = refl
 mark_shown [] true = refl
 mark_shown (rule ∷ rules) spare =
     let words = words_text false (told_rules (rule ∷ rules) spare) in
-    one_line_both (codes " (not DER: ") (words ++ codes ")") refl
-    (one_line_both words (codes ")") (words_shown false (rule ∷ rules) spare) refl)
+    IsOneLine-append (codes " (not DER: ") (words ++ codes ")") refl
+    (IsOneLine-append words (codes ")") (words_shown false (rule ∷ rules) spare) refl)
 
 -- a name, if there is one
 abbrev is_shown_name : Option (List ℕ) → Bool
@@ -86,12 +86,12 @@ name_or (Some name) other some one = some
 
 number_shown : (tag : ℕ) → IsOneLine (tag_number tag)
 number_shown tag =
-    one_line_either (nat_lt tag (2 ^ 128)) (decimal tag) (codes "beyond 2^128") (one_line_decimal tag) refl
+    IsOneLine-if (nat_lt tag (2 ^ 128)) (decimal tag) (codes "beyond 2^128") (IsOneLine-decimal tag) refl
 
 numbered : (front : List ℕ) (tag : ℕ) → IsOneLine front → IsOneLine (front ++ (tag_number tag ++ codes "]"))
 numbered front tag one =
-    one_line_both front (tag_number tag ++ codes "]") one
-    (one_line_both (tag_number tag) (codes "]") (number_shown tag) refl)
+    IsOneLine-append front (tag_number tag ++ codes "]") one
+    (IsOneLine-append (tag_number tag) (codes "]") (number_shown tag) refl)
 
 tag_shown : (class : ASN1Class) (tag : ℕ) → IsOneLine (tag_words class tag)
 tag_shown Universal tag =

@@ -147,7 +147,7 @@ fn push_row<W: Write>(
         is_inside: place.is_inside,
         has_rows_inside: has_rows_inside(piece),
         field: &shown.field,
-        words,
+        type_name: words,
         value: &shown.value,
         fault: shown.fault.as_deref(),
         mark: &mark,

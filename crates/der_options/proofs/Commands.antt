@@ -4,23 +4,23 @@ use Rattle.clap.specs.Words.{App, Row, Text, fault_of, is_simple, is_simple_and_
 use Rattle.der_options.specs.Options.{command}
 
 -- clap states the matches of the command exactly, and the kinds of its faults
-pub is_plain : is_simple command ≡ true
+pub is_simple-command : is_simple command ≡ true
 unfolding command
-is_plain = refl
+is_simple-command = refl
 
-pub is_free : is_simple_and_free command ≡ true
+pub is_simple_and_free-command : is_simple_and_free command ≡ true
 unfolding command
-is_free = refl
+is_simple_and_free-command = refl
 
 module _ (a : App) (words : List Text) (e : a ≡ command) where
-  pub matched : (rows : List Row) → rows ≡ matches_of a words → rows ≡ matches_of command words
-  matched rows h = h ∙ ap (λ x. matches_of x words) e
+  pub matches_of-equal : (rows : List Row) → rows ≡ matches_of a words → rows ≡ matches_of command words
+  matches_of-equal rows h = h ∙ ap (λ x. matches_of x words) e
 
-  pub faults : fault_of command words ≡ fault_of a words
-  faults = sym (ap (λ x. fault_of x words) e)
+  pub fault_of-equal : fault_of command words ≡ fault_of a words
+  fault_of-equal = sym (ap (λ x. fault_of x words) e)
 
-  pub simple : is_simple a ≡ true
-  simple = ap is_simple e ∙ is_plain
+  pub is_simple-equal : is_simple a ≡ true
+  is_simple-equal = ap is_simple e ∙ is_simple-command
 
-  pub free : is_simple_and_free a ≡ true
-  free = ap is_simple_and_free e ∙ is_free
+  pub is_simple_and_free-equal : is_simple_and_free a ≡ true
+  is_simple_and_free-equal = ap is_simple_and_free e ∙ is_simple_and_free-command

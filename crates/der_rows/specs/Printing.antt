@@ -23,7 +23,8 @@ Prints contents faults text old new =
 
 -- a text of some kind was printed, on a page in elements of which these are of the class of what is wrong
 abbrev pub IsPrintedAs :
-    {W : Type 0} → (W → Option (List ℕ)) → List Bool → (List ℕ → Type 0) → Printer W → Printer W → Type 0
+    {W : Type 0} → (W → Option (List ℕ)) → List Bool → (List ℕ → Type 0) → Printer W → Printer W →
+    Type 0
 IsPrintedAs contents faults Is old new = (text : List ℕ) × Prints contents faults text old new × Is text
 
 -- a text of some kind was printed, on a page in some elements

@@ -45,15 +45,15 @@ columns_text row =
     offset_column row.is_inside row.offset ++ (space ∷ [] ++ (right_of 2 row.header ++ (space ∷ []
     ++ (contents_column row.is_indefinite row.contents ++ (space ∷ space ∷ [] ++ indentation row.depth)))))
 
--- what is wrong with it in words, if anything is
-abbrev pub fault_words : Row → List ℕ
-fault_words row = unwrap_or (option_map (λ words. words.now) row.fault) []
+-- the message of what is wrong with a row; nothing where nothing is wrong
+abbrev pub fault_message : Row → List ℕ
+fault_message row = unwrap_or (option_map (λ message. message.now) row.fault) []
 
 -- the line of a row: its columns, its field, its type, its value, what is wrong with it, and what of DER it breaks
 abbrev pub row_line : Row → List ℕ
 row_line row =
-    columns_text row ++ (on_one_line row.field.now ++ (on_one_line row.words.now
-    ++ (on_one_line row.value.now ++ (on_one_line (fault_words row) ++ on_one_line row.mark.now))))
+    columns_text row ++ (on_one_line row.field.now ++ (on_one_line row.type_name.now
+    ++ (on_one_line row.value.now ++ (on_one_line (fault_message row) ++ on_one_line row.mark.now))))
 
 -- the octet that the line of a note begins with
 abbrev pub note_mark : NoteKind → ℕ
@@ -64,12 +64,12 @@ note_mark Error = exclamation_mark
 abbrev pub note_line : NoteKind → List ℕ → List ℕ
 note_line kind text = note_mark kind ∷ space ∷ on_one_line text
 
--- it says that something is wrong
+-- a note of this kind says that something is wrong
 abbrev pub is_error : NoteKind → Bool
 is_error Title = false
 is_error Error = true
 
--- the line of a fault at an offset, in words
+-- the line of a fault: its offset, and the message
 abbrev pub fault_line : ℕ → List ℕ → List ℕ
-fault_line offset words =
-    codes "! error at offset " ++ (decimal offset ++ (colon ∷ [] ++ (space ∷ [] ++ on_one_line words)))
+fault_line offset message =
+    codes "! error at offset " ++ (decimal offset ++ (colon ∷ [] ++ (space ∷ [] ++ on_one_line message)))

@@ -35,7 +35,7 @@ pub fn push_on_one_line(text: &[u8], out: &mut Vec<u8>) -> Result<(), AllocError
     ensures { OnOk result (out.new.items ≡ out.old.items ++ on_one_line text.now) }
 {
     for b in text {
-        out.push(plain(*b))?;
+        out.push(shown_or_space(*b))?;
     }
     Ok(())
 }
@@ -47,7 +47,7 @@ pub fn is_one_line(text: &[u8]) -> bool
     text.iter().all(|b| is_shown(*b))
 }
 
-fn plain(b: u8) -> u8
+fn shown_or_space(b: u8) -> u8
     ensures { result ≡ (if is_shown_is b then b else 32) }
 {
     if is_shown(b) { b } else { b' ' }

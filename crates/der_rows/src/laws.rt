@@ -9,5 +9,5 @@ ghost use Rattle.der_rows.specs.declared.row.Row.{Row};
 pub fn law_one_line()
     ensures row { (row : Row) → IsOneLine (row_line row) }
     ensures note { (kind : NoteKind) (text : List ℕ) → IsOneLine (note_line kind text) }
-    ensures fault { (offset : ℕ) (words : List ℕ) → IsOneLine (fault_line offset words) }
+    ensures fault { (offset : ℕ) (message : List ℕ) → IsOneLine (fault_line offset message) }
 {}

@@ -1,7 +1,7 @@
 // Lines of rows and of notes, in a look.
 ghost use Rattle.std.specs.Prelude.{◌≡◌, ◌∷◌, ◌++◌, [], OnOk};
 ghost use Rattle.der_rows.specs.Printing.{Pushes};
-ghost use Rattle.der_rows.specs.Rows.{columns_text, fault_line, fault_words, is_error as is_error_is, note_line, note_mark};
+ghost use Rattle.der_rows.specs.Rows.{columns_text, fault_line, fault_message, is_error as is_error_is, note_line, note_mark};
 ghost use Rattle.der_rows.specs.Rows.{on_one_line, row_line};
 
 use crate::columns::{is_one_line, push_columns, push_on_one_line};
@@ -31,11 +31,11 @@ pub fn push_row_line(
     ensures { OnOk result (Pushes look [] (row_line row.now) out.old.items out.new.items) }
 {
     push_columns_in(alloc, look, row, out)?;
-    push_words(alloc, look, Paint::Bold, row.field.as_bytes(), out)?;
-    push_words(alloc, look, Paint::Cyan, row.words.as_bytes(), out)?;
-    push_words(alloc, look, Paint::Plain, row.value.as_bytes(), out)?;
-    push_fault_words(alloc, look, row, out)?;
-    push_words(alloc, look, Paint::Red, row.mark, out)?;
+    push_part_on_one_line(alloc, look, Paint::Bold, row.field.as_bytes(), out)?;
+    push_part_on_one_line(alloc, look, Paint::Cyan, row.type_name.as_bytes(), out)?;
+    push_part_on_one_line(alloc, look, Paint::Plain, row.value.as_bytes(), out)?;
+    push_fault_message(alloc, look, row, out)?;
+    push_part_on_one_line(alloc, look, Paint::Red, row.mark, out)?;
     Ok(())
 }
 
@@ -58,22 +58,22 @@ fn push_columns_in(
 }
 
 // Pushes what is wrong, if anything is.
-fn push_fault_words(
+fn push_fault_message(
     alloc: Global,
     look: Look,
     row: &Row<'_>,
     out: &mut Vec<u8>,
 ) -> Result<(), AllocError>
-    ensures { OnOk result (Pushes look [] (on_one_line (fault_words row.now)) out.old.items out.new.items) }
+    ensures { OnOk result (Pushes look [] (on_one_line (fault_message row.now)) out.old.items out.new.items) }
 {
     match row.fault {
-        Some(words) => push_words(alloc, look, Paint::Red, words.as_bytes(), out),
+        Some(message) => push_part_on_one_line(alloc, look, Paint::Red, message.as_bytes(), out),
         None => push_part(look, Paint::Red, b"", out),
     }
 }
 
 // Pushes text with a space in the place of each control character.
-fn push_words(
+fn push_part_on_one_line(
     alloc: Global,
     look: Look,
     paint: Paint,
@@ -123,15 +123,15 @@ pub fn push_note_line(kind: NoteKind, text: &[u8], out: &mut Vec<u8>) -> Result<
 }
 
 // Pushes the line of a fault, without its end.
-pub fn push_fault_line(offset: usize, words: &[u8], out: &mut Vec<u8>) -> Result<(), AllocError>
-    ensures { OnOk result (out.new.items ≡ out.old.items ++ fault_line offset words.now) }
+pub fn push_fault_line(offset: usize, message: &[u8], out: &mut Vec<u8>) -> Result<(), AllocError>
+    ensures { OnOk result (out.new.items ≡ out.old.items ++ fault_line offset message.now) }
 {
     let mut digits = Buffer::new();
     out.extend_from_slice(b"! error at offset ")?;
     out.extend_from_slice(digits.format(offset).as_bytes())?;
     out.push(b':')?;
     out.push(b' ')?;
-    push_on_one_line(words, out)?;
+    push_on_one_line(message, out)?;
     Ok(())
 }
 

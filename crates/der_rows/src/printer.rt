@@ -48,8 +48,8 @@ pub struct Printer<W> {
 }
 
 impl<W: Write> Printer<W> {
-    /// A printer that writes behind what was written.
-    pub fn behind(alloc: Global, look: Look, out: W) -> Printer<W>
+    /// A printer that writes to `out`, behind what was written to it before.
+    pub fn new(alloc: Global, look: Look, out: W) -> Printer<W>
         ensures look { result.look ≡ look }
         ensures out { result.out ≡ out }
     {
@@ -93,16 +93,16 @@ impl<W: Write> Printer<W> {
         Ok(())
     }
 
-    /// Prints the line of a fault: its offset, and what it is in words.
+    /// Prints the line of a fault: its offset, and the message.
     ///
     /// # Errors
     /// Those of [`Printer::push`].
-    pub fn push_fault(&mut self, offset: usize, words: &[u8]) -> Result<(), StreamFault>
-        ensures { OnOk result (Prints W.contents (true ∷ []) (fault_line offset words.now ++ 10 ∷ [])
+    pub fn push_fault(&mut self, offset: usize, message: &[u8]) -> Result<(), StreamFault>
+        ensures { OnOk result (Prints W.contents (true ∷ []) (fault_line offset message.now ++ 10 ∷ [])
             self.old self.new) }
     {
         let mut line = Vec::new(self.alloc);
-        push_fault_line(offset, words, &mut line)?;
+        push_fault_line(offset, message, &mut line)?;
         self.push_noted(NoteKind::Error, &line)?;
         Ok(())
     }
@@ -180,20 +180,20 @@ impl<W: Write> Printer<W> {
         Ok(())
     }
 
-    // Prints octets, a part of them after another.
+    // Prints octets, in parts.
     fn push_octets(&mut self, octets: &[u8]) -> Result<(), StreamFault>
         ensures { OnOk result (PrintsOctets W.contents octets.now self.old self.new) }
     {
         let mut rest = octets;
         while !rest.is_empty() {
             let (part, later) = rest.split_at(rest.len().min(OCTETS_AT_ONCE));
-            self.push_few(part)?;
+            self.push_octets_part(part)?;
             rest = later;
         }
         Ok(())
     }
 
-    fn push_few(&mut self, octets: &[u8]) -> Result<(), StreamFault>
+    fn push_octets_part(&mut self, octets: &[u8]) -> Result<(), StreamFault>
         ensures { OnOk result (PrintsOctets W.contents octets.now self.old self.new) }
     {
         self.line.clear();

@@ -21,7 +21,7 @@ pub struct Row<'a> {
     /// The field that it is, as it stands before the type; nothing if it has no name.
     pub field: &'a str,
     /// Its type.
-    pub words: &'a str,
+    pub type_name: &'a str,
     /// Its value, as it stands behind the type.
     pub value: &'a str,
     /// What is wrong with it, as it stands behind the value.

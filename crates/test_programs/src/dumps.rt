@@ -49,7 +49,7 @@ fn a_long_sequence_is_shown_once(rt: HostRuntime) -> Result<(), Fail> {
         ([0x30, 0x80], FIRST_OF_OTHERS, NO_END, 33_004),
     ] {
         let octets = sequence_of_nulls(alloc, last)?;
-        let mut printer = Printer::behind(alloc, Look::Plain, Vec::new(alloc));
+        let mut printer = Printer::new(alloc, Look::Plain, Vec::new(alloc));
         push_label(alloc, b"A", &mut printer)?;
         push_document(alloc, &names, Style::default(), &octets, &mut printer)?;
         printer.end_folds()?;
@@ -64,7 +64,7 @@ fn a_long_sequence_is_shown_once(rt: HostRuntime) -> Result<(), Fail> {
 #[test]
 fn a_label_is_one_line(rt: HostRuntime) -> Result<(), Fail> {
     let alloc = rt.alloc();
-    let mut printer = Printer::behind(alloc, Look::Plain, Vec::new(alloc));
+    let mut printer = Printer::new(alloc, Look::Plain, Vec::new(alloc));
     push_label(alloc, b"A\nB", &mut printer)?;
     assert_eq!(rt; printer.out.as_slice(), b"= A\\nB\n".as_slice());
     assert_eq!(rt; behind_header(alloc, &[0x30])?, None);

@@ -7,43 +7,43 @@ use Rattle.der_io.specs.Lines.{lines_of, onto_first_line}
 use Rattle.der_io.proofs.split_line.Goals as goal
 
 -- the first line goes to the first byte 0A
-ended_line : (input : List ℕ) (n : ℕ) → n < length input → ((i : ℕ) → i < n → slice_index input i ≢ 10) →
+lines_of-ended : (input : List ℕ) (n : ℕ) → n < length input → ((i : ℕ) → i < n → slice_index input i ≢ 10) →
     slice_index input n ≡ 10
     → lines_of input ≡ take n input ∷ lines_of (drop (suc n) input)
-ended_line [] n l h e = absurd (omega (arith, l))
-ended_line (b ∷ input) zero l h e =
+lines_of-ended [] n l h e = absurd (omega (arith, l))
+lines_of-ended (b ∷ input) zero l h e =
     let f : b ≡ 10 = e in
     rw f refl
-ended_line (b ∷ input) (suc n) l h e =
+lines_of-ended (b ∷ input) (suc n) l h e =
     rw (ne_eqb b 10 (h 0 (omega arith)))
-    (ap (onto_first_line b) (ended_line input n (omega arith) (λ i lt. h (suc i) (omega arith)) e))
+    (ap (onto_first_line b) (lines_of-ended input n (omega arith) (λ i lt. h (suc i) (omega arith)) e))
 
 -- where there is none, all is one line
-last_line : (input : List ℕ) → 0 < length input → ((i : ℕ) → i < length input → slice_index input i ≢ 10) →
+lines_of-unended : (input : List ℕ) → 0 < length input → ((i : ℕ) → i < length input → slice_index input i ≢ 10) →
     lines_of input ≡ input ∷ []
-last_line [] l h = absurd (omega (arith, l))
-last_line (b ∷ []) l h = rw (ne_eqb b 10 (h 0 (omega arith))) refl
-last_line (b ∷ c ∷ input) l h =
+lines_of-unended [] l h = absurd (omega (arith, l))
+lines_of-unended (b ∷ []) l h = rw (ne_eqb b 10 (h 0 (omega arith))) refl
+lines_of-unended (b ∷ c ∷ input) l h =
     rw (ne_eqb b 10 (h 0 (omega arith)))
-    (ap (onto_first_line b) (last_line (c ∷ input) (omega arith) (λ i lt. h (suc i) (omega arith))))
+    (ap (onto_first_line b) (lines_of-unended (c ∷ input) (omega arith) (λ i lt. h (suc i) (omega arith))))
 
-take_rest : (n : ℕ) (xs : List ℕ) → take (length xs - (n + 1)) (drop (n + 1) xs) ≡ drop (suc n) xs
-take_rest n xs =
+take-drop_suc : (n : ℕ) (xs : List ℕ) → take (length xs - (n + 1)) (drop (n + 1) xs) ≡ drop (suc n) xs
+take-drop_suc n xs =
     let e : n + 1 ≡ suc n = omega arith in
     take_all (length xs - (n + 1)) (drop (n + 1) xs) (omega (arith, length-drop (n + 1) xs)) ∙ ap (λ m. drop m xs) e
 
 -- where a byte is not found, it does not stand
-no_end : (input : List ℕ) (n : ℕ) → Nowhere (Passes (is_byte 10) input) 0 n → (i : ℕ) → i < n → slice_index input i ≢ 10
-no_end input n nowhere i lt e = nowhere i (omega arith) lt (eq-eqb (slice_index input i) 10 e)
+slice_index-no_line_feed : (input : List ℕ) (n : ℕ) → Nowhere (Passes (is_byte 10) input) 0 n → (i : ℕ) → i < n → slice_index input i ≢ 10
+slice_index-no_line_feed input n nowhere i lt e = nowhere i (omega arith) lt (eq-eqb (slice_index input i) 10 e)
 
 pub returns-in-Some-clause-first : goal.returns-in-Some-clause-first
 returns-in-Some-clause-first c =
     let input = c.args.input.now in
     let n = c.in-Some.end in
     let found = c.in-Some.ensures in
-    ended_line input n found.0.high (no_end input n found.0.before) (eqb-true (slice_index input n) 10 found.1)
-    ∙ ap (λ rest. take n input ∷ lines_of rest) (sym (take_rest n input))
+    lines_of-ended input n found.0.high (slice_index-no_line_feed input n found.0.before) (eqb-true (slice_index input n) 10 found.1)
+    ∙ ap (λ rest. take n input ∷ lines_of rest) (sym (take-drop_suc n input))
 
 pub returns-in-None-clause-first : goal.returns-in-None-clause-first
 returns-in-None-clause-first c =
-    last_line c.args.input.now c.requires (no_end c.args.input.now (length c.args.input.now) c.in-None.ensures)
+    lines_of-unended c.args.input.now c.requires (slice_index-no_line_feed c.args.input.now (length c.args.input.now) c.in-None.ensures)

@@ -1,8 +1,8 @@
 -- For `found::contents_of`: `without_header` may be called.
-use Rattle.der_inputs.proofs.Blocks.{block_element}
+use Rattle.der_inputs.proofs.Blocks.{IsBlockAt-element}
 use Rattle.der_inputs.proofs.found.contents_of.Goals as goal
 
 pub without_header-requires : goal.without_header-requires
 without_header-requires c =
     rw c.deref.ensures.value
-    (block_element c.args.offset c.args.input.items c.in-Ok.block.items (rw c.in-Ok.is at c.in_ok-block.ensures))
+    (IsBlockAt-element c.args.offset c.args.input.items c.in-Ok.block.items (rw c.in-Ok.is at c.in_ok-block.ensures))

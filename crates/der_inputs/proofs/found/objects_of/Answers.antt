@@ -2,7 +2,7 @@
 use Rattle.std.proofs.Common.{false, map}
 use Rattle.der_forms.specs.Objects.{objects_in}
 use Rattle.der_forms.specs.Shown.{shown_object}
-use Rattle.der_inputs.proofs.Texts.{all_found, found_more}
+use Rattle.der_inputs.proofs.Texts.{append-none_left, append-next_object}
 use Rattle.der_inputs.specs.Findings.{of_object}
 use Rattle.der_inputs.specs.Parts.{finding_in}
 use Rattle.der_io.specs.Lines.{lines_of}
@@ -11,13 +11,13 @@ use Rattle.der_inputs.proofs.found.objects_of.Goals as goal
 pub loop-found-preserved : goal.loop-found-preserved
 loop-found-preserved c =
     let next = rw c.in-Some.is at c.in_ok-object.ensures in
-    found_more of_object (map finding_in c.loop-found.found.items) _
+    append-next_object of_object (map finding_in c.loop-found.found.items) _
     (objects_in false (lines_of c.loop-found.lines.rest.now)) c.loop-found.invariant (shown_object c.in-Some.object)
     (objects_in false (lines_of c.in-Some.after.rest.now)) (map finding_in c.push_object.new.found.items) next.0
     c.in_ok-push_object.ensures
 
 pub returns : goal.returns
 returns c =
-    all_found of_object (map finding_in c.loop-found.found.items) _
+    append-none_left of_object (map finding_in c.loop-found.found.items) _
     (objects_in false (lines_of c.loop-found.lines.rest.now)) c.loop-found.invariant
     (rw c.in_default.is at c.in_ok-object.ensures)

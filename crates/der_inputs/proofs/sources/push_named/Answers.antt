@@ -2,7 +2,7 @@
 use Rattle.std.proofs.Common.{refl, subst, sym}
 use Rattle.std.proofs.lemmas.Result.{IfOk-weaker}
 use Rattle.std.specs.Prelude.{IfOk}
-use Rattle.der_io.proofs.Written.{written_both}
+use Rattle.der_io.proofs.Written.{IsWritten-append}
 use Rattle.der_io.specs.Output.{IsWritten}
 use Rattle.der_inputs.specs.Inputs.{IsNamedText}
 use Rattle.der_inputs.specs.Parts.{wanted_of}
@@ -16,6 +16,6 @@ returns-in_ok-push_name g c =
     let wanted = wanted_of c.args.show.now in
     subst (λ z. IfOk c.push_input.result (λ outcome. IsWritten (IsNamedText z wanted c.args.name.now c.args.input.items
     outcome) before after)) (sym c.if-show.true)
-    (IfOk-weaker c.push_input.result _ _ (λ outcome. written_both _ _ _ before titled after
+    (IfOk-weaker c.push_input.result _ _ (λ outcome. IsWritten-append _ _ _ before titled after
     (λ title own named put. (title, own, refl, named, put)) c.in_ok-push_name.ensures)
     c.push_input.ensures)

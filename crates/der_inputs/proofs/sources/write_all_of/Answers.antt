@@ -1,7 +1,7 @@
 -- For `sources::write_all_of`: what it returns is right.
 use Rattle.std.proofs.Common.{◌++◌}
 use Rattle.std.proofs.KnownBytes.{Appends-kept, Appends-trans}
-use Rattle.der_inputs.proofs.Texts.{framed}
+use Rattle.der_inputs.proofs.Texts.{IsFramed-append}
 use Rattle.der_inputs.proofs.sources.write_all_of.Goals as goal
 
 pub returns-clause-written : goal.returns-clause-written
@@ -19,6 +19,6 @@ returns-clause-written g c =
       texts,
       first ++ (texts ++ last),
       are,
-      framed c.args.show.now.form texts first last is_first is_last,
+      IsFramed-append c.args.show.now.form texts first last is_first is_last,
       Appends-kept before ended after (first ++ (texts ++ last)) all c.in_ok-flush.ensures.kept,
     )

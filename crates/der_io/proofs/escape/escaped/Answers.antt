@@ -6,35 +6,35 @@ use Rattle.std.specs.Str.{chars, is_utf8}
 use Rattle.der_io.specs.Escaped.{all_escaped, escape_of, escape_of_octet, escaped}
 use Rattle.der_io.proofs.escape.escaped.Goals as goal
 
-not_so : (b : Bool) → (b ≡ true → ⊥) → b ≡ false
-not_so true h = absurd (h refl)
-not_so false h = refl
+false-not_true : (b : Bool) → (b ≡ true → ⊥) → b ≡ false
+false-not_true true h = absurd (h refl)
+false-not_true false h = refl
 
 -- text in UTF-8
-of_text : (octets : List ℕ) → is_utf8 octets ≡ true → all_escaped escape_of (chars octets) ≡ escaped octets
-of_text octets h = rw h refl
+all_escaped-text : (octets : List ℕ) → is_utf8 octets ≡ true → all_escaped escape_of (chars octets) ≡ escaped octets
+all_escaped-text octets h = rw h refl
 
-of_octets : (octets : List ℕ) → is_utf8 octets ≡ false → all_escaped escape_of_octet octets ≡ escaped octets
-of_octets octets h = rw h refl
+all_escaped-no_text : (octets : List ℕ) → is_utf8 octets ≡ false → all_escaped escape_of_octet octets ≡ escaped octets
+all_escaped-no_text octets h = rw h refl
 
-spelled :
+IfOk-equal :
     {S E : Type 0} (bytes : S → List ℕ) (r : Result S E) (xs ys : List ℕ) → xs ≡ ys → IfOk r (λ out. bytes out ≡ xs) →
     IfOk r (λ out. bytes out ≡ ys)
-spelled bytes (Ok out) xs ys e h = h ∙ e
-spelled bytes (Err x) xs ys e h = tt
+IfOk-equal bytes (Ok out) xs ys e h = h ∙ e
+IfOk-equal bytes (Err x) xs ys e h = tt
 
 pub returns-in-Ok : goal.returns-in-Ok
 returns-in-Ok c =
     let octets = c.args.octets.now in
     let text = c.in-Ok.ensures.cases in
-    spelled string_bytes c.escaped_text.result _ _
-    (of_text octets (is_utf8-from_IsUtf8 octets text.1))
+    IfOk-equal string_bytes c.escaped_text.result _ _
+    (all_escaped-text octets (is_utf8-from_IsUtf8 octets text.1))
     (subst (λ z. IfOk c.escaped_text.result (λ out. string_bytes out ≡ all_escaped escape_of (chars z))) text.0
     c.escaped_text.ensures)
 
 pub returns-in-Err : goal.returns-in-Err
 returns-in-Err c =
     let octets = c.args.octets.now in
-    spelled string_bytes c.escaped_octets.result _ _
-    (of_octets octets (not_so (is_utf8 octets) (λ h. c.in-Err.ensures.cases.0 (IsUtf8-from_is_utf8 octets h))))
+    IfOk-equal string_bytes c.escaped_octets.result _ _
+    (all_escaped-no_text octets (false-not_true (is_utf8 octets) (λ h. c.in-Err.ensures.cases.0 (IsUtf8-from_is_utf8 octets h))))
     c.escaped_octets.ensures

@@ -3,19 +3,19 @@ use Rattle.std.proofs.Common.{◌≡◌, ◌<◌, inl, inr, length, refl, arith}
 use Rattle.std.proofs.lemmas.Grind.{common_steps}
 use Rattle.std.proofs.lemmas.List.{nil_from_length}
 use Rattle.std.proofs.lemmas.Result.{IfOk-weaker}
-use Rattle.der_rows.proofs.Printed.{printed_as}
+use Rattle.der_rows.proofs.Printed.{IsPrinted-weaker}
 use Rattle.der_lines.proofs.document.push_dump.Goals as goal
 
 pub returns-then-is_empty : goal.returns-then-is_empty
 returns-then-is_empty g c =
     let none : length c.args.octets.now ≡ 0 = grind (arith, common_steps) in
-    printed_as g.W.Write.contents _ _ c.args.printer.now c.push_fault_line.new.printer
+    IsPrinted-weaker g.W.Write.contents _ _ c.args.printer.now c.push_fault_line.new.printer
     (λ text line. inr (nil_from_length c.args.octets.now none, refl, line)) c.in_ok-push_fault_line.ensures
 
 pub returns : goal.returns
 returns g c =
     let some : 0 < length c.args.octets.now = grind (arith, common_steps) in
     IfOk-weaker c.push_lines.result _ _
-    (λ verdict. printed_as g.W.Write.contents _ _ c.args.printer.now c.push_lines.new.printer
+    (λ verdict. IsPrinted-weaker g.W.Write.contents _ _ c.args.printer.now c.push_lines.new.printer
     (λ text lines. inl (some, lines)))
     c.push_lines.ensures

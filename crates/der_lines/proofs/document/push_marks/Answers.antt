@@ -2,7 +2,7 @@
 use Rattle.std.proofs.Common.{◌≡◌, ◌+◌, [], ◌∷◌, ◌++◌, ap, subst, sym, take, ◌∙◌}
 use Rattle.std.proofs.lemmas.List.{map-append, take_more}
 use Rattle.der_lines.specs.Dump.{AreFaultLines}
-use Rattle.der_rows.proofs.Printed.{printed_both}
+use Rattle.der_rows.proofs.Printed.{IsPrinted-append}
 use Rattle.der_rows.specs.Printing.{IsPrinted}
 use Rattle.der_lines.specs.Steps.{mark_offsets}
 use Rattle.der_lines.proofs.Dumps.{fault_line, fault_lines_join}
@@ -19,7 +19,7 @@ loop-mark-preserved g c =
     ∙ map-append (λ m. m.offset) (take i marks) (mark ∷ []) in
     subst (λ z. IsPrinted g.W.Write.contents (AreFaultLines z) c.args.printer.now c.push_mark_line.new.printer)
     (sym more)
-    (printed_both g.W.Write.contents _ _ (AreFaultLines (mark_offsets (take i marks) ++ mark.offset ∷ []))
+    (IsPrinted-append g.W.Write.contents _ _ (AreFaultLines (mark_offsets (take i marks) ++ mark.offset ∷ []))
     c.args.printer.now
     c.loop-mark.printer
     c.push_mark_line.new.printer

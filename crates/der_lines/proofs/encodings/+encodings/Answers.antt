@@ -7,7 +7,7 @@ use Rattle.der_lines.specs.PieceRows.{IsPieceDump, row_faults}
 use Rattle.der_pieces.specs.Pieces.{Passes, kind_header}
 use Rattle.der_pieces.specs.Steps.{IsAhead}
 use Rattle.der_lines.specs.Steps.{earlier_fault, mark_offsets}
-use Rattle.der_rows.proofs.Printed.{printed_as, printed_both, printed_none}
+use Rattle.der_rows.proofs.Printed.{IsPrinted-weaker, IsPrinted-append, IsPrinted-nil}
 use Rattle.der_lines.proofs.Fronts.{ShownTo, shown_all, shown_more, shown_none}
 use Rattle.der_lines.proofs.Fronts.{nested_adds}
 use Rattle.der_lines.proofs.encodings.+encodings.Goals as goal
@@ -15,7 +15,7 @@ use Rattle.der_lines.proofs.encodings.+encodings.Goals as goal
 pub push_encodings-loop-walk-init : goal.push_encodings-loop-walk-init
 push_encodings-loop-walk-init g t c =
     let o = c.in_ok-walk.ensures in
-    printed_none g.W.Write.contents (ShownTo c.args.place c.args.octets.now c.in_ok-walk.walk None _) c.args.printer.now
+    IsPrinted-nil g.W.Write.contents (ShownTo c.args.place c.args.octets.now c.in_ok-walk.walk None _) c.args.printer.now
     (subst (λ m. ShownTo c.args.place c.args.octets.now c.in_ok-walk.walk None m [])
     (sym (ap mark_offsets c.new.ensures.items))
     (shown_none c.args.place c.args.octets.now c.in_ok-walk.walk o.octets o.place o.ahead))
@@ -28,7 +28,7 @@ push_encodings-loop-walk-preserved g t c =
     let piece = c.in-Some.piece in
     let p : Passes c.loop-walk.walk c.next.new.self piece = rw c.in-Some.is at c.in_ok-piece.ensures in
     let k = c.in_ok-keep.ensures in
-    let all = printed_both g.W.Write.contents _ _ (ShownTo place octets c.next.new.self
+    let all = IsPrinted-append g.W.Write.contents _ _ (ShownTo place octets c.next.new.self
     (earlier_fault found.fault piece.fault) _)
     c.args.printer.now c.loop-walk.printer c.push_piece.new.printer
     (λ text own s put. shown_more place octets c.loop-walk.walk c.next.new.self piece found.fault _ _ _ text own p
@@ -40,13 +40,13 @@ push_encodings-loop-walk-preserved g t c =
 pub push_encodings-returns : goal.push_encodings-returns
 push_encodings-returns g t c =
     let ended : IsAhead c.loop-walk.walk.cursor [] [] = rw c.in_default.is at c.in_ok-piece.ensures in
-    printed_as g.W.Write.contents _ _ c.args.printer.now c.loop-walk.printer
+    IsPrinted-weaker g.W.Write.contents _ _ c.args.printer.now c.loop-walk.printer
     (λ text. shown_all c.args.place c.args.octets.now c.loop-walk.walk c.loop-walk.found text ended)
     c.loop-walk.invariant
 
 pub push_nested-returns-in_default : goal.push_nested-returns-in_default
 push_nested-returns-in_default g t c = λ left holding.
-    printed_none g.W.Write.contents _ c.args.printer.now (
+    IsPrinted-nil g.W.Write.contents _ c.args.printer.now (
       no_lines refl refl,
       no_more refl
           (ap mark_offsets c.new.ensures.items),
@@ -78,7 +78,7 @@ push_piece-returns g t c =
     let piece = c.args.piece.now in
     IfOk-weaker c.push_nested.result _ _
     (λ marks inside left holding.
-    printed_both g.W.Write.contents _ _ (IsPieceDump left piece (mark_offsets marks.items)) c.args.printer.now
+    IsPrinted-append g.W.Write.contents _ _ (IsPieceDump left piece (mark_offsets marks.items)) c.args.printer.now
     c.push_row.new.printer
     c.push_nested.new.printer
     (λ first rest line more. record

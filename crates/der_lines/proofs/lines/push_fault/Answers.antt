@@ -1,7 +1,7 @@
 -- For `lines::push_fault`: what it returns is right.
 use Rattle.std.proofs.Common.{refl}
 use Rattle.der_rows.specs.Rows.{fault_line, on_one_line}
-use Rattle.der_rows.proofs.OneLine.{one_line_made}
+use Rattle.der_rows.proofs.OneLine.{IsOneLine-on_one_line}
 use Rattle.der_lines.proofs.lines.push_fault.Goals as goal
 
 pub returns : goal.returns
@@ -12,6 +12,6 @@ returns g c =
       (
         _,
         c.in_ok-push_fault.ensures,
-        (line, refl, record { said = on_one_line words; line_is = refl; one = one_line_made words }),
+        (line, refl, record { said = on_one_line words; line_is = refl; one = IsOneLine-on_one_line words }),
       ),
     )

@@ -12,26 +12,26 @@ use Rattle.std.specs.Str.Lines.{IsFirstLine, StripsCarriageReturn}
 use Rattle.der_options.specs.Options.{IsOneLine}
 use Rattle.der_options.proofs.fault.first_line.Goals as goal
 
-no_end : (text : List ℕ) → NoCharPasses is_newline text → IsOneLine text
-no_end text none = All-from_get_or (λ b. b ≢ 10) text 0 (λ i lt. NoCharPasses-char 10 text i none (omega arith) lt)
+IsOneLine-no_newline : (text : List ℕ) → NoCharPasses is_newline text → IsOneLine text
+IsOneLine-no_newline text none = All-from_get_or (λ b. b ≢ 10) text 0 (λ i lt. NoCharPasses-char 10 text i none (omega arith) lt)
 
-stripped : (line text : List ℕ) → StripsCarriageReturn line text → IsOneLine line → IsOneLine text
-stripped line text (inl same) one = subst IsOneLine (sym same.0) one
-stripped line text (inr e) one = (All-pop (λ b. b ≢ 10) line text (Some 13) e one).0
+IsOneLine-stripped : (line text : List ℕ) → StripsCarriageReturn line text → IsOneLine line → IsOneLine text
+IsOneLine-stripped line text (inl same) one = subst IsOneLine (sym same.0) one
+IsOneLine-stripped line text (inr e) one = (All-pop (λ b. b ≢ 10) line text (Some 13) e one).0
 
-first : (text line rest : List ℕ) → IsFirstLine text line rest → IsOneLine line
-first text line rest h =
-    let front : IsOneLine (take h.0 text) = no_end (take h.0 text) h.1 in
-    ⊎_elim (λ within. stripped (take h.0 text) line (h.5 within) front)
+IsOneLine-first_line : (text line rest : List ℕ) → IsFirstLine text line rest → IsOneLine line
+IsOneLine-first_line text line rest h =
+    let front : IsOneLine (take h.0 text) = IsOneLine-no_newline (take h.0 text) h.1 in
+    ⊎_elim (λ within. IsOneLine-stripped (take h.0 text) line (h.5 within) front)
     (λ whole. let end : h.0 + length rest ≤ length text = h.3 in
     subst IsOneLine (take_all h.0 text whole ∙ sym (h.4 (omega arith))) front)
     (cases_lt h.0 (length text))
 
-first_or : (s t : _) (line : Option (Bor (List ℕ))) (other : Bor (List ℕ)) → lines_steps s line t → IsOneLine other.now
+IsOneLine-unwrap_or : (s t : _) (line : Option (Bor (List ℕ))) (other : Bor (List ℕ)) → lines_steps s line t → IsOneLine other.now
     → IsOneLine (unwrap_or line other).now
-first_or s t None other steps one = one
-first_or s t (Some line) other steps one = first (lines_rest s) line.now (lines_rest t) steps.0.2
+IsOneLine-unwrap_or s t None other steps one = one
+IsOneLine-unwrap_or s t (Some line) other steps one = IsOneLine-first_line (lines_rest s) line.now (lines_rest t) steps.0.2
 
 pub returns : goal.returns
 returns c = subst (λ x. IsOneLine x.now) (sym c.unwrap_or.ensures)
-    (first_or c.lines.result c.next.new.self c.next.result _ c.next.ensures.steps (λ k d lt e. absurd (omega arith)))
+    (IsOneLine-unwrap_or c.lines.result c.next.new.self c.next.result _ c.next.ensures.steps (λ k d lt e. absurd (omega arith)))

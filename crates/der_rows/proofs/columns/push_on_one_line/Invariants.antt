@@ -1,4 +1,4 @@
--- For `lines::push_plain`: what each turn of its loop keeps.
+-- For `columns::push_on_one_line`: what each turn of its loop keeps.
 use Rattle.std.proofs.Common.{◌≡◌, ◌++◌, take}
 use Rattle.der_rows.specs.Rows.{on_one_line}
 use Rattle.der_rows.proofs.columns.push_on_one_line.Given as goal

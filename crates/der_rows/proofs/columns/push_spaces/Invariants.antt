@@ -1,4 +1,4 @@
--- For `lines::push_spaces`: what each turn of its loop keeps.
+-- For `columns::push_spaces`: what each turn of its loop keeps.
 use Rattle.std.proofs.Common.{◌≡◌, ◌++◌, replicate}
 use Rattle.der_rows.proofs.columns.push_spaces.Given as goal
 

@@ -10,26 +10,26 @@ use Rattle.der_signed.specs.declared.run.RunFault.TheVariants.{NoDocument, NotSi
 use Rattle.der_signed.proofs.run.run.Goals as goal
 
 -- what was written is the content of the input
-written_of :
+IfSome-written :
     (known : Option (List ℕ)) (input content lent : List ℕ) (Put : List ℕ → Type 0) → IfSome known (λ b. input ≡ b)
     → HasDocument input (λ octets. IsContent octets content) → lent ≡ content → Put lent
     → IfSome known (λ b. (x : List ℕ) × HasDocument b (λ octets. IsContent octets x) × Put x)
-written_of None input content lent Put is has same put = tt
-written_of (Some b) input content lent Put is has same put =
+IfSome-written None input content lent Put is has same put = tt
+IfSome-written (Some b) input content lent Put is has same put =
     (content, subst (λ z. HasDocument z (λ octets. IsContent octets content)) is has, subst Put same put)
 
 -- what is wrong with the octets of its document is wrong with the input
-wrong_input : (e : RunFault) (input octets : List ℕ) → document_of input ≡ Some octets → IsFaultOf e octets →
+TellsWhy-document : (e : RunFault) (input octets : List ℕ) → document_of input ≡ Some octets → IsFaultOf e octets →
     TellsWhy e input
-wrong_input (Stream f) input octets is fault = tt
-wrong_input (NoDocument f) input octets is fault = absurd fault
-wrong_input (Refused f) input octets is fault = (octets, is, fault)
-wrong_input NotSigned input octets is fault = (octets, is, fault)
+TellsWhy-document (Stream f) input octets is fault = tt
+TellsWhy-document (NoDocument f) input octets is fault = absurd fault
+TellsWhy-document (Refused f) input octets is fault = (octets, is, fault)
+TellsWhy-document NotSigned input octets is fault = (octets, is, fault)
 
-wrong_if_known : (known : Option (List ℕ)) (e : RunFault) (input : List ℕ) → IfSome known (λ b. input ≡ b) →
+TellsWhy-known : (known : Option (List ℕ)) (e : RunFault) (input : List ℕ) → IfSome known (λ b. input ≡ b) →
     TellsWhy e input → IfSome known (TellsWhy e)
-wrong_if_known None e input is why = tt
-wrong_if_known (Some b) e input is why = subst (TellsWhy e) is why
+TellsWhy-known None e input is why = tt
+TellsWhy-known (Some b) e input is why = subst (TellsWhy e) is why
 
 pub returns-in_err-content-clause-refused : goal.returns-in_err-content-clause-refused
 returns-in_err-content-clause-refused g c =
@@ -38,8 +38,8 @@ returns-in_err-content-clause-refused g c =
     let octets = c.in_ok-octets.octets.items in
     let fault : IsFaultOf e octets = subst (IsFaultOf e) c.deref.ensures.value c.in_err-content.ensures.refused in
     let p = err_from_is_err_and c.from_residual-in_err-content.result c.from_residual-in_err-content.ensures.1 in
-    rw (p.1, p.2) (wrong_if_known (g.R.Read.remaining c.args.r.now) e input c.in_ok-input.ensures.bytes
-    (wrong_input e input octets c.in_ok-octets.ensures.document fault))
+    rw (p.1, p.2) (TellsWhy-known (g.R.Read.remaining c.args.r.now) e input c.in_ok-input.ensures.bytes
+    (TellsWhy-document e input octets c.in_ok-octets.ensures.document fault))
 
 pub returns-clause-written : goal.returns-clause-written
 returns-clause-written g c =
@@ -47,7 +47,7 @@ returns-clause-written g c =
     let content = c.in_ok-content.content.now in
     let own : IsContent octets content =
     subst (λ z. IsContent z content) c.deref.ensures.value c.in_ok-content.ensures.content in
-    written_of (g.R.Read.remaining c.args.r.now) c.in_ok-input.input.items content content
+    IfSome-written (g.R.Read.remaining c.args.r.now) c.in_ok-input.input.items content content
     (λ z. Appends (g.W.Write.contents c.args.w.now) (g.W.Write.contents c.write_all.new.w) z)
     c.in_ok-input.ensures.bytes
     (octets, c.in_ok-octets.ensures.document, own) refl c.in_ok-write_all.ensures.written

@@ -9,18 +9,18 @@ use Rattle.der_signed.specs.declared.run.RunFault.TheVariants.{NoDocument, NotSi
 use Rattle.der_signed.proofs.run.signed_part.Goals as goal
 
 -- a refusal says what is wrong with the octets
-of_octets :
+IsFaultOf-refusal :
     (error : ASN1DecodeErr) (e : RunFault) (octets : List ℕ) (offset : ℕ)
     → OutOfMemoryOr (λ fault. FirstHeaderFaultAt octets fault offset) error → IsRefusalOf error e → IsFaultOf e octets
-of_octets error (Stream f) octets offset first h = h.0
-of_octets error (NoDocument f) octets offset first h = h
-of_octets error (Refused f) octets offset first h = elim first [
+IsFaultOf-refusal error (Stream f) octets offset first h = h.0
+IsFaultOf-refusal error (NoDocument f) octets offset first h = h
+IsFaultOf-refusal error (Refused f) octets offset first h = elim first [
   | inl memory ↦ absurd (h.1 (sym h.0 ∙ memory))
   | inr at ↦ (offset, subst (λ z. FirstHeaderFaultAt octets (fault_of z) offset) h.0 at)
 ]
-of_octets error NotSigned octets offset first h = absurd h
+IsFaultOf-refusal error NotSigned octets offset first h = absurd h
 
 pub returns-in-Err-clause-refused : goal.returns-in-Err-clause-refused
 returns-in-Err-clause-refused c =
-    of_octets c.in-Err.located.error c.refusal_of.result c.args.octets.now c.in-Err.located.offset
+    IsFaultOf-refusal c.in-Err.located.error c.refusal_of.result c.args.octets.now c.in-Err.located.offset
     c.in-Err.ensures.fault c.refusal_of.ensures

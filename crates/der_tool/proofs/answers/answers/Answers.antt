@@ -6,14 +6,14 @@ use Rattle.der_tool.specs.declared.answers.Reading.{Reading}
 use Rattle.der_tool.proofs.answers.answers.Goals as goal
 
 -- no output answers no input
-none_left : (reading : Reading) (input : List ℕ) → length input ≡ 0 → AreLineAnswers reading (lines_of input) []
-none_left reading [] e = refl
-none_left reading (b ∷ input) e = absurd (omega (arith, e))
+AreLineAnswers-empty : (reading : Reading) (input : List ℕ) → length input ≡ 0 → AreLineAnswers reading (lines_of input) []
+AreLineAnswers-empty reading [] e = refl
+AreLineAnswers-empty reading (b ∷ input) e = absurd (omega (arith, e))
 
 -- an answer and its end go after the output so far
-one_more : (out mid new answer later : List ℕ) → mid ≡ out ++ answer → new ≡ mid ++ 10 ∷ [] →
+append-one_answer : (out mid new answer later : List ℕ) → mid ≡ out ++ answer → new ≡ mid ++ 10 ∷ [] →
     out ++ (answer ++ 10 ∷ later) ≡ new ++ later
-one_more out mid new answer later p q =
+append-one_answer out mid new answer later p q =
     sym (ap (λ l. l ++ later) (q ∙ ap (λ l. l ++ 10 ∷ []) p) ∙ append_assoc (out ++ answer) (10 ∷ []) later
     ∙ append_assoc out answer (10 ∷ later))
 
@@ -24,11 +24,11 @@ loop-rest-preserved c = λ later h.
     subst (λ lines. AreLineAnswers c.args.reading lines (a.0 ++ 10 ∷ later)) (sym c.split_line.ensures.first)
     (a.0, later, refl, a.1, h) in
     subst (AreLineAnswers c.args.reading (lines_of c.args.input.now))
-    (one_more _ _ _ a.0 later a.2 c.in_ok-push.ensures.items)
+    (append-one_answer _ _ _ a.0 later a.2 c.in_ok-push.ensures.items)
     (c.loop-rest.invariant (a.0 ++ 10 ∷ later) now)
 
 pub returns : goal.returns
 returns c =
     let empty : length c.loop-rest.rest.now ≡ 0 = search rules in
     subst (AreLineAnswers c.args.reading (lines_of c.args.input.now)) (append-nil c.loop-rest.output.items)
-    (c.loop-rest.invariant [] (none_left c.args.reading c.loop-rest.rest.now empty))
+    (c.loop-rest.invariant [] (AreLineAnswers-empty c.args.reading c.loop-rest.rest.now empty))

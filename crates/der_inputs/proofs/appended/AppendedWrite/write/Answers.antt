@@ -1,6 +1,6 @@
 -- For `write` of `appended::Appended`: what the writer held is still at the front.
 use Rattle.std.proofs.Math.Logic.{∥∥₁_map}
-use Rattle.der_inputs.proofs.Growing.{grows_then, grows_written}
+use Rattle.der_inputs.proofs.Growing.{Grows-trans, Grows-written}
 use Rattle.der_inputs.proofs.appended.AppendedWrite.write.Goals as goal
 
 pub invariant_of-self : goal.invariant_of-self
@@ -8,6 +8,6 @@ invariant_of-self g c =
     let before = g.W.Write.contents c.args.self.now.writer in
     let after = g.W.Write.contents c.write.new.self in
     record {
-      grows = ∥∥₁_map c.args.self.now.grows (λ earlier. grows_then g.B.Before.before before after earlier
-          (grows_written before after c.write.result c.args.buf.now c.write.ensures.bytes));
+      grows = ∥∥₁_map c.args.self.now.grows (λ earlier. Grows-trans g.B.Before.before before after earlier
+          (Grows-written before after c.write.result c.args.buf.now c.write.ensures.bytes));
     }

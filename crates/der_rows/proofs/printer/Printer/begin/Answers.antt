@@ -1,7 +1,7 @@
 -- For `printer::Printer::begin`: what it returns is right.
 use Rattle.std.proofs.Common.{[], ◌∷◌, refl, subst}
 use Rattle.der_rows.specs.Printing.{Pushes}
-use Rattle.der_rows.proofs.Printed.{pushes_then}
+use Rattle.der_rows.proofs.Printed.{Pushes-append}
 use Rattle.der_rows.proofs.printer.Printer.begin.Goals as goal
 
 pub returns : goal.returns
@@ -11,7 +11,7 @@ returns g c =
     record {
       look = refl;
       out = refl;
-      line = pushes_then look [] faults [] [] [] _ _
+      line = Pushes-append look [] faults [] [] [] _ _
           (subst (λ z. Pushes look [] [] z c.close_folds.new.out.items) c.clear.ensures.items
           c.in_ok-close_folds.ensures)
           c.in_ok-begin_element.ensures;

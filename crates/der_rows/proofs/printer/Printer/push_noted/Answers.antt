@@ -2,13 +2,13 @@
 use Rattle.std.proofs.Common.{[], ◌∷◌, ap, subst, ◌∙◌}
 use Rattle.std.specs.Io.KnownBytes.{Appends}
 use Rattle.der_rows.specs.Rows.{is_error}
-use Rattle.der_rows.proofs.Printed.{line_pushed}
+use Rattle.der_rows.proofs.Printed.{Pushes-line}
 use Rattle.der_rows.proofs.printer.Printer.push_noted.Goals as goal
 
 pub returns : goal.returns
 returns g c =
     let begun = c.in_ok-begin.ensures in
-    let made = line_pushed c.args.self.now.look c.begin.new.self.look (is_error c.args.kind ∷ []) _ (c.args.line.now) []
+    let made = Pushes-line c.args.self.now.look c.begin.new.self.look (is_error c.args.kind ∷ []) _ (c.args.line.now) []
     _ _ _ begun.look
     (ap (λ z. z ∷ []) c.is_error.ensures) begun.line c.in_ok-push_part.ensures c.in_ok-push_end.ensures in (
       c.in_ok-write_made.ensures.look ∙ begun.look,

@@ -1,9 +1,9 @@
--- For `line::push_words`: what it returns is right where the text is one line.
+-- For `line::push_part_on_one_line`: what it returns is right where the text is one line.
 use Rattle.std.proofs.Common.{[], ◌∙◌, subst, sym}
 use Rattle.std.specs.Prelude.{OnOk}
 use Rattle.der_rows.specs.Printing.{Pushes}
 use Rattle.der_rows.proofs.OneLine.{on_one_line-shown}
-use Rattle.der_rows.proofs.line.push_words.Goals as goal
+use Rattle.der_rows.proofs.line.push_part_on_one_line.Goals as goal
 
 pub returns-then-is_one_line : goal.returns-then-is_one_line
 returns-then-is_one_line c =
