@@ -1,4 +1,4 @@
--- Pieces that are pushed one after another.
+-- Pieces that are pushed one after another, for `paint::push_painted` and for lines that are made of such texts.
 use Rattle.std.proofs.Common.{◌≡◌, ℕ, List, [], ◌∷◌, ◌++◌, ap, append-nil, append_assoc, refl, sym, ◌∙◌}
 use Rattle.std.specs.List.{flat_map}
 use Rattle.std.proofs.lemmas.Grind.{flat_map-append}

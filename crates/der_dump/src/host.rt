@@ -15,8 +15,8 @@ const MEGABYTE: usize = 1_000_000;
 const MANY: usize = 8;
 
 // Says what is wrong, with what is no printed character escaped, on a line of standard error.
-pub fn tell_error(rt: &HostRuntime, words: &str) {
-    if let Ok(text) = escaped(rt.alloc(), words.as_bytes()) {
+pub fn print_error(rt: &HostRuntime, message: &str) {
+    if let Ok(text) = escaped(rt.alloc(), message.as_bytes()) {
         let _ = eprintln!(rt; "{text}");
     }
 }
@@ -98,9 +98,9 @@ impl<'r, 'a> HostReader<'r, 'a> {
     }
 
     // Says on standard error why nothing more can be read.
-    fn tell(&self, fault: &io::Error) {
+    fn print_answer(&self, fault: &io::Error) {
         if let Ok(why) = format!(in self.rt.alloc(); "error: {}: {fault}", self.name) {
-            tell_error(self.rt, &why);
+            print_error(self.rt, &why);
         }
     }
 }
@@ -149,7 +149,7 @@ impl Read for HostReader<'_, '_> {
             Ok(count) => self.show_progress(*count),
             Err(fault) => {
                 self.hide_progress();
-                self.tell(fault);
+                self.print_answer(fault);
             }
         }
         outcome

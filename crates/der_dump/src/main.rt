@@ -3,9 +3,9 @@
 
 mod host;
 
-use crate::host::{HostReader, HostWriter, color_here, tell_error};
+use crate::host::{HostReader, HostWriter, color_here, print_error};
 use der_inputs::{Outcome, Source, run, status};
-use der_io::{StreamFault, escaped, fault_text, read_all, words};
+use der_io::{StreamFault, arguments, escaped, fault_text, read_all};
 use der_names::{NamesFault, OwnNames};
 use der_options::{Options, OptionsFault, options_of};
 use der_shapes::Shapes;
@@ -18,57 +18,57 @@ use std::io::{BufWriter, Write};
 use std::process::ExitCode;
 use std::time::SystemTime;
 
-// The exit status of words that are no command line.
-const WRONG_WORDS: u8 = 2;
+// The exit status after arguments that are not understood.
+const WRONG_ARGUMENTS: u8 = 2;
 
 fn main(rt: HostRuntime) -> ExitCode {
-    match words(&rt) {
-        Ok(words) => ExitCode::from(obey(&rt, &words)),
+    match arguments(&rt) {
+        Ok(arguments) => ExitCode::from(run_with(&rt, &arguments)),
         Err(e) => {
-            let _ = eprintln!(rt; "{}", words_fault(&e));
-            ExitCode::from(WRONG_WORDS)
+            let _ = eprintln!(rt; "{}", arguments_fault(&e));
+            ExitCode::from(WRONG_ARGUMENTS)
         }
     }
 }
 
-// Why the arguments are no words.
-fn words_fault(e: &io::Error) -> &'static str {
+// Why there are no arguments in UTF-8.
+fn arguments_fault(e: &io::Error) -> &'static str {
     match e.kind() {
         io::ErrorKind::OutOfMemory => fault_text(&StreamFault::Memory),
         _ => "error: arguments must be UTF-8: give another file as standard input: der_dump < FILE",
     }
 }
 
-// Does what the words ask for, the first of which is the program's name.
-fn obey(rt: &HostRuntime, words: &[String]) -> u8 {
-    match options_of(rt.alloc(), words) {
+// Does what the arguments ask for, of which the first is the program's name.
+fn run_with(rt: &HostRuntime, arguments: &[String]) -> u8 {
+    match options_of(rt.alloc(), arguments) {
         Ok(mut options) => {
             options.color = color_here(rt, options.color);
             if !is_type_known(rt, options.type_name) {
-                return WRONG_WORDS;
+                return WRONG_ARGUMENTS;
             }
             match own_names(rt, &options) {
                 Some(own) => answer(rt, &options, own),
-                None => WRONG_WORDS,
+                None => WRONG_ARGUMENTS,
             }
         }
-        Err(fault) => tell(rt, &fault),
+        Err(fault) => print_answer(rt, &fault),
     }
 }
 
 // Help and the version go to standard output, and what is wrong to standard error.
-fn tell(rt: &HostRuntime, fault: &OptionsFault<'_>) -> u8 {
+fn print_answer(rt: &HostRuntime, fault: &OptionsFault<'_>) -> u8 {
     let Ok(text) = fault.text(rt.alloc()) else {
-        return WRONG_WORDS;
+        return WRONG_ARGUMENTS;
     };
     if fault.is_answer() {
         match print!(rt; "{text}") {
             Ok(()) => 0,
-            Err(_) => WRONG_WORDS,
+            Err(_) => WRONG_ARGUMENTS,
         }
     } else {
-        tell_error(rt, &text);
-        WRONG_WORDS
+        print_error(rt, &text);
+        WRONG_ARGUMENTS
     }
 }
 
@@ -93,10 +93,10 @@ fn is_type_known(rt: &HostRuntime, type_name: Option<&str>) -> bool {
 
 // Says that a type is not known.
 fn tell_type(rt: &HostRuntime, name: &str) {
-    if let Ok(words) = format!(in rt.alloc();
+    if let Ok(message) = format!(in rt.alloc();
         "error: no type '{name}' is known: give one of an RFC, such as Certificate"
     ) {
-        tell_error(rt, &words);
+        print_error(rt, &message);
     }
 }
 
@@ -134,10 +134,10 @@ fn tell_memory(rt: &HostRuntime, fault: &StreamFault) {
 
 // Says which line of a file names no object identifiers.
 fn tell_line(rt: &HostRuntime, file: &str, number: usize) {
-    if let Ok(words) = format!(in rt.alloc();
+    if let Ok(message) = format!(in rt.alloc();
         "error: {file}: line {number}: not OID, Description or Comment"
     ) {
-        tell_error(rt, &words);
+        print_error(rt, &message);
     }
 }
 
@@ -180,8 +180,8 @@ fn tell_lacking(rt: &HostRuntime, options: &Options<'_>, outcomes: &[Outcome]) {
         let Outcome::Lacking(why) = outcome else {
             continue;
         };
-        if let Ok(words) = format!(in rt.alloc(); "error: {name}: {why}") {
-            tell_error(rt, &words);
+        if let Ok(message) = format!(in rt.alloc(); "error: {name}: {why}") {
+            print_error(rt, &message);
         }
     }
 }

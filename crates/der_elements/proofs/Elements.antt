@@ -1,4 +1,4 @@
--- Elements of the definite and of the indefinite form.
+-- Elements of the definite and of the indefinite form, for `element`.
 use Rattle.std.proofs.Common.{◌≡◌, ℕ, zero, suc, ◌+◌, ◌-◌, ◌<◌, ◌≤◌, min, Bool, Bor, true, false, List, [], ◌∷◌, ◌++◌, inr}
 use Rattle.std.proofs.Common.{drop, length, take, refl, sym, ap, ◌∙◌, subst, append_assoc, length-append, eqb-true, arith}
 use Rattle.std.proofs.lemmas.Bool.{and_parts}
@@ -16,33 +16,33 @@ use Rattle.der_elements.specs.Elements.{of_indefinite_form, of_indefinite_length
 use Rattle.der_elements.specs.SeekSteps.{Closes}
 
 -- what begins with end-of-contents octets
-pub end_is : (xs : List ℕ) → begins_with_end xs ≡ true → xs ≡ 0 ∷ 0 ∷ drop 2 xs
-end_is [] e =
+pub begins_with_end-cons : (xs : List ℕ) → begins_with_end xs ≡ true → xs ≡ 0 ∷ 0 ∷ drop 2 xs
+begins_with_end-cons [] e =
     let never : false ≡ true = e in
     absurd (cc never)
-end_is (a ∷ []) e =
+begins_with_end-cons (a ∷ []) e =
     let never : false ≡ true = e in
     absurd (cc never)
-end_is (a ∷ b ∷ xs) e =
+begins_with_end-cons (a ∷ b ∷ xs) e =
     let (first, next) = and_parts (a == 0) (b == 0) e in
     ap (λ z. z ∷ b ∷ xs) (eqb-true a 0 first) ∙ ap (λ z. 0 ∷ z ∷ xs) (eqb-true b 0 next)
 
-no_end : (xs ys : List ℕ) → begins_with_end xs ≡ false → xs ≡ 0 ∷ 0 ∷ ys → ⊥
-no_end xs ys e is =
+begins_with_end-not_cons : (xs ys : List ℕ) → begins_with_end xs ≡ false → xs ≡ 0 ∷ 0 ∷ ys → ⊥
+begins_with_end-not_cons xs ys e is =
     let so : true ≡ false = sym (ap begins_with_end is) ∙ e in
     absurd (cc so)
 
-front_end : (xs ys : List ℕ) → 2 ≤ length xs → begins_with_end (xs ++ ys) ≡ begins_with_end xs
-front_end [] ys l = absurd (omega (arith, l))
-front_end (a ∷ []) ys l = absurd (omega (arith, l))
-front_end (a ∷ b ∷ xs) ys l = refl
+begins_with_end-append : (xs ys : List ℕ) → 2 ≤ length xs → begins_with_end (xs ++ ys) ≡ begins_with_end xs
+begins_with_end-append [] ys l = absurd (omega (arith, l))
+begins_with_end-append (a ∷ []) ys l = absurd (omega (arith, l))
+begins_with_end-append (a ∷ b ∷ xs) ys l = refl
 
-length_some : (xs : List ℕ) (n : ℕ) → IsLength xs n → 0 < length xs
-length_some [] n h = absurd h
-length_some (x ∷ xs) n h = omega arith
+IsLength-some : (xs : List ℕ) (n : ℕ) → IsLength xs n → 0 < length xs
+IsLength-some [] n h = absurd h
+IsLength-some (x ∷ xs) n h = omega arith
 
-encoding_two : (xs : List ℕ) → IsEncoding xs → 2 ≤ length xs
-encoding_two xs e =
+IsEncoding-two_octets : (xs : List ℕ) → IsEncoding xs → 2 ≤ length xs
+IsEncoding-two_octets xs e =
     let f = e.encoding in
     omega (
       arith,
@@ -50,12 +50,12 @@ encoding_two xs e =
       length-append f.identifier (f.len ++ e.contents),
       length-append f.len e.contents,
       identifier_some f.identifier e.class e.constructed e.tag f.identifier_octets,
-      length_some f.len (length e.contents) f.length_octets,
+      IsLength-some f.len (length e.contents) f.length_octets,
     )
 
-element_two : (xs : List ℕ) → IsElement xs → 2 ≤ length xs
-element_two xs (of_definite_form not e) = encoding_two xs e
-element_two xs (of_indefinite_form contents (identifier, e, (class, tag, i)) more) =
+IsElement-two_octets : (xs : List ℕ) → IsElement xs → 2 ≤ length xs
+IsElement-two_octets xs (of_definite_form not e) = IsEncoding-two_octets xs e
+IsElement-two_octets xs (of_indefinite_form contents (identifier, e, (class, tag, i)) more) =
     omega (
       arith,
       ap length e,
@@ -63,26 +63,27 @@ element_two xs (of_indefinite_form contents (identifier, e, (class, tag, i)) mor
       identifier_some identifier class true tag i,
     )
 
-pub form_of : (xs behind : List ℕ) → StandsBehindIndefinite xs behind → HasIndefiniteForm xs
-form_of xs behind (identifier, e, is) = (identifier, behind, e, is)
+pub HasIndefiniteForm-behind : (xs behind : List ℕ) → StandsBehindIndefinite xs behind → HasIndefiniteForm xs
+HasIndefiniteForm-behind xs behind (identifier, e, is) = (identifier, behind, e, is)
 
 -- what stands behind a header of the indefinite form is one
-pub behind_alone :
+pub StandsBehindIndefinite-unique :
     (xs a b : List ℕ) → StandsBehindIndefinite xs a → StandsBehindIndefinite xs b → a ≡ b
-behind_alone xs a b (identifier, e, (class, tag, i)) (identifier', e', (class', tag', i')) =
+StandsBehindIndefinite-unique xs a b (identifier, e, (class, tag, i)) (identifier', e', (class', tag', i')) =
     let same =
     identifier_alone identifier identifier' (128 ∷ a) (128 ∷ b) class class' true true tag tag' i i' (sym e ∙ e') in
     let rest : 128 ∷ a ≡ 128 ∷ b = same.rest in
     cc rest
 
-longer :
+StandsBehindIndefinite-append :
     (xs behind ys : List ℕ) → StandsBehindIndefinite xs behind → StandsBehindIndefinite (xs ++ ys) (behind ++ ys)
-longer xs behind ys (identifier, e, is) =
+StandsBehindIndefinite-append xs behind ys (identifier, e, is) =
     (identifier, ap (λ z. z ++ ys) e ∙ append_assoc identifier (128 ∷ behind) ys, is)
 
 -- octets that begin with an encoding, and have the indefinite form, begin with one of the indefinite form
-form_alone : (part rest : List ℕ) → IsEncoding part → HasIndefiniteForm (part ++ rest) → HasIndefiniteForm part
-form_alone part rest e (identifier, behind, is, (class, tag, i)) =
+HasIndefiniteForm-front :
+    (part rest : List ℕ) → IsEncoding part → HasIndefiniteForm (part ++ rest) → HasIndefiniteForm part
+HasIndefiniteForm-front part rest e (identifier, behind, is, (class, tag, i)) =
     let f = e.encoding in
     let whole : f.identifier ++ (f.len ++ (e.contents ++ rest)) ≡ identifier ++ 128 ∷ behind =
     sym (ap (λ z. z ++ rest) f.whole ∙ (append_assoc f.identifier (f.len ++ e.contents) rest
@@ -101,66 +102,71 @@ form_alone part rest e (identifier, behind, is, (class, tag, i)) =
       (class, tag, i),
     )
 
-form_longer : (xs ys : List ℕ) → HasIndefiniteForm xs → HasIndefiniteForm (xs ++ ys)
-form_longer xs ys (identifier, behind, e, is) =
+HasIndefiniteForm-append : (xs ys : List ℕ) → HasIndefiniteForm xs → HasIndefiniteForm (xs ++ ys)
+HasIndefiniteForm-append xs ys (identifier, behind, e, is) =
     (identifier, behind ++ ys, ap (λ z. z ++ ys) e ∙ append_assoc identifier (128 ∷ behind) ys, is)
 
 -- the first of elements stands at the front
-regrouped : (first rest more : List ℕ) → (first ++ rest) ++ 0 ∷ 0 ∷ more ≡ first ++ (rest ++ 0 ∷ 0 ∷ more)
-regrouped first rest more = append_assoc first rest (0 ∷ 0 ∷ more)
+append-regrouped : (first rest more : List ℕ) → (first ++ rest) ++ 0 ∷ 0 ∷ more ≡ first ++ (rest ++ 0 ∷ 0 ∷ more)
+append-regrouped first rest more = append_assoc first rest (0 ∷ 0 ∷ more)
 
-whole_of :
+append-first_element :
     (xs contents first rest more : List ℕ) → xs ≡ contents ++ 0 ∷ 0 ∷ more → contents ≡ first ++ rest →
     xs ≡ first ++ (rest ++ 0 ∷ 0 ∷ more)
-whole_of xs contents first rest more e f = e ∙ (ap (λ z. z ++ 0 ∷ 0 ∷ more) f ∙ regrouped first rest more)
+append-first_element xs contents first rest more e f =
+    e ∙ (ap (λ z. z ++ 0 ∷ 0 ∷ more) f ∙ append-regrouped first rest more)
 
-ended_first : (contents more : List ℕ) → contents ≡ [] → contents ++ 0 ∷ 0 ∷ more ≡ 0 ∷ 0 ∷ more
-ended_first contents more e = ap (λ z. z ++ 0 ∷ 0 ∷ more) e
+append-no_elements : (contents more : List ℕ) → contents ≡ [] → contents ++ 0 ∷ 0 ∷ more ≡ 0 ∷ 0 ∷ more
+append-no_elements contents more e = ap (λ z. z ++ 0 ∷ 0 ∷ more) e
 
 -- contents octets end with the end-of-contents octets at the front
-pub ends_first :
+pub Closes-end_octets :
     (depth : ℕ) (xs : List ℕ) → begins_with_end xs ≡ true → (after : List ℕ) →
     Closes (suc depth) xs after ↔ Closes depth (drop 2 xs) after
-ends_first depth xs is after = (to, λ more. ([], drop 2 xs, end_is xs is, no_more refl, more))
+Closes-end_octets depth xs is after = (to, λ more. ([], drop 2 xs, begins_with_end-cons xs is, no_more refl, more))
   where
     to : Closes (suc depth) xs after → Closes depth (drop 2 xs) after
     to (contents, more, e, no_more none, later) =
-        let rest : drop 2 xs ≡ more = ap (drop 2) (e ∙ ended_first contents more none) in
+        let rest : drop 2 xs ≡ more = ap (drop 2) (e ∙ append-no_elements contents more none) in
         subst (λ z. Closes depth z after) (sym rest) later
     to (contents, more, e, one_more first rest f not element others, later) =
-        let w = whole_of xs contents first rest more e f in
+        let w = append-first_element xs contents first rest more e f in
         let so : true ≡ false =
-        sym is ∙ (ap begins_with_end w ∙ (front_end first (rest ++ 0 ∷ 0 ∷ more) (element_two first element) ∙ not)) in
+        sym is ∙ (ap begins_with_end w ∙ (begins_with_end-append first (rest ++ 0 ∷ 0 ∷ more)
+        (IsElement-two_octets first element) ∙ not)) in
         absurd (cc so)
 
 module _ (xs : List ℕ) (not : begins_with_end xs ≡ false) where
-  never_ends : (contents more : List ℕ) → xs ≡ contents ++ 0 ∷ 0 ∷ more → contents ≡ [] → ⊥
-  never_ends contents more e none = no_end xs more not (e ∙ ended_first contents more none)
+  append-not_ended : (contents more : List ℕ) → xs ≡ contents ++ 0 ∷ 0 ∷ more → contents ≡ [] → ⊥
+  append-not_ended contents more e none =
+      begins_with_end-not_cons xs more not (e ∙ append-no_elements contents more none)
 
-  not_first : (first rest : List ℕ) → xs ≡ first ++ rest → IsElement first → begins_with_end first ≡ false
-  not_first first rest e element =
-      sym (front_end first rest (element_two first element)) ∙ (sym (ap begins_with_end e) ∙ not)
+  begins_with_end-first_element :
+      (first rest : List ℕ) → xs ≡ first ++ rest → IsElement first → begins_with_end first ≡ false
+  begins_with_end-first_element first rest e element =
+      sym (begins_with_end-append first rest (IsElement-two_octets first element)) ∙ (sym (ap begins_with_end e) ∙ not)
 
   -- inside an element of the indefinite form at the front
-  pub goes_inside :
+  pub Closes-inside :
       (depth : ℕ) (behind : List ℕ) → StandsBehindIndefinite xs behind → (after : List ℕ) →
       Closes (suc depth) xs after ↔ Closes (suc (suc depth)) behind after
-  goes_inside depth behind at after = (to, from)
+  Closes-inside depth behind at after = (to, from)
     where
       to : Closes (suc depth) xs after → Closes (suc (suc depth)) behind after
-      to (contents, more, e, no_more none, later) = absurd (never_ends contents more e none)
+      to (contents, more, e, no_more none, later) = absurd (append-not_ended contents more e none)
       to (contents, more, e, one_more first rest f n (of_definite_form definite encoding) others, later) =
-          let w = whole_of xs contents first rest more e f in
-          absurd (definite (form_alone first (rest ++ 0 ∷ 0 ∷ more) encoding
-          (subst HasIndefiniteForm w (form_of xs behind at))))
+          let w = append-first_element xs contents first rest more e f in
+          absurd (definite (HasIndefiniteForm-front first (rest ++ 0 ∷ 0 ∷ more) encoding
+          (subst HasIndefiniteForm w (HasIndefiniteForm-behind xs behind at))))
       to (contents, more, e, one_more first rest f n (of_indefinite_form inner standing inside) others, later) =
           let left = rest ++ 0 ∷ 0 ∷ more in
-          let w = whole_of xs contents first rest more e f in
+          let w = append-first_element xs contents first rest more e f in
           let here : StandsBehindIndefinite xs ((inner ++ end_octets) ++ left) =
           subst (λ z. StandsBehindIndefinite z ((inner ++ end_octets) ++ left)) (sym w)
-          (longer first (inner ++ end_octets) left standing) in
+          (StandsBehindIndefinite-append first (inner ++ end_octets) left standing) in
           let is : behind ≡ inner ++ 0 ∷ 0 ∷ left =
-          behind_alone xs behind ((inner ++ end_octets) ++ left) at here ∙ append_assoc inner end_octets left in
+          StandsBehindIndefinite-unique xs behind ((inner ++ end_octets) ++ left) at here
+          ∙ append_assoc inner end_octets left in
           (inner, left, is, inside, (rest, more, refl, others, later))
 
       from : Closes (suc (suc depth)) behind after → Closes (suc depth) xs after
@@ -175,95 +181,102 @@ module _ (xs : List ℕ) (not : begins_with_end xs ≡ false) where
           let element : IsElement first = of_indefinite_form inner (identifier, refl, fields) inside in (
             first ++ rest,
             more,
-            w ∙ sym (regrouped first rest more),
-            one_more first rest refl (not_first first (rest ++ 0 ∷ 0 ∷ more) w element) element others,
+            w ∙ sym (append-regrouped first rest more),
+            one_more first rest refl (begins_with_end-first_element first
+                (rest ++ 0 ∷ 0 ∷ more) w element) element others,
             later,
           )
 
   module _ (definite : HasIndefiniteForm xs → ⊥) where
     -- behind an encoding at the front
-    pub goes_behind :
+    pub Closes-behind_encoding :
         (depth : ℕ) (part left : List ℕ) → xs ≡ part ++ left → IsEncoding part → (after : List ℕ) →
         Closes (suc depth) xs after ↔ Closes (suc depth) left after
-    goes_behind depth part left whole encoding after = (to, from)
+    Closes-behind_encoding depth part left whole encoding after = (to, from)
       where
         to : Closes (suc depth) xs after → Closes (suc depth) left after
-        to (contents, more, e, no_more none, later) = absurd (never_ends contents more e none)
+        to (contents, more, e, no_more none, later) = absurd (append-not_ended contents more e none)
         to (contents, more, e, one_more first rest f n (of_definite_form d first_one) others, later) =
-            let w = whole_of xs contents first rest more e f in
+            let w = append-first_element xs contents first rest more e f in
             let same =
             encoding_alone part first _ _ _ _ _ _ _ _ _ _ left (rest ++ 0 ∷ 0 ∷ more) encoding.encoding
             first_one.encoding
             (sym whole ∙ w) in
             (rest, more, same.rest, others, later)
         to (contents, more, e, one_more first rest f n (of_indefinite_form inner standing inside) others, later) =
-            let w = whole_of xs contents first rest more e f in
+            let w = append-first_element xs contents first rest more e f in
             absurd (definite (subst HasIndefiniteForm (sym w)
-            (form_longer first (rest ++ 0 ∷ 0 ∷ more) (form_of first (inner ++ end_octets) standing))))
+            (HasIndefiniteForm-append first (rest ++ 0 ∷ 0 ∷ more)
+            (HasIndefiniteForm-behind first (inner ++ end_octets) standing))))
 
         from : Closes (suc depth) left after → Closes (suc depth) xs after
         from (rest, more, e, others, later) =
             let element : IsElement part =
-            of_definite_form (λ form. definite (subst HasIndefiniteForm (sym whole) (form_longer part left form)))
+            of_definite_form (λ form. definite (subst HasIndefiniteForm (sym whole)
+            (HasIndefiniteForm-append part left form)))
             encoding in (
               part ++ rest,
               more,
-              whole ∙ (ap (λ z. part ++ z) e ∙ sym (regrouped part rest more)),
-              one_more part rest refl (not_first part left whole element) element others,
+              whole ∙ (ap (λ z. part ++ z) e ∙ sym (append-regrouped part rest more)),
+              one_more part rest refl (begins_with_end-first_element part left whole element) element others,
               later,
             )
 
     -- and where none stands there
-    pub goes_nowhere :
+    pub Closes-no_encoding :
         (depth : ℕ) → HasNoEncodingAt xs 0 → (after : List ℕ) → Closes (suc depth) xs after → ⊥
-    goes_nowhere depth none after (contents, more, e, no_more empty, later) = never_ends contents more e empty
-    goes_nowhere depth none after
+    Closes-no_encoding depth none after (contents, more, e, no_more empty, later) =
+        append-not_ended contents more e empty
+    Closes-no_encoding depth none after
         (contents, more, e, one_more first rest f n (of_definite_form d encoding) others, later) =
         none first (record {
           rest = rest ++ 0 ∷ 0 ∷ more;
-          at_offset = whole_of xs contents first rest more e f;
+          at_offset = append-first_element xs contents first rest more e f;
           encoding = encoding;
         })
-    goes_nowhere depth none after
+    Closes-no_encoding depth none after
         (contents, more, e, one_more first rest f n (of_indefinite_form inner standing inside) others, later) =
-        let w = whole_of xs contents first rest more e f in
+        let w = append-first_element xs contents first rest more e f in
         definite (subst HasIndefiniteForm (sym w)
-        (form_longer first (rest ++ 0 ∷ 0 ∷ more) (form_of first (inner ++ end_octets) standing)))
+        (HasIndefiniteForm-append first (rest ++ 0 ∷ 0 ∷ more)
+        (HasIndefiniteForm-behind first (inner ++ end_octets) standing)))
 
 module _ (xs : List ℕ) (definite : HasIndefiniteForm xs → ⊥) where
   -- an element of the definite form is an encoding
-  pub encoding_there : (element : List ℕ) → EncodingAt xs 0 element → ElementAt xs element
-  encoding_there element at = record {
+  pub ElementAt-encoding : (element : List ℕ) → EncodingAt xs 0 element → ElementAt xs element
+  ElementAt-encoding element at = record {
     rest = at.rest;
     at_front = at.at_offset;
     is_element = of_definite_form
-        (λ form. definite (subst HasIndefiniteForm (sym at.at_offset) (form_longer element at.rest form))) at.encoding;
+        (λ form. definite (subst HasIndefiniteForm (sym at.at_offset)
+        (HasIndefiniteForm-append element at.rest form))) at.encoding;
   }
 
-  pub no_encoding_there : HasNoEncodingAt xs 0 → HasNoElement xs
-  no_encoding_there none element at = without at.is_element
+  pub HasNoElement-no_encoding : HasNoEncodingAt xs 0 → HasNoElement xs
+  HasNoElement-no_encoding none element at = without at.is_element
     where
       without : IsElement element → ⊥
       without (of_definite_form d encoding) =
           none element (record { rest = at.rest; at_offset = at.at_front; encoding = encoding })
       without (of_indefinite_form contents standing inside) =
           definite (subst HasIndefiniteForm (sym at.at_front)
-          (form_longer element at.rest (form_of element (contents ++ end_octets) standing)))
+          (HasIndefiniteForm-append element at.rest
+          (HasIndefiniteForm-behind element (contents ++ end_octets) standing)))
 
-take_front : (first rest : List ℕ) → take (length first) (first ++ rest) ≡ first
-take_front [] rest = refl
-take_front (x ∷ first) rest = ap (λ z. x ∷ z) (take_front first rest)
+take-length_append : (first rest : List ℕ) → take (length first) (first ++ rest) ≡ first
+take-length_append [] rest = refl
+take-length_append (x ∷ first) rest = ap (λ z. x ∷ z) (take-length_append first rest)
 
-front_of : (xs first rest : List ℕ) → xs ≡ first ++ rest → take (length xs - length rest) xs ≡ first
-front_of xs first rest e =
+take-length_minus : (xs first rest : List ℕ) → xs ≡ first ++ rest → take (length xs - length rest) xs ≡ first
+take-length_minus xs first rest e =
     let n : length xs - length rest ≡ length first = omega (arith, ap length e, length-append first rest) in
-    ap (λ k. take k xs) n ∙ (ap (take (length first)) e ∙ take_front first rest)
+    ap (λ k. take k xs) n ∙ (ap (take (length first)) e ∙ take-length_append first rest)
 
 module _ (xs behind : List ℕ) (standing : StandsBehindIndefinite xs behind) where
   -- one of the indefinite form ends where its contents octets end
-  pub element_there :
+  pub ElementAt-indefinite :
       (after : List ℕ) → Closes 1 behind after → ElementAt xs (take (length xs - length after) xs)
-  element_there after (contents, more, e, inside, f) =
+  ElementAt-indefinite after (contents, more, e, inside, f) =
       let (identifier, is, fields) = standing in
       let first = identifier ++ 128 ∷ (contents ++ end_octets) in
       let ends : behind ≡ (contents ++ end_octets) ++ after =
@@ -271,32 +284,32 @@ module _ (xs behind : List ℕ) (standing : StandsBehindIndefinite xs behind) wh
       let w : xs ≡ first ++ after =
       is ∙ (ap (λ z. identifier ++ 128 ∷ z) ends
       ∙ sym (append_assoc identifier (128 ∷ (contents ++ end_octets)) after)) in
-      let front = front_of xs first after w in
+      let front = take-length_minus xs first after w in
       record {
         rest = after;
         at_front = w ∙ ap (λ z. z ++ after) (sym front);
         is_element = subst IsElement (sym front) (of_indefinite_form contents (identifier, refl, fields) inside);
       }
 
-  pub no_element_there : ((after : List ℕ) → Closes 1 behind after → ⊥) → HasNoElement xs
-  no_element_there none element at = without at.is_element
+  pub HasNoElement-not_closed : ((after : List ℕ) → Closes 1 behind after → ⊥) → HasNoElement xs
+  HasNoElement-not_closed none element at = without at.is_element
     where
       without : IsElement element → ⊥
       without (of_definite_form definite encoding) =
-          definite (form_alone element at.rest encoding
-          (subst HasIndefiniteForm at.at_front (form_of xs behind standing)))
+          definite (HasIndefiniteForm-front element at.rest encoding
+          (subst HasIndefiniteForm at.at_front (HasIndefiniteForm-behind xs behind standing)))
       without (of_indefinite_form contents here inside) =
           let there : StandsBehindIndefinite xs ((contents ++ end_octets) ++ at.rest) =
           subst (λ z. StandsBehindIndefinite z ((contents ++ end_octets) ++ at.rest)) (sym at.at_front)
-          (longer element (contents ++ end_octets) at.rest here) in
+          (StandsBehindIndefinite-append element (contents ++ end_octets) at.rest here) in
           let is : behind ≡ contents ++ 0 ∷ 0 ∷ at.rest =
-          behind_alone xs behind ((contents ++ end_octets) ++ at.rest) standing there
+          StandsBehindIndefinite-unique xs behind ((contents ++ end_octets) ++ at.rest) standing there
           ∙ append_assoc contents end_octets at.rest in
           none at.rest (contents, at.rest, is, inside, refl)
 
-behind_part :
+append-drop_part :
     (xs part ys : List ℕ) → EncodingAt xs 0 part → ys ≡ drop (min (length part) (length xs)) xs → xs ≡ part ++ ys
-behind_part xs part ys at is =
+append-drop_part xs part ys at is =
     let fits : length part ≤ length xs = omega (arith, ap length at.at_offset, length-append part at.rest) in
     let least : min (length part) (length xs) ≡ length part = omega (arith, fits) in
     let rest : ys ≡ at.rest =
@@ -305,65 +318,65 @@ behind_part xs part ys at is =
     at.at_offset ∙ ap (λ z. part ++ z) (sym rest)
 
 -- what is passed where some contents octets are open
-pub past_end :
+pub Closes-past_end :
     (depth around : ℕ) (xs ys : List ℕ) → 0 < depth → around ≡ depth - 1 → begins_with_end xs ≡ true →
     ys ≡ drop 2 xs → (after : List ℕ) → Closes depth xs after ↔ Closes around ys after
-past_end zero around xs ys some e is f after = absurd (omega (arith, some))
-past_end (suc depth) around xs ys some e is f after =
+Closes-past_end zero around xs ys some e is f after = absurd (omega (arith, some))
+Closes-past_end (suc depth) around xs ys some e is f after =
     let same : depth ≡ around = omega (arith, e) in
     subst (λ z. Closes (suc depth) xs after ↔ Closes z ys after) same
-    (subst (λ z. Closes (suc depth) xs after ↔ Closes depth z after) (sym f) (ends_first depth xs is after))
+    (subst (λ z. Closes (suc depth) xs after ↔ Closes depth z after) (sym f) (Closes-end_octets depth xs is after))
 
-pub past_header :
+pub Closes-past_header :
     (depth inside : ℕ) (xs behind : List ℕ) → 0 < depth → inside ≡ depth + 1 → begins_with_end xs ≡ false →
     StandsBehindIndefinite xs behind → (after : List ℕ) → Closes depth xs after ↔ Closes inside behind after
-past_header zero inside xs behind some e not at after = absurd (omega (arith, some))
-past_header (suc depth) inside xs behind some e not at after =
+Closes-past_header zero inside xs behind some e not at after = absurd (omega (arith, some))
+Closes-past_header (suc depth) inside xs behind some e not at after =
     let is : suc (suc depth) ≡ inside = omega (arith, e) in
     subst (λ z. Closes (suc depth) xs after ↔ Closes z behind after) is
-    (goes_inside xs not depth behind at after)
+    (Closes-inside xs not depth behind at after)
 
-pub past_encoding :
+pub Closes-past_encoding :
     (depth : ℕ) (xs part ys : List ℕ) → 0 < depth → begins_with_end xs ≡ false → (HasIndefiniteForm xs → ⊥) →
     EncodingAt xs 0 part → ys ≡ drop (min (length part) (length xs)) xs → (after : List ℕ) →
     Closes depth xs after ↔ Closes depth ys after
-past_encoding zero xs part ys some not definite at e after = absurd (omega (arith, some))
-past_encoding (suc depth) xs part ys some not definite at e after =
-    goes_behind xs not definite depth part ys (behind_part xs part ys at e) at.encoding after
+Closes-past_encoding zero xs part ys some not definite at e after = absurd (omega (arith, some))
+Closes-past_encoding (suc depth) xs part ys some not definite at e after =
+    Closes-behind_encoding xs not definite depth part ys (append-drop_part xs part ys at e) at.encoding after
 
-pub past_nothing :
+pub Closes-nothing :
     (depth : ℕ) (xs : List ℕ) → 0 < depth → begins_with_end xs ≡ false → (HasIndefiniteForm xs → ⊥) →
     HasNoEncodingAt xs 0 → (after : List ℕ) → Closes depth xs after → ⊥
-past_nothing zero xs some not definite none after h = absurd (omega (arith, some))
-past_nothing (suc depth) xs some not definite none after h = goes_nowhere xs not definite depth none after h
+Closes-nothing zero xs some not definite none after h = absurd (omega (arith, some))
+Closes-nothing (suc depth) xs some not definite none after h = Closes-no_encoding xs not definite depth none after h
 
 -- an element of the definite form, or none
-pub encoding_or_none :
+pub MatchOption-element :
     (xs : List ℕ) (r : Option (Bor (List ℕ))) → (HasIndefiniteForm xs → ⊥) → IfSome r (λ o. EncodingAt xs 0 o.now) →
     IfNone r (HasNoEncodingAt xs 0) → MatchOption r (HasNoElement xs) (λ o. ElementAt xs o.now)
-encoding_or_none xs None definite found none = no_encoding_there xs definite none
-encoding_or_none xs (Some o) definite found none = encoding_there xs definite o.now found
+MatchOption-element xs None definite found none = HasNoElement-no_encoding xs definite none
+MatchOption-element xs (Some o) definite found none = ElementAt-encoding xs definite o.now found
 
 -- contents octets
-pub contents_before :
+pub MatchOption-contents :
     (xs behind : List ℕ) (r : Option (Bor (List ℕ))) → StandsBehindIndefinite xs behind →
     MatchOption r ((contents : List ℕ) → behind ≡ contents ++ end_octets → ⊥)
     (λ contents. behind ≡ contents.now ++ end_octets) →
     MatchOption r (HasNoContents xs) (λ contents. HasContents xs contents.now)
-contents_before xs behind (Some o) standing e =
+MatchOption-contents xs behind (Some o) standing e =
     of_indefinite_length (subst (StandsBehindIndefinite xs) e standing)
-contents_before xs behind None standing none = λ contents h. without contents h
+MatchOption-contents xs behind None standing none = λ contents h. without contents h
   where
     without : (contents : List ℕ) → HasContents xs contents → ⊥
-    without contents (of_definite_length definite header) = definite (form_of xs behind standing)
+    without contents (of_definite_length definite header) = definite (HasIndefiniteForm-behind xs behind standing)
     without contents (of_indefinite_length here) =
-        none contents (behind_alone xs behind (contents ++ end_octets) standing here)
+        none contents (StandsBehindIndefinite-unique xs behind (contents ++ end_octets) standing here)
 
 -- a header of the indefinite form
-pub behind_form :
+pub StandsBehindIndefinite-header :
     (xs : List ℕ) (s n : ℕ) (c : ASN1Class) (k : Bool) (t : ℕ) → BeginsWithHeader xs s n c k t →
     HasIndefiniteForm xs → StandsBehindIndefinite xs (drop s xs)
-behind_form xs s n c k t h (identifier, behind, e, (class, tag, i)) =
+StandsBehindIndefinite-header xs s n c k t h (identifier, behind, e, (class, tag, i)) =
     let whole : h.identifier ++ (h.len ++ drop s xs) ≡ identifier ++ 128 ∷ behind =
     sym (sym (take-append-drop s xs)
     ∙ (ap (λ z. z ++ drop s xs) h.front_is ∙ append_assoc h.identifier h.len (drop s xs)))
@@ -374,8 +387,8 @@ behind_form xs s n c k t h (identifier, behind, e, (class, tag, i)) =
     let len = length_alone h.len (128 ∷ []) (drop s xs) behind n 0 h.length_octets none same.rest in
     (identifier, e ∙ ap (λ z. identifier ++ 128 ∷ z) (sym len.rest), (class, tag, i))
 
-pub no_form : (xs : List ℕ) → HasNoHeader xs → HasIndefiniteForm xs → ⊥
-no_form xs none (identifier, behind, e, (class, tag, i)) =
+pub HasIndefiniteForm-no_header : (xs : List ℕ) → HasNoHeader xs → HasIndefiniteForm xs → ⊥
+HasIndefiniteForm-no_header xs none (identifier, behind, e, (class, tag, i)) =
     none (identifier ++ 128 ∷ []) behind (
       identifier,
       128 ∷ [],
@@ -385,21 +398,21 @@ no_form xs none (identifier, behind, e, (class, tag, i)) =
     )
     (e ∙ sym (append_assoc identifier (128 ∷ []) behind))
 
-pub is_so : (b : Bool) → not b ≡ false → b ≡ true
-is_so true e = refl
-is_so false e =
+pub true-not_false : (b : Bool) → not b ≡ false → b ≡ true
+true-not_false true e = refl
+true-not_false false e =
     let never : true ≡ false = e in
     absurd (cc never)
 
-pub is_not : (b : Bool) → not b ≡ true → b ≡ true → ⊥
-is_not true e f =
+pub false-not_true : (b : Bool) → not b ≡ true → b ≡ true → ⊥
+false-not_true true e f =
     let never : false ≡ true = e in
     absurd (cc never)
-is_not false e f = absurd (cc f)
+false-not_true false e f = absurd (cc f)
 
 -- octets without a header begin with no element
-pub no_header_no_element : (xs : List ℕ) → HasNoHeader xs → HasNoElement xs
-no_header_no_element xs none element at = without at.is_element
+pub HasNoElement-no_header : (xs : List ℕ) → HasNoHeader xs → HasNoElement xs
+HasNoElement-no_header xs none element at = without at.is_element
   where
     without : IsElement element → ⊥
     without (of_definite_form definite encoding) =
@@ -416,15 +429,15 @@ no_header_no_element xs none element at = without at.is_element
         ∙ (ap (λ z. f.identifier ++ z) (append_assoc f.len encoding.contents at.rest)
         ∙ sym (append_assoc f.identifier f.len (encoding.contents ++ at.rest))))))
     without (of_indefinite_form contents standing inside) =
-        no_form xs none (subst HasIndefiniteForm (sym at.at_front)
-        (form_longer element at.rest (form_of element (contents ++ end_octets) standing)))
+        HasIndefiniteForm-no_header xs none (subst HasIndefiniteForm (sym at.at_front)
+        (HasIndefiniteForm-append element at.rest (HasIndefiniteForm-behind element (contents ++ end_octets) standing)))
 
-pub nothing_no_element : (xs : List ℕ) → xs ≡ [] → HasNoElement xs
-nothing_no_element xs none element at =
+pub HasNoElement-nil : (xs : List ℕ) → xs ≡ [] → HasNoElement xs
+HasNoElement-nil xs none element at =
     absurd (omega (
       arith,
       ap length none,
       ap length at.at_front,
       length-append element at.rest,
-      element_two element at.is_element,
+      IsElement-two_octets element at.is_element,
     ))

@@ -1,4 +1,4 @@
--- Headers at the front of octets.
+-- What stands behind a header at the front of octets, for `element::behind_header`.
 use Rattle.std.proofs.Common.{ℕ, List, drop, take, sym}
 use Rattle.std.proofs.lemmas.List.{take-append-drop}
 use Rattle.asn1_headers.specs.Front.{IsHeader}
@@ -7,8 +7,8 @@ use Rattle.asn1_headers.specs.declared.front.Header.{Header}
 use Rattle.der_elements.specs.Headers.{StandsBehindHeader}
 
 -- a header that was read
-pub front_header : (octets : List ℕ) (header : Header) → IsAtFront octets header → IsHeader (take header.size octets)
-front_header octets header h = (
+pub IsHeader-front : (octets : List ℕ) (header : Header) → IsAtFront octets header → IsHeader (take header.size octets)
+IsHeader-front octets header h = (
   h.identifier,
   h.len,
   h.front_is,
@@ -17,7 +17,7 @@ front_header octets header h = (
 )
 
 -- what stands behind it
-pub behind_front :
+pub StandsBehindHeader-drop :
     (octets : List ℕ) (header : Header) → IsAtFront octets header → StandsBehindHeader octets (drop header.size octets)
-behind_front octets header h =
-    (take header.size octets, sym (take-append-drop header.size octets), front_header octets header h)
+StandsBehindHeader-drop octets header h =
+    (take header.size octets, sym (take-append-drop header.size octets), IsHeader-front octets header h)

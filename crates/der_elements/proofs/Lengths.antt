@@ -1,4 +1,4 @@
--- Length octets behind identifier octets.
+-- Length octets behind identifier octets, for `header::has_indefinite_length`.
 use Rattle.std.proofs.Common.{◌≡◌, ℕ, List, ◌++◌, drop, length, refl, sym, ap, ◌∙◌, append_assoc}
 use Rattle.std.proofs.lemmas.List.{drop_at, take-append-drop}
 use Rattle.asn1_headers.specs.declared.front.Header.{Header}
@@ -11,18 +11,18 @@ IsBehind octets found =
     (identifier behind : List ℕ) (tag : ℕ) → IsSomeIdentifier identifier tag → octets ≡ identifier ++ behind →
     found ≡ behind
 
-pub front_parts :
+pub append-header_parts :
     (octets : List ℕ) (header : Header) (h : IsAtFront octets header) →
     octets ≡ h.identifier ++ (h.len ++ drop header.size octets)
-front_parts octets header h =
+append-header_parts octets header h =
     sym (take-append-drop header.size octets)
     ∙ (ap (λ z. z ++ drop header.size octets) h.front_is ∙ append_assoc h.identifier h.len (drop header.size octets))
 
-pub behind_front :
+pub IsBehind-drop :
     (octets found : List ℕ) (header : Header) (h : IsAtFront octets header) → IsBehind octets found →
     found ≡ drop (length h.identifier) octets
-behind_front octets found header h is =
-    let whole = front_parts octets header h in
+IsBehind-drop octets found header h is =
+    let whole = append-header_parts octets header h in
     let behind = h.len ++ drop header.size octets in
     is h.identifier behind header.tag (header.class, header.constructed, h.fields) whole
     ∙ sym (ap (drop (length h.identifier)) whole ∙ drop_at h.identifier behind (length h.identifier) refl)

@@ -1,4 +1,4 @@
--- Where encodings begin, header after header.
+-- Where encodings begin, header after header, for `seek`.
 use Rattle.std.proofs.Common.{◌≡◌, ◌⊎◌, ℕ, zero, suc, nat_lt, ◌+◌, ◌<◌, ◌≤◌, min, Bool, Bor, true, false, List, [], ◌∷◌}
 use Rattle.std.proofs.Common.{◌++◌, drop, length, take, inl, inr, refl, sym, ap, ◌∙◌, subst, append_assoc, arith}
 use Rattle.std.specs.Prelude.{◌↔◌, Err, IfErr, IfOk, Ok, Result}
@@ -13,7 +13,7 @@ use Rattle.der_elements.specs.Ends.{begins_with_end}
 use Rattle.der_elements.specs.Headers.{is_stray_form}
 use Rattle.der_elements.specs.Elements.{ElementAt, HasNoElement}
 use Rattle.der_elements.specs.Headers.{is_gone_into}
-use Rattle.der_elements.proofs.Elements.{end_is, no_header_no_element, nothing_no_element}
+use Rattle.der_elements.proofs.Elements.{HasNoElement-nil, HasNoElement-no_header, begins_with_end-cons}
 use Rattle.der_elements.specs.Seek.{AreEncodings, BeginsAt, HasNoBlockAt, Holds, LacksBlock, LeadsTo, Reaches, behind_element}
 use Rattle.der_elements.specs.Seek.{behind_end, behind_indefinite, ends_contents, holds_bits, holds_blocks, holds_octets}
 use Rattle.der_elements.specs.Seek.{inside_element, is_further, is_here, none_left, one_first}
@@ -21,21 +21,21 @@ use Rattle.der_elements.specs.SeekSteps.{StandsThere}
 use Rattle.der_elements.specs.declared.seek.NoBlock.{NoBlock}
 use Rattle.der_elements.specs.declared.seek.NoBlock.TheVariants.{CutShort, EndOfContents, Nothing, Unreadable}
 
-identifier_some : (xs : List ℕ) (c : ASN1Class) (k : Bool) (t : ℕ) → IsIdentifier xs c k t → 0 < length xs
-identifier_some [] c k t h = absurd h
-identifier_some (x ∷ xs) c k t h = omega arith
+IsIdentifier-some : (xs : List ℕ) (c : ASN1Class) (k : Bool) (t : ℕ) → IsIdentifier xs c k t → 0 < length xs
+IsIdentifier-some [] c k t h = absurd h
+IsIdentifier-some (x ∷ xs) c k t h = omega arith
 
-pub header_size :
+pub size-length_header :
     (octets : List ℕ) (s n : ℕ) (c : ASN1Class) (k : Bool) (t : ℕ) (h : BeginsWithHeader octets s n c k t) →
     s ≡ length h.identifier + length h.len
-header_size octets s n c k t h =
+size-length_header octets s n c k t h =
     sym (length-take-le s octets h.within) ∙ (ap length h.front_is ∙ length-append h.identifier h.len)
 
 -- a header has octets
-pub header_some :
+pub BeginsWithHeader-some :
     (octets : List ℕ) (s n : ℕ) (c : ASN1Class) (k : Bool) (t : ℕ) → BeginsWithHeader octets s n c k t → 0 < s
-header_some octets s n c k t h =
-    omega (arith, header_size octets s n c k t h, identifier_some h.identifier c k t h.fields)
+BeginsWithHeader-some octets s n c k t h =
+    omega (arith, size-length_header octets s n c k t h, IsIdentifier-some h.identifier c k t h.fields)
 
 -- what two headers at the front of one list share
 pub record SameHeader (s n : ℕ) (c : ASN1Class) (k : Bool) (t : ℕ) (s' n' : ℕ) (c' : ASN1Class) (k' : Bool) (t' : ℕ)
@@ -46,18 +46,18 @@ pub record SameHeader (s n : ℕ) (c : ASN1Class) (k : Bool) (t : ℕ) (s' n' : 
   pub constructed : k ≡ k'
   pub tag : t ≡ t'
 
-front_parts :
+append-header_parts :
     (octets : List ℕ) (s n : ℕ) (c : ASN1Class) (k : Bool) (t : ℕ) (h : BeginsWithHeader octets s n c k t) →
     octets ≡ h.identifier ++ (h.len ++ drop s octets)
-front_parts octets s n c k t h =
+append-header_parts octets s n c k t h =
     sym (take-append-drop s octets)
     ∙ (ap (λ z. z ++ drop s octets) h.front_is ∙ append_assoc h.identifier h.len (drop s octets))
 
-pub header_alone :
+pub BeginsWithHeader-unique :
     (octets : List ℕ) (s n : ℕ) (c : ASN1Class) (k : Bool) (t : ℕ) (s' n' : ℕ) (c' : ASN1Class) (k' : Bool) (t' : ℕ) →
     BeginsWithHeader octets s n c k t → BeginsWithHeader octets s' n' c' k' t' → SameHeader s n c k t s' n' c' k' t'
-header_alone octets s n c k t s' n' c' k' t' h g =
-    let whole = sym (front_parts octets s n c k t h) ∙ front_parts octets s' n' c' k' t' g in
+BeginsWithHeader-unique octets s n c k t s' n' c' k' t' h g =
+    let whole = sym (append-header_parts octets s n c k t h) ∙ append-header_parts octets s' n' c' k' t' g in
     let i =
     identifier_alone h.identifier g.identifier (h.len ++ drop s octets) (g.len ++ drop s' octets) c c' k k' t t'
     h.fields
@@ -67,8 +67,8 @@ header_alone octets s n c k t s' n' c' k' t' h g =
     let size : s ≡ s' =
     omega (
       arith,
-      header_size octets s n c k t h,
-      header_size octets s' n' c' k' t' g,
+      size-length_header octets s n c k t h,
+      size-length_header octets s' n' c' k' t' g,
       ap length i.octets,
       ap length l.octets,
     )
@@ -76,11 +76,11 @@ header_alone octets s n c k t s' n' c' k' t' h g =
     record { size = size; announced = l.number; class = i.class; constructed = i.constructed; tag = i.tag }
 
 -- two headers at the front have the same identifier octets
-pub identifier_same :
+pub identifier-unique :
     (octets : List ℕ) (s n : ℕ) (c : ASN1Class) (k : Bool) (t : ℕ) (s' n' : ℕ) (c' : ASN1Class) (k' : Bool) (t' : ℕ)
     (h : BeginsWithHeader octets s n c k t) (g : BeginsWithHeader octets s' n' c' k' t') → h.identifier ≡ g.identifier
-identifier_same octets s n c k t s' n' c' k' t' h g =
-    let whole = sym (front_parts octets s n c k t h) ∙ front_parts octets s' n' c' k' t' g in
+identifier-unique octets s n c k t s' n' c' k' t' h g =
+    let whole = sym (append-header_parts octets s n c k t h) ∙ append-header_parts octets s' n' c' k' t' g in
     let i =
     identifier_alone h.identifier g.identifier (h.len ++ drop s octets) (g.len ++ drop s' octets) c c' k k' t t'
     h.fields
@@ -89,20 +89,20 @@ identifier_same octets s n c k t s' n' c' k' t' h g =
     i.octets
 
 -- and the same form of length
-pub stray_same :
+pub is_stray_form-unique :
     (octets : List ℕ) (s n : ℕ) (c : ASN1Class) (k : Bool) (t : ℕ) (s' n' : ℕ) (c' : ASN1Class) (k' : Bool) (t' : ℕ)
     (h : BeginsWithHeader octets s n c k t) (g : BeginsWithHeader octets s' n' c' k' t') →
     is_stray_form k (drop (length h.identifier) octets) ≡ is_stray_form k' (drop (length g.identifier) octets)
-stray_same octets s n c k t s' n' c' k' t' h g =
-    let same = header_alone octets s n c k t s' n' c' k' t' h g in
+is_stray_form-unique octets s n c k t s' n' c' k' t' h g =
+    let same = BeginsWithHeader-unique octets s n c k t s' n' c' k' t' h g in
     ap (λ z. is_stray_form z (drop (length h.identifier) octets)) same.constructed
-    ∙ ap (λ z. is_stray_form k' (drop (length z) octets)) (identifier_same octets s n c k t s' n' c' k' t' h g)
+    ∙ ap (λ z. is_stray_form k' (drop (length z) octets)) (identifier-unique octets s n c k t s' n' c' k' t' h g)
 
 -- a header with the fields of another one
-pub moved :
+pub BeginsWithHeader-same :
     (octets : List ℕ) (s n : ℕ) (c : ASN1Class) (k : Bool) (t : ℕ) (s' n' : ℕ) (c' : ASN1Class) (k' : Bool) (t' : ℕ) →
     BeginsWithHeader octets s n c k t → SameHeader s n c k t s' n' c' k' t' → BeginsWithHeader octets s' n' c' k' t'
-moved octets s n c k t s' n' c' k' t' h same = record {
+BeginsWithHeader-same octets s n c k t s' n' c' k' t' h same = record {
   within = subst (λ z. z ≤ length octets) same.size h.within;
   identifier = h.identifier;
   len = h.len;
@@ -114,18 +114,18 @@ moved octets s n c k t s' n' c' k' t' h same = record {
 }
 
 -- where no header stands, no block is looked for
-pub no_header_begins :
+pub HasNoHeader-begins :
     (octets : List ℕ) (s n : ℕ) (c : ASN1Class) (k : Bool) (t : ℕ) → HasNoHeader octets →
     BeginsWithHeader octets s n c k t → ⊥
-no_header_begins octets s n c k t none h =
+HasNoHeader-begins octets s n c k t none h =
     none (take s octets) (drop s octets) (h.identifier, h.len, h.front_is, (t, (c, k, h.fields)), (n, h.length_octets))
     (sym (take-append-drop s octets))
 
 -- contents octets are blocks, or those of a string
-not_both :
+is_gone_into-not_both :
     (c : ASN1Class) (k : Bool) (t m : ℕ) → c ≡ Universal → k ≡ false → t ≡ m → is_gone_into Universal false m ≡ false →
     is_gone_into c k t ≡ true → ⊥
-not_both c k t m p q r not_so h =
+is_gone_into-not_both c k t m p q r not_so h =
     let so : is_gone_into Universal false m ≡ true =
     subst (λ z. is_gone_into z false m ≡ true) p
     (subst (λ z. is_gone_into c z m ≡ true) q (subst (λ z. is_gone_into c k z ≡ true) r h))
@@ -137,31 +137,33 @@ pub record SameInside (b b' : ℕ) (i i' : List ℕ) : Type 0 where
   pub before : b ≡ b'
   pub inside : i ≡ i'
 
-pub holds_alone :
+pub Holds-unique :
     (c : ASN1Class) (k : Bool) (t : ℕ) (v : List ℕ) (b b' : ℕ) (i i' : List ℕ) → Holds c k t v b i →
     Holds c k t v b' i' → SameInside b b' i i'
-holds_alone c k t v b b' i i' (holds_blocks g z e) (holds_blocks g' z' e') =
+Holds-unique c k t v b b' i i' (holds_blocks g z e) (holds_blocks g' z' e') =
     record { before = z ∙ sym z'; inside = e ∙ sym e' }
-holds_alone c k t v b b' i i' (holds_blocks g z e) (holds_octets p q r z' e' a') =
-    absurd (not_both c k t 4 p q r refl g)
-holds_alone c k t v b b' i i' (holds_blocks g z e) (holds_bits p q r z' e' a') = absurd (not_both c k t 3 p q r refl g)
-holds_alone c k t v b b' i i' (holds_octets p q r z e a) (holds_blocks g' z' e') =
-    absurd (not_both c k t 4 p q r refl g')
-holds_alone c k t v b b' i i' (holds_octets p q r z e a) (holds_octets p' q' r' z' e' a') =
+Holds-unique c k t v b b' i i' (holds_blocks g z e) (holds_octets p q r z' e' a') =
+    absurd (is_gone_into-not_both c k t 4 p q r refl g)
+Holds-unique c k t v b b' i i' (holds_blocks g z e) (holds_bits p q r z' e' a') =
+    absurd (is_gone_into-not_both c k t 3 p q r refl g)
+Holds-unique c k t v b b' i i' (holds_octets p q r z e a) (holds_blocks g' z' e') =
+    absurd (is_gone_into-not_both c k t 4 p q r refl g')
+Holds-unique c k t v b b' i i' (holds_octets p q r z e a) (holds_octets p' q' r' z' e' a') =
     record { before = z ∙ sym z'; inside = e ∙ sym e' }
-holds_alone c k t v b b' i i' (holds_octets p q r z e a) (holds_bits p' q' r' z' e' a') = absurd (omega (arith, r, r'))
-holds_alone c k t v b b' i i' (holds_bits p q r z e a) (holds_blocks g' z' e') = absurd (not_both c k t 3 p q r refl g')
-holds_alone c k t v b b' i i' (holds_bits p q r z e a) (holds_octets p' q' r' z' e' a') = absurd (omega (arith, r, r'))
-holds_alone c k t v b b' i i' (holds_bits p q r z e a) (holds_bits p' q' r' z' e' a') =
+Holds-unique c k t v b b' i i' (holds_octets p q r z e a) (holds_bits p' q' r' z' e' a') = absurd (omega (arith, r, r'))
+Holds-unique c k t v b b' i i' (holds_bits p q r z e a) (holds_blocks g' z' e') =
+    absurd (is_gone_into-not_both c k t 3 p q r refl g')
+Holds-unique c k t v b b' i i' (holds_bits p q r z e a) (holds_octets p' q' r' z' e' a') = absurd (omega (arith, r, r'))
+Holds-unique c k t v b b' i i' (holds_bits p q r z e a) (holds_bits p' q' r' z' e' a') =
     let same : 0 ∷ i ≡ 0 ∷ i' = sym e ∙ e' in
     record { before = z ∙ sym z'; inside = cc same }
 
 -- what the header of another spelling says of the contents, that of this one says
-holds_moved :
+Holds-same_header :
     (octets : List ℕ) (s n : ℕ) (c : ASN1Class) (k : Bool) (t : ℕ) (s' n' : ℕ) (c' : ASN1Class) (k' : Bool) (t' : ℕ)
     (b : ℕ) (i : List ℕ) → SameHeader s n c k t s' n' c' k' t' →
     Holds c' k' t' (take n' (drop s' octets)) b i → Holds c k t (take n (drop s octets)) b i
-holds_moved octets s n c k t s' n' c' k' t' b i same h =
+Holds-same_header octets s n c k t s' n' c' k' t' b i same h =
     subst (λ z. Holds z k t (take n (drop s octets)) b i) (sym same.class)
     (subst (λ z. Holds c' z t (take n (drop s octets)) b i) (sym same.constructed)
     (subst (λ z. Holds c' k' z (take n (drop s octets)) b i) (sym same.tag)
@@ -169,26 +171,26 @@ holds_moved octets s n c k t s' n' c' k' t' b i same h =
     (subst (λ z. Holds c' k' t' (take n' (drop z octets)) b i) (sym same.size) h))))
 
 -- the end of contents octets stands where some are open
-open_end : (o a : ℕ) (xs : List ℕ) → o ≡ suc a → begins_with_end xs ≡ true → ends_contents o xs ≡ false → ⊥
-open_end o a xs e is not =
+ends_contents-open : (o a : ℕ) (xs : List ℕ) → o ≡ suc a → begins_with_end xs ≡ true → ends_contents o xs ≡ false → ⊥
+ends_contents-open o a xs e is not =
     let so : true ≡ false = sym is ∙ (ap (λ z. ends_contents z xs) (sym e) ∙ not) in
     absurd (cc so)
 
-pub ends_none : (d : ℕ) (xs : List ℕ) → d ≤ 0 → nat_lt 0 d ≡ ends_contents d xs
-ends_none zero xs none = refl
-ends_none (suc d) xs none = absurd (omega (arith, none))
+pub ends_contents-none_open : (d : ℕ) (xs : List ℕ) → d ≤ 0 → nat_lt 0 d ≡ ends_contents d xs
+ends_contents-none_open zero xs none = refl
+ends_contents-none_open (suc d) xs none = absurd (omega (arith, none))
 
-pub ends_some : (d : ℕ) (xs : List ℕ) → 0 < d → begins_with_end xs ≡ ends_contents d xs
-ends_some zero xs some = absurd (omega (arith, some))
-ends_some (suc d) xs some = refl
+pub ends_contents-some_open : (d : ℕ) (xs : List ℕ) → 0 < d → begins_with_end xs ≡ ends_contents d xs
+ends_contents-some_open zero xs some = absurd (omega (arith, some))
+ends_contents-some_open (suc d) xs some = refl
 
-pub ended_is :
+pub ends_contents-octets :
     (d : ℕ) (xs : List ℕ) → ends_contents d xs ≡ true → (0 < d) × (begins_with_end xs ≡ true) × (2 ≤ length xs)
-ended_is zero xs e =
+ends_contents-octets zero xs e =
     let never : false ≡ true = e in
     absurd (cc never)
-ended_is (suc d) xs e =
-    let two : length xs ≡ suc (suc (length (drop 2 xs))) = ap length (end_is xs e) in
+ends_contents-octets (suc d) xs e =
+    let two : length xs ≡ suc (suc (length (drop 2 xs))) = ap length (begins_with_end-cons xs e) in
     (omega arith, e, omega (arith, two))
 
 pub record SameLead (a b : ℕ) (xs ys : List ℕ) (d e : ℕ) : Type 0 where
@@ -197,58 +199,59 @@ pub record SameLead (a b : ℕ) (xs ys : List ℕ) (d e : ℕ) : Type 0 where
   pub later : d ≡ e
 
 -- all leads to one
-pub leads_alone :
+pub LeadsTo-unique :
     (o : ℕ) (xs : List ℕ) (d a a' : ℕ) (ys ys' : List ℕ) (l l' : ℕ) → LeadsTo o xs d a ys l →
     LeadsTo o xs d a' ys' l' → SameLead a a' ys ys' l l'
-leads_alone o xs d a a' ys ys' _ _ (behind_end p i e f) (behind_end p' i' e' f') =
+LeadsTo-unique o xs d a a' ys ys' _ _ (behind_end p i e f) (behind_end p' i' e' f') =
     record { around = omega (arith, p, p'); others = e ∙ sym e'; later = omega (arith, f, f') }
-leads_alone o xs d a a' ys ys' _ _ (behind_end p i e f) (behind_element s' n' c' k' t' not' h' form' p' e' f') =
-    absurd (open_end o a xs p i not')
-leads_alone o xs d a a' ys ys' _ _ (behind_end p i e f) (inside_element s' n' c' k' t' b' not' h' form' p' e' m' f') =
-    absurd (open_end o a xs p i not')
-leads_alone o xs d a a' ys ys' _ _ (behind_end p i e f) (behind_indefinite s' n' c' k' t' not' h' form' p' e' f') =
-    absurd (open_end o a xs p i not')
-leads_alone o xs d a a' ys ys' _ _ (behind_element s n c k t not h form p e f) (behind_end p' i' e' f') =
-    absurd (open_end o a' xs p' i' not)
-leads_alone o xs d a a' ys ys' _ _ (behind_element s n c k t _ h _ p e f)
+LeadsTo-unique o xs d a a' ys ys' _ _ (behind_end p i e f) (behind_element s' n' c' k' t' not' h' form' p' e' f') =
+    absurd (ends_contents-open o a xs p i not')
+LeadsTo-unique o xs d a a' ys ys' _ _ (behind_end p i e f)
+    (inside_element s' n' c' k' t' b' not' h' form' p' e' m' f') =
+    absurd (ends_contents-open o a xs p i not')
+LeadsTo-unique o xs d a a' ys ys' _ _ (behind_end p i e f) (behind_indefinite s' n' c' k' t' not' h' form' p' e' f') =
+    absurd (ends_contents-open o a xs p i not')
+LeadsTo-unique o xs d a a' ys ys' _ _ (behind_element s n c k t not h form p e f) (behind_end p' i' e' f') =
+    absurd (ends_contents-open o a' xs p' i' not)
+LeadsTo-unique o xs d a a' ys ys' _ _ (behind_element s n c k t _ h _ p e f)
     (behind_element s' n' c' k' t' _ h' _ p' e' f') =
-    let same = header_alone xs s n c k t s' n' c' k' t' h h' in
+    let same = BeginsWithHeader-unique xs s n c k t s' n' c' k' t' h h' in
     let sum : s + n ≡ s' + n' = omega (arith, same.size, same.announced) in
     record { around = p ∙ sym p'; others = e ∙ (ap (λ z. drop z xs) sum ∙ sym e'); later = omega (arith, sum, f, f') }
-leads_alone o xs d a a' ys ys' _ _ (behind_element s n c k t _ h _ _ _ f)
+LeadsTo-unique o xs d a a' ys ys' _ _ (behind_element s n c k t _ h _ _ _ f)
     (inside_element s' n' c' k' t' _ _ h' _ _ _ m' f') =
-    let same = header_alone xs s n c k t s' n' c' k' t' h h' in
+    let same = BeginsWithHeader-unique xs s n c k t s' n' c' k' t' h h' in
     absurd (omega (arith, same.size, same.announced, f, f', m'))
-leads_alone o xs d a a' ys ys' _ _ (behind_element _ _ _ _ _ _ _ form _ _ _)
+LeadsTo-unique o xs d a a' ys ys' _ _ (behind_element _ _ _ _ _ _ _ form _ _ _)
     (behind_indefinite _ _ _ _ _ _ _ form' _ _ _) =
     absurd (form form')
-leads_alone o xs d a a' ys ys' _ _ (inside_element s n c k t b not h form p e m f) (behind_end p' i' e' f') =
-    absurd (open_end o a' xs p' i' not)
-leads_alone o xs d a a' ys ys' _ _ (inside_element s n c k t _ _ h _ _ _ m f)
+LeadsTo-unique o xs d a a' ys ys' _ _ (inside_element s n c k t b not h form p e m f) (behind_end p' i' e' f') =
+    absurd (ends_contents-open o a' xs p' i' not)
+LeadsTo-unique o xs d a a' ys ys' _ _ (inside_element s n c k t _ _ h _ _ _ m f)
     (behind_element s' n' c' k' t' _ h' _ _ _ f') =
-    let same = header_alone xs s n c k t s' n' c' k' t' h h' in
+    let same = BeginsWithHeader-unique xs s n c k t s' n' c' k' t' h h' in
     absurd (omega (arith, same.size, same.announced, f, f', m))
-leads_alone o xs d a a' ys ys' _ _ (inside_element s n c k t b _ h _ p e _ f)
+LeadsTo-unique o xs d a a' ys ys' _ _ (inside_element s n c k t b _ h _ p e _ f)
     (inside_element s' n' c' k' t' b' _ h' _ p' e' _ f') =
-    let same = header_alone xs s n c k t s' n' c' k' t' h h' in
+    let same = BeginsWithHeader-unique xs s n c k t s' n' c' k' t' h h' in
     let one =
-    holds_alone c k t (take n (drop s xs)) b b' ys ys' e (holds_moved xs s n c k t s' n' c' k' t' b' ys' same e')
+    Holds-unique c k t (take n (drop s xs)) b b' ys ys' e (Holds-same_header xs s n c k t s' n' c' k' t' b' ys' same e')
     in
     record { around = p ∙ sym p'; others = one.inside; later = omega (arith, same.size, one.before, f, f') }
-leads_alone o xs d a a' ys ys' _ _ (inside_element _ _ _ _ _ _ _ _ form _ _ _ _)
+LeadsTo-unique o xs d a a' ys ys' _ _ (inside_element _ _ _ _ _ _ _ _ form _ _ _ _)
     (behind_indefinite _ _ _ _ _ _ _ form' _ _ _) =
     absurd (form form')
-leads_alone o xs d a a' ys ys' _ _ (behind_indefinite s n c k t not h form p e f) (behind_end p' i' e' f') =
-    absurd (open_end o a' xs p' i' not)
-leads_alone o xs d a a' ys ys' _ _ (behind_indefinite _ _ _ _ _ _ _ form _ _ _)
+LeadsTo-unique o xs d a a' ys ys' _ _ (behind_indefinite s n c k t not h form p e f) (behind_end p' i' e' f') =
+    absurd (ends_contents-open o a' xs p' i' not)
+LeadsTo-unique o xs d a a' ys ys' _ _ (behind_indefinite _ _ _ _ _ _ _ form _ _ _)
     (behind_element _ _ _ _ _ _ _ form' _ _ _) =
     absurd (form' form)
-leads_alone o xs d a a' ys ys' _ _ (behind_indefinite _ _ _ _ _ _ _ form _ _ _)
+LeadsTo-unique o xs d a a' ys ys' _ _ (behind_indefinite _ _ _ _ _ _ _ form _ _ _)
     (inside_element _ _ _ _ _ _ _ _ form' _ _ _ _) =
     absurd (form' form)
-leads_alone o xs d a a' ys ys' _ _ (behind_indefinite s n c k t _ h _ p e f)
+LeadsTo-unique o xs d a a' ys ys' _ _ (behind_indefinite s n c k t _ h _ p e f)
     (behind_indefinite s' n' c' k' t' _ h' _ p' e' f') =
-    let same = header_alone xs s n c k t s' n' c' k' t' h h' in
+    let same = BeginsWithHeader-unique xs s n c k t s' n' c' k' t' h h' in
     record {
       around = p ∙ sym p';
       others = e ∙ (ap (λ z. drop z xs) same.size ∙ sym e');
@@ -256,73 +259,75 @@ leads_alone o xs d a a' ys ys' _ _ (behind_indefinite s n c k t _ h _ p e f)
     }
 
 -- what stands further on stands where it leads to
-pub reaches_there :
+pub Reaches-leads :
     (o : ℕ) (xs : List ℕ) (d a : ℕ) (ys : List ℕ) (l : ℕ) → 0 < d → LeadsTo o xs d a ys l → (e : ℕ) (zs : List ℕ) →
     Reaches o xs d e zs ↔ Reaches a ys l e zs
-reaches_there o xs d a ys l some leads e zs = (to, λ at. is_further a ys l leads at)
+Reaches-leads o xs d a ys l some leads e zs = (to, λ at. is_further a ys l leads at)
   where
     to : Reaches o xs d e zs → Reaches a ys l e zs
     to (is_here none around others) = absurd (omega (arith, none, some))
     to (is_further a' ys' l' leads' at) =
-        let same = leads_alone o xs d a' a ys' ys l' l leads' leads in
+        let same = LeadsTo-unique o xs d a' a ys' ys l' l leads' leads in
         subst (λ z. Reaches z ys l e zs) same.around
         (subst (λ z. Reaches a' z l e zs) same.others (subst (λ z. Reaches a' ys' z e zs) same.later at))
 
-pub reaches_nowhere :
+pub Reaches-nowhere :
     (o : ℕ) (xs : List ℕ) (d : ℕ) → 0 < d →
     ((a : ℕ) (ys : List ℕ) (l : ℕ) → LeadsTo o xs d a ys l → ⊥) → (e : ℕ) (zs : List ℕ) → Reaches o xs d e zs → ⊥
-reaches_nowhere o xs d some none e zs (is_here here around others) = absurd (omega (arith, here, some))
-reaches_nowhere o xs d some none e zs (is_further a ys l leads at) = none a ys l leads
+Reaches-nowhere o xs d some none e zs (is_here here around others) = absurd (omega (arith, here, some))
+Reaches-nowhere o xs d some none e zs (is_further a ys l leads at) = none a ys l leads
 
 module _ (o : ℕ) (xs : List ℕ) (d : ℕ) where
   module _ (no_end : ends_contents o xs ≡ false) where
     -- where no header stands
-    pub in_no_header : HasNoHeader xs → (a : ℕ) (ys : List ℕ) (l : ℕ) → LeadsTo o xs d a ys l → ⊥
-    in_no_header none a ys l (behind_end p i e f) = open_end o a xs p i no_end
-    in_no_header none a ys l (behind_element s n c k t not h form p e f) = no_header_begins xs s n c k t none h
-    in_no_header none a ys l (inside_element s n c k t b not h form p e m f) = no_header_begins xs s n c k t none h
-    in_no_header none a ys l (behind_indefinite s n c k t not h form p e f) = no_header_begins xs s n c k t none h
+    pub LeadsTo-no_header : HasNoHeader xs → (a : ℕ) (ys : List ℕ) (l : ℕ) → LeadsTo o xs d a ys l → ⊥
+    LeadsTo-no_header none a ys l (behind_end p i e f) = ends_contents-open o a xs p i no_end
+    LeadsTo-no_header none a ys l (behind_element s n c k t not h form p e f) = HasNoHeader-begins xs s n c k t none h
+    LeadsTo-no_header none a ys l (inside_element s n c k t b not h form p e m f) =
+        HasNoHeader-begins xs s n c k t none h
+    LeadsTo-no_header none a ys l (behind_indefinite s n c k t not h form p e f) =
+        HasNoHeader-begins xs s n c k t none h
 
     module _ (s n : ℕ) (c : ASN1Class) (k : Bool) (t : ℕ) (header : BeginsWithHeader xs s n c k t) where
       -- in a header
-      pub in_header : d < s → (a : ℕ) (ys : List ℕ) (l : ℕ) → LeadsTo o xs d a ys l → ⊥
-      in_header few a ys l (behind_end p i e f) = open_end o a xs p i no_end
-      in_header few a ys l (behind_element s' n' c' k' t' not h form p e f) =
-          let same = header_alone xs s n c k t s' n' c' k' t' header h in
+      pub LeadsTo-in_header : d < s → (a : ℕ) (ys : List ℕ) (l : ℕ) → LeadsTo o xs d a ys l → ⊥
+      LeadsTo-in_header few a ys l (behind_end p i e f) = ends_contents-open o a xs p i no_end
+      LeadsTo-in_header few a ys l (behind_element s' n' c' k' t' not h form p e f) =
+          let same = BeginsWithHeader-unique xs s n c k t s' n' c' k' t' header h in
           absurd (omega (arith, same.size, f, few))
-      in_header few a ys l (inside_element s' n' c' k' t' b not h form p e m f) =
-          let same = header_alone xs s n c k t s' n' c' k' t' header h in
+      LeadsTo-in_header few a ys l (inside_element s' n' c' k' t' b not h form p e m f) =
+          let same = BeginsWithHeader-unique xs s n c k t s' n' c' k' t' header h in
           absurd (omega (arith, same.size, f, few))
-      in_header few a ys l (behind_indefinite s' n' c' k' t' not h form p e f) =
-          let same = header_alone xs s n c k t s' n' c' k' t' header h in
+      LeadsTo-in_header few a ys l (behind_indefinite s' n' c' k' t' not h form p e f) =
+          let same = BeginsWithHeader-unique xs s n c k t s' n' c' k' t' header h in
           absurd (omega (arith, same.size, f, few))
 
       -- in contents octets, before all that encodings may begin in
-      pub in_contents :
+      pub LeadsTo-in_contents :
           d < s + n → (HasIndefiniteForm xs → ⊥) →
           ((b : ℕ) (ys : List ℕ) → Holds c k t (take n (drop s xs)) b ys → d < s + b) → (a : ℕ) (ys : List ℕ) (l : ℕ) →
           LeadsTo o xs d a ys l → ⊥
-      in_contents few definite none a ys l (behind_end p i e f) = open_end o a xs p i no_end
-      in_contents few definite none a ys l (behind_element s' n' c' k' t' not h form p e f) =
-          let same = header_alone xs s n c k t s' n' c' k' t' header h in
+      LeadsTo-in_contents few definite none a ys l (behind_end p i e f) = ends_contents-open o a xs p i no_end
+      LeadsTo-in_contents few definite none a ys l (behind_element s' n' c' k' t' not h form p e f) =
+          let same = BeginsWithHeader-unique xs s n c k t s' n' c' k' t' header h in
           absurd (omega (arith, same.size, same.announced, f, few))
-      in_contents few definite none a ys l (inside_element s' n' c' k' t' b not h form p e m f) =
-          let same = header_alone xs s n c k t s' n' c' k' t' header h in
-          let further = none b ys (holds_moved xs s n c k t s' n' c' k' t' b ys same e) in
+      LeadsTo-in_contents few definite none a ys l (inside_element s' n' c' k' t' b not h form p e m f) =
+          let same = BeginsWithHeader-unique xs s n c k t s' n' c' k' t' header h in
+          let further = none b ys (Holds-same_header xs s n c k t s' n' c' k' t' b ys same e) in
           absurd (omega (arith, same.size, f, further))
-      in_contents few definite none a ys l (behind_indefinite s' n' c' k' t' not h form p e f) = definite form
+      LeadsTo-in_contents few definite none a ys l (behind_indefinite s' n' c' k' t' not h form p e f) = definite form
 
 -- contents octets, as far as they are there, and what stands behind them
-pub contents_of :
+pub take-contents :
     (octets behind contents : List ℕ) (s n m : ℕ) → behind ≡ drop s octets → m ≡ min n (length behind) →
     contents ≡ take m behind → contents ≡ take n (drop s octets)
-contents_of octets behind contents s n m b e is =
+take-contents octets behind contents s n m b e is =
     is ∙ (ap (λ k. take k behind) e ∙ (take_min n behind ∙ ap (take n) b))
 
-pub rest_of :
+pub drop-contents :
     (octets behind after : List ℕ) (s n m : ℕ) → behind ≡ drop s octets → m ≡ min n (length behind) →
     after ≡ drop m behind → after ≡ drop (s + n) octets
-rest_of octets behind after s n m b e is =
+drop-contents octets behind after s n m b e is =
     is ∙ (ap (λ k. drop k behind) e ∙ (drop_min n behind ∙ (ap (drop n) b ∙ drop-drop n s octets)))
 
 record IsSame (o a : ℕ) (xs ys : List ℕ) : Type 0 where
@@ -330,93 +335,96 @@ record IsSame (o a : ℕ) (xs ys : List ℕ) : Type 0 where
   pub others : ys ≡ xs
 
 -- at the front stand the octets themselves
-reaches_itself : (o : ℕ) (xs : List ℕ) (d a : ℕ) (ys : List ℕ) → d ≡ 0 → Reaches o xs d a ys → IsSame o a xs ys
-reaches_itself o xs d a ys z (is_here none around others) = record { around = around; others = others }
-reaches_itself o xs d a ys z (is_further b zs l (behind_end p i e f) at) = absurd (omega (arith, z, f))
-reaches_itself o xs d a ys z (is_further b zs l (behind_element s n c k t not h form p e f) at) =
-    absurd (omega (arith, z, f, header_some xs s n c k t h))
-reaches_itself o xs d a ys z (is_further b zs l (inside_element s n c k t before not h form p e m f) at) =
-    absurd (omega (arith, z, f, header_some xs s n c k t h))
-reaches_itself o xs d a ys z (is_further b zs l (behind_indefinite s n c k t not h form p e f) at) =
-    absurd (omega (arith, z, f, header_some xs s n c k t h))
+Reaches-itself : (o : ℕ) (xs : List ℕ) (d a : ℕ) (ys : List ℕ) → d ≡ 0 → Reaches o xs d a ys → IsSame o a xs ys
+Reaches-itself o xs d a ys z (is_here none around others) = record { around = around; others = others }
+Reaches-itself o xs d a ys z (is_further b zs l (behind_end p i e f) at) = absurd (omega (arith, z, f))
+Reaches-itself o xs d a ys z (is_further b zs l (behind_element s n c k t not h form p e f) at) =
+    absurd (omega (arith, z, f, BeginsWithHeader-some xs s n c k t h))
+Reaches-itself o xs d a ys z (is_further b zs l (inside_element s n c k t before not h form p e m f) at) =
+    absurd (omega (arith, z, f, BeginsWithHeader-some xs s n c k t h))
+Reaches-itself o xs d a ys z (is_further b zs l (behind_indefinite s n c k t not h form p e f) at) =
+    absurd (omega (arith, z, f, BeginsWithHeader-some xs s n c k t h))
 
 -- what is so of a value is also otherwise
-pub if_ok : {A E : Type 0} {P Q : A → Type 0} (r : Result A E) → ((a : A) → P a → Q a) → IfOk r P → IfOk r Q
-if_ok (Ok a) f h = f a h
-if_ok (Err e) f h = tt
+pub IfOk-every : {A E : Type 0} {P Q : A → Type 0} (r : Result A E) → ((a : A) → P a → Q a) → IfOk r P → IfOk r Q
+IfOk-every (Ok a) f h = f a h
+IfOk-every (Err e) f h = tt
 
 -- what was found at the end of the way, or was not
 module _
     (xs left : List ℕ) (offset depth distance : ℕ) (here : distance ≡ 0)
     (same : (a : ℕ) (ys : List ℕ) → Reaches 0 xs offset a ys ↔ Reaches depth left distance a ys) where
-  reached : Reaches 0 xs offset depth left
-  reached = (same depth left).1 (is_here here refl refl)
+  Reaches-offset : Reaches 0 xs offset depth left
+  Reaches-offset = (same depth left).1 (is_here here refl refl)
 
-  found_here : (block : List ℕ) → ends_contents depth left ≡ false → ElementAt left block → BeginsAt xs offset block
-  found_here block no_end element = record {
+  BeginsAt-element :
+      (block : List ℕ) → ends_contents depth left ≡ false → ElementAt left block → BeginsAt xs offset block
+  BeginsAt-element block no_end element = record {
     around = depth;
     others = left;
-    reached = reached;
+    Reaches-offset = Reaches-offset;
     no_end = no_end;
     element = element;
   }
 
-  itself : (a : ℕ) (ys : List ℕ) → Reaches 0 xs offset a ys → IsSame depth a left ys
-  itself a ys h = reaches_itself depth left distance a ys here ((same a ys).0 h)
+  Reaches-same : (a : ℕ) (ys : List ℕ) → Reaches 0 xs offset a ys → IsSame depth a left ys
+  Reaches-same a ys h = Reaches-itself depth left distance a ys here ((same a ys).0 h)
 
-  none_here : (HasNoElement left ⊎ (ends_contents depth left ≡ true)) → HasNoBlockAt xs offset
-  none_here (inl none) block h =
-      let is = itself h.around h.others h.reached in
+  HasNoBlockAt-no_element : (HasNoElement left ⊎ (ends_contents depth left ≡ true)) → HasNoBlockAt xs offset
+  HasNoBlockAt-no_element (inl none) block h =
+      let is = Reaches-same h.around h.others h.reached in
       none block (subst (λ z. ElementAt z block) is.others h.element)
-  none_here (inr ends) block h =
-      let is = itself h.around h.others h.reached in
+  HasNoBlockAt-no_element (inr ends) block h =
+      let is = Reaches-same h.around h.others h.reached in
       let never : true ≡ false =
       sym ends ∙ (ap (λ z. ends_contents z left) (sym is.around)
       ∙ (ap (ends_contents h.around) (sym is.others) ∙ h.no_end)) in
       absurd (cc never)
 
-  nothing_here : left ≡ [] → LacksBlock xs offset Nothing
-  nothing_here none a ys h = (itself a ys h).others ∙ none
+  LacksBlock-nil : left ≡ [] → LacksBlock xs offset Nothing
+  LacksBlock-nil none a ys h = (Reaches-same a ys h).others ∙ none
 
-  pub found_at :
+  pub IfOk-begins_at :
       (r : Result (Bor (List ℕ)) NoBlock) → StandsThere depth left r → IfOk r (λ block. BeginsAt xs offset block.now)
-  found_at (Ok block) (no_end, element) = found_here block.now no_end element
-  found_at (Err why) h = tt
+  IfOk-begins_at (Ok block) (no_end, element) = BeginsAt-element block.now no_end element
+  IfOk-begins_at (Err why) h = tt
 
-  pub none_at :
+  pub IfErr-no_block :
       (r : Result (Bor (List ℕ)) NoBlock) → StandsThere depth left r → IfErr r (λ _. HasNoBlockAt xs offset)
-  none_at (Ok block) h = tt
-  none_at (Err EndOfContents) ends = none_here (inr ends)
-  none_at (Err Unreadable) (no_end, some, none) = none_here (inl (no_header_no_element left none))
-  none_at (Err CutShort) (no_end, header, none) = none_here (inl none)
-  none_at (Err Nothing) none = none_here (inl (nothing_no_element left none))
+  IfErr-no_block (Ok block) h = tt
+  IfErr-no_block (Err EndOfContents) ends = HasNoBlockAt-no_element (inr ends)
+  IfErr-no_block (Err Unreadable) (no_end, some, none) =
+      HasNoBlockAt-no_element (inl (HasNoElement-no_header left none))
+  IfErr-no_block (Err CutShort) (no_end, header, none) = HasNoBlockAt-no_element (inl none)
+  IfErr-no_block (Err Nothing) none = HasNoBlockAt-no_element (inl (HasNoElement-nil left none))
 
-  pub why_at : (r : Result (Bor (List ℕ)) NoBlock) → StandsThere depth left r → IfErr r (LacksBlock xs offset)
-  why_at (Ok block) h = tt
-  why_at (Err EndOfContents) h = (depth, left, reached, h)
-  why_at (Err Unreadable) h = (depth, left, reached, h)
-  why_at (Err CutShort) h = (depth, left, reached, h)
-  why_at (Err Nothing) h = nothing_here h
+  pub IfErr-lacks_block :
+      (r : Result (Bor (List ℕ)) NoBlock) → StandsThere depth left r → IfErr r (LacksBlock xs offset)
+  IfErr-lacks_block (Ok block) h = tt
+  IfErr-lacks_block (Err EndOfContents) h = (depth, left, Reaches-offset, h)
+  IfErr-lacks_block (Err Unreadable) h = (depth, left, Reaches-offset, h)
+  IfErr-lacks_block (Err CutShort) h = (depth, left, Reaches-offset, h)
+  IfErr-lacks_block (Err Nothing) h = LacksBlock-nil h
 
 -- an encoding has octets
-encoding_some : (octets : List ℕ) → IsEncoding octets → 0 < length octets
-encoding_some octets e =
+IsEncoding-some : (octets : List ℕ) → IsEncoding octets → 0 < length octets
+IsEncoding-some octets e =
     let f = e.encoding in
     omega (
       arith,
       ap length f.whole,
       length-append f.identifier (f.len ++ e.contents),
-      identifier_some f.identifier e.class e.constructed e.tag f.identifier_octets,
+      IsIdentifier-some f.identifier e.class e.constructed e.tag f.identifier_octets,
     )
 
 -- encodings after the first
-pub encodings_after :
+pub AreEncodings-after :
     (octets part after : List ℕ) → EncodingAt octets 0 part → after ≡ drop (min (length part) (length octets)) octets →
     (0 < length part) × (length part ≤ length octets) × (AreEncodings octets ↔ AreEncodings after)
-encodings_after octets part after at is = (some, fits, (to, λ more. one_first part after whole at.encoding more))
+AreEncodings-after octets part after at is = (some, fits, (to, λ more. one_first part after whole at.encoding more))
   where
     some : 0 < length part
-    some = encoding_some part at.encoding
+    some = IsEncoding-some part at.encoding
 
     fits : length part ≤ length octets
     fits = omega (arith, ap length at.at_offset, length-append part at.rest)
@@ -437,8 +445,8 @@ encodings_after octets part after at is = (some, fits, (to, λ more. one_first p
         subst AreEncodings same.rest more
 
 -- and where there is none
-pub encodings_ended : (octets : List ℕ) → HasNoEncodingAt octets 0 → AreEncodings octets ↔ (length octets ≡ 0)
-encodings_ended octets none = (to, from octets)
+pub AreEncodings-ended : (octets : List ℕ) → HasNoEncodingAt octets 0 → AreEncodings octets ↔ (length octets ≡ 0)
+AreEncodings-ended octets none = (to, from octets)
   where
     to : AreEncodings octets → length octets ≡ 0
     to (none_left e) = ap length e

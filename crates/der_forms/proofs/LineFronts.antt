@@ -1,4 +1,5 @@
--- A text whose first line loses its front: an object that begins in the line which ends another is read from there.
+-- A text whose first line loses its front, for `objects::behind_end`: an object that begins in the line which ends
+-- another is read from there.
 use Rattle.std.proofs.Common.{◌≡◌, ◌<◌, ◌≤◌, ◌==◌, ℕ, zero, suc, Bool, true, false, List, [], ◌∷◌, drop, length, refl, sym, ap, ◌∙◌, arith}
 use Rattle.der_io.specs.Characters.{line_feed}
 use Rattle.der_io.specs.Lines.{lines_of, onto_first_line}
@@ -19,17 +20,17 @@ drop_in_first-zero : (lines : List (List ℕ)) → drop_in_first zero lines ≡ 
 drop_in_first-zero [] = refl
 drop_in_first-zero (line ∷ lines) = refl
 
-one_octet : (n b : ℕ) → suc n < length (first_line (onto_first_line b [])) → suc n < 1
-one_octet n b h = h
+lt-one_octet : (n b : ℕ) → suc n < length (first_line (onto_first_line b [])) → suc n < 1
+lt-one_octet n b h = h
 
 drop_in_first-onto : (n b : ℕ) (lines : List (List ℕ)) → suc n < length (first_line (onto_first_line b lines))
     → drop_in_first (suc n) (onto_first_line b lines) ≡ drop_in_first n lines
-drop_in_first-onto n b [] h = absurd (omega (arith, one_octet n b h))
+drop_in_first-onto n b [] h = absurd (omega (arith, lt-one_octet n b h))
 drop_in_first-onto n b (line ∷ lines) h = refl
 
 first_line-onto : (n b : ℕ) (lines : List (List ℕ)) → suc n < length (first_line (onto_first_line b lines))
     → n < length (first_line lines)
-first_line-onto n b [] h = absurd (omega (arith, one_octet n b h))
+first_line-onto n b [] h = absurd (omega (arith, lt-one_octet n b h))
 first_line-onto n b (line ∷ lines) h = omega (arith, h)
 
 lines_of-drop_cons : (n b : ℕ) (text : List ℕ) (q : Bool) → (b == line_feed) ≡ q

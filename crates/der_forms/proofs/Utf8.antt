@@ -1,4 +1,4 @@
--- A test for UTF-8 by the call that reads it.
+-- A test for UTF-8 by the call that reads it, for `input::are_words`.
 use Rattle.std.proofs.Common.{◌≡◌, ℕ, List, MatchResult, sym}
 use Rattle.std.specs.Prelude.{Result, Ok, Err}
 use Rattle.std.specs.Result.{is_ok}

@@ -5,11 +5,12 @@ use Rattle.std.specs.Char.{is_ascii_whitespace}
 use Rattle.std.specs.List.{list_all}
 use Rattle.std.specs.Option.{option_and_then}
 use Rattle.der_io.specs.Lines.{lines_of}
-use Rattle.der_forms.specs.Forms.{begins, but_indent, but_separators, column_of, has_octets, offset_of}
+use Rattle.der_forms.specs.Forms.{begins, column_of, has_octets, offset_of, without_indent, without_separators}
 
 -- the line says that lines like the one before it are left out
 abbrev pub leaves_out : List ℕ → Bool
-leaves_out line = begins (codes "*") (but_indent line) && list_all is_ascii_whitespace (drop 1 (but_indent line))
+leaves_out line =
+    begins (codes "*") (without_indent line) && list_all is_ascii_whitespace (drop 1 (without_indent line))
 
 -- one of the lines says that lines like the one before it are left out
 abbrev pub some_left_out : List (List ℕ) → Bool
@@ -55,7 +56,7 @@ digits_before true before last (Some offset) = filled before last offset
 digits_before false before last (Some offset) = if length before == 2 * offset then Some before else None
 
 abbrev pub digits_in_column : List ℕ → List ℕ
-digits_in_column line = but_separators (column_of line)
+digits_in_column line = without_separators (column_of line)
 
 -- the digits of lines in columns, each at its offset, behind these digits, the last of which are those of the last
 -- line; none where they do not agree with their offsets

@@ -23,16 +23,16 @@ abbrev pub begins : List ℕ → List ℕ → Bool
 begins words text = starts_with (λ a b. a == b) text words
 
 -- the input without the byte order mark of UTF-8 at its front
-abbrev pub but_mark : List ℕ → List ℕ
-but_mark input = if begins (239 ∷ 187 ∷ 191 ∷ []) input then drop 3 input else input
+abbrev pub without_mark : List ℕ → List ℕ
+without_mark input = if begins (239 ∷ 187 ∷ 191 ∷ []) input then drop 3 input else input
 
 -- the line without the white space at its front
-abbrev pub but_indent : List ℕ → List ℕ
-but_indent line = drop (prefix_len is_ascii_whitespace line) line
+abbrev pub without_indent : List ℕ → List ℕ
+without_indent line = drop (prefix_len is_ascii_whitespace line) line
 
 -- the line begins an object of PEM
 abbrev pub begins_object : List ℕ → Bool
-begins_object line = begins (codes "-----BEGIN ") (but_indent line)
+begins_object line = begins (codes "-----BEGIN ") (without_indent line)
 
 -- the octet may stand in a line above an object
 abbrev pub is_text_octet : ℕ → Bool
@@ -65,12 +65,12 @@ abbrev pub begins_prefix : List ℕ → Bool
 begins_prefix text = begins (codes "0x") text || begins (codes "\\x") text
 
 -- what is left of the text without separators and without each `0x` and `\x`
-abbrev pub but_separators : List ℕ → List ℕ
-but_separators [] = []
-but_separators (b ∷ text) =
-    if begins_prefix (b ∷ text) then drop 1 (but_separators text)
-    else if is_separator b then but_separators text
-    else b ∷ but_separators text
+abbrev pub without_separators : List ℕ → List ℕ
+without_separators [] = []
+without_separators (b ∷ text) =
+    if begins_prefix (b ∷ text) then drop 1 (without_separators text)
+    else if is_separator b then without_separators text
+    else b ∷ without_separators text
 
 -- no text, or text that begins with white space
 abbrev pub begins_space : List ℕ → Bool
@@ -137,9 +137,9 @@ column_of line =
 abbrev pub digits_of : Bool → List (List ℕ) → List ℕ
 digits_of in_columns [] = []
 digits_of in_columns (line ∷ lines) =
-    but_separators (if in_columns then column_of line else line) ++ digits_of in_columns lines
+    without_separators (if in_columns then column_of line else line) ++ digits_of in_columns lines
 
 -- the text without its white space
-abbrev pub but_spaces : List ℕ → List ℕ
-but_spaces [] = []
-but_spaces (b ∷ text) = if is_ascii_whitespace b then but_spaces text else b ∷ but_spaces text
+abbrev pub without_spaces : List ℕ → List ℕ
+without_spaces [] = []
+without_spaces (b ∷ text) = if is_ascii_whitespace b then without_spaces text else b ∷ without_spaces text

@@ -12,7 +12,7 @@ use Rattle.hex.specs.declared.error.FromHexError.{FromHexError}
 use Rattle.der_io.specs.Lines.{lines_of}
 use Rattle.der_forms.specs.Columns.{placed_digits, some_left_out}
 use Rattle.der_forms.specs.Forms.{InputForm, objects, odd_digits, other_text, plain_octets, spelled}
-use Rattle.der_forms.specs.Forms.{all_of_some, begins, but_mark, but_spaces, digits_of, has_columns, has_object}
+use Rattle.der_forms.specs.Forms.{all_of_some, begins, digits_of, has_columns, has_object, without_mark, without_spaces}
 use Rattle.der_forms.specs.Forms.{has_other_columns, is_printed}
 use Rattle.der_forms.specs.Sources.{source_digits}
 
@@ -77,7 +77,7 @@ abbrev pub of_symbols : List ℕ → InputForm
 of_symbols text =
     if_digits (Some (digits_of (has_columns text) (lines_of text)))
     (if_digits (source_digits text)
-    (of_base64 (decode_base64 standard (but_spaces text)) (but_spaces text)))
+    (of_base64 (decode_base64 standard (without_spaces text)) (without_spaces text)))
 
 -- columns with lines left out agree with their offsets
 abbrev pub form_of_text : List ℕ → InputForm
@@ -95,12 +95,12 @@ is_in_words b = nat_le 128 b || (is_printed b && not (b == 12))
 abbrev pub are_words : List ℕ → Bool
 are_words octets = all_of_some is_in_words octets && is_utf8 octets
 
-abbrev pub form_but_mark : List ℕ → InputForm
-form_but_mark text =
+abbrev pub form_behind_mark : List ℕ → InputForm
+form_behind_mark text =
     if has_object (lines_of text) then objects
     else if all_of_some is_printed text then form_of_text text
     else if are_words text then other_text else plain_octets
 
 -- the form of an input
 abbrev pub form_is : List ℕ → InputForm
-form_is input = form_but_mark (but_mark input)
+form_is input = form_behind_mark (without_mark input)

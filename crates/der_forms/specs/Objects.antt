@@ -10,7 +10,7 @@ use Rattle.base64.specs.GeneralPurpose.{decode_of as decode_base64}
 use Rattle.der_forms.specs.declared.objects.Ending.{Ending}
 use Rattle.der_forms.specs.declared.objects.Ending.TheVariants.{Closed, Joined, Missing, OtherLabel}
 use Rattle.der_io.specs.Lines.{lines_of}
-use Rattle.der_forms.specs.Forms.{InputForm, begins, begins_object, but_indent, but_mark, but_spaces, has_words}
+use Rattle.der_forms.specs.Forms.{InputForm, begins, begins_object, has_words, without_indent, without_mark, without_spaces}
 use Rattle.der_forms.specs.Forms.{objects, odd_digits, other_text, plain_octets, spelled, up_to}
 use Rattle.der_forms.specs.Known.{form_is}
 use Rattle.der_forms.specs.Texts.{text_of}
@@ -24,22 +24,22 @@ pub record Object : Type 0 where
 
 -- the label in a line that begins an object: what stands between `-----BEGIN ` and `-----`
 abbrev pub label_in : List ℕ → List ℕ
-label_in line = up_to (codes "-----") (drop 11 (but_indent line))
+label_in line = up_to (codes "-----") (drop 11 (without_indent line))
 
 -- the line ends an object
 abbrev pub ends_object : List ℕ → Bool
-ends_object line = begins (codes "-----END ") (but_indent line)
+ends_object line = begins (codes "-----END ") (without_indent line)
 
 -- of the lines up to the end of an object, one says that it is encrypted (RFC 1421)
 abbrev pub is_encrypted : List (List ℕ) → Bool
 is_encrypted [] = false
 is_encrypted (line ∷ lines) =
     if ends_object line then false
-    else if begins (codes "Proc-Type: 4,ENCRYPTED") (but_indent line) then true else is_encrypted lines
+    else if begins (codes "Proc-Type: 4,ENCRYPTED") (without_indent line) then true else is_encrypted lines
 
 -- the symbols of base 64 in a line. One with a colon is a header of the object, and has none
 abbrev pub symbols_of : List ℕ → List ℕ
-symbols_of line = if list_any (λ b. b == colon) line then [] else but_spaces line
+symbols_of line = if list_any (λ b. b == colon) line then [] else without_spaces line
 
 -- the symbols in the lines up to the end of an object
 abbrev pub symbols_in : List (List ℕ) → List ℕ
@@ -50,18 +50,18 @@ symbols_in (line ∷ lines) = if ends_object line then [] else symbols_of line +
 abbrev pub is_openssh : List ℕ → Bool
 is_openssh octets = begins (codes "openssh-key-v1") octets && begins (0 ∷ []) (drop 14 octets)
 
-abbrev pub but_openssh : List ℕ → Option (List ℕ)
-but_openssh octets = if is_openssh octets then None else Some octets
+abbrev pub unless_openssh : List ℕ → Option (List ℕ)
+unless_openssh octets = if is_openssh octets then None else Some octets
 
 -- the octets of an object that begins before the lines, or none where it is encrypted, no base 64, or not DER
 abbrev pub octets_in : List (List ℕ) → Option (List ℕ)
 octets_in lines =
     if is_encrypted lines then None
-    else option_and_then but_openssh (result_ok (decode_base64 standard (symbols_in lines)))
+    else option_and_then unless_openssh (result_ok (decode_base64 standard (symbols_in lines)))
 
 -- the label in a line that ends an object: what stands between `-----END ` and `-----`
 abbrev pub end_label_in : List ℕ → List ℕ
-end_label_in line = up_to (codes "-----") (drop 9 (but_indent line))
+end_label_in line = up_to (codes "-----") (drop 9 (without_indent line))
 
 -- how a line ends an object with this label
 abbrev pub ending_by : List ℕ → List ℕ → Ending
@@ -98,7 +98,7 @@ objects_in false (line ∷ lines) =
 
 -- each object of an input
 abbrev pub objects_of : List ℕ → List Object
-objects_of input = objects_in false (lines_of (but_mark input))
+objects_of input = objects_in false (lines_of (without_mark input))
 
 -- the octets of an object with this ending, or none where its own line does not end it
 abbrev pub if_closed : Ending → Option (List ℕ) → Option (List ℕ)

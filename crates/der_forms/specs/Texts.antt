@@ -4,7 +4,7 @@ use Rattle.std.specs.Prelude.{codes}
 use Rattle.std.specs.Char.{is_ascii_whitespace}
 use Rattle.std.specs.Char.Utf16.{utf16_lossy_chars}
 use Rattle.std.specs.Str.{encode_utf8_all}
-use Rattle.der_forms.specs.Forms.{all_of_some, begins, but_mark, has_columns, has_words, is_text_octet}
+use Rattle.der_forms.specs.Forms.{all_of_some, begins, has_columns, has_words, is_text_octet, without_mark}
 use Rattle.der_forms.specs.declared.breaks.Place.{Place}
 use Rattle.der_forms.specs.declared.breaks.Place.TheVariants.{Blank, Words, Opening, Label, Ended}
 use Rattle.der_io.specs.Characters.{carriage_return, hyphen, line_feed, space}
@@ -31,8 +31,8 @@ in_utf8 input =
     else input
 
 -- the octet before this text, or a line feed for a carriage return that is alone
-abbrev pub kept : ℕ → List ℕ → ℕ
-kept b text = if b == carriage_return && not (begins (line_feed ∷ []) text) then line_feed else b
+abbrev pub octet_or_break : ℕ → List ℕ → ℕ
+octet_or_break b text = if b == carriage_return && not (begins (line_feed ∷ []) text) then line_feed else b
 
 -- the text with a line feed for each carriage return alone and for each `\n`, without `\r`, and with `/` for `\/`, as
 -- in strings of JSON
@@ -42,7 +42,7 @@ with_breaks (b ∷ text) =
     if begins (codes "\\n") (b ∷ text) then line_feed ∷ drop 1 (with_breaks text)
     else if begins (codes "\\r") (b ∷ text) then drop 1 (with_breaks text)
     else if begins (codes "\\/") (b ∷ text) then with_breaks text
-    else kept b text ∷ with_breaks text
+    else octet_or_break b text ∷ with_breaks text
 
 abbrev pub begins_begin : List ℕ → Bool
 begins_begin text = begins (codes "-----BEGIN ") text
@@ -115,7 +115,7 @@ abbrev pub has_begin : List ℕ → Bool
 has_begin text = all_of_some is_text_octet text && (has_words (codes "-----BEGIN ") text && not (has_columns text))
 
 abbrev pub with_lines : List ℕ → List ℕ
-with_lines text = if has_begin text then unfolded Blank (with_breaks (but_mark text)) else text
+with_lines text = if has_begin text then unfolded Blank (with_breaks (without_mark text)) else text
 
 -- what is read of an input: its octets, or its text in UTF-8, in which PEM has its lines
 abbrev pub text_of : List ℕ → List ℕ

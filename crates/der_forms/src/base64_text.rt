@@ -3,7 +3,7 @@ ghost use Rattle.std.specs.Prelude.{◌≡◌, Err, IfOk, MatchOption, MatchResu
 ghost use Rattle.std.specs.Result.{result_ok};
 ghost use Rattle.base64.specs.Engines.{standard, standard_pad_indifferent, url_safe_pad_indifferent};
 ghost use Rattle.base64.specs.GeneralPurpose.{decode_of};
-ghost use Rattle.der_forms.specs.Forms.{but_spaces};
+ghost use Rattle.der_forms.specs.Forms.{without_spaces};
 
 use base64::engine::general_purpose::{
     STANDARD, STANDARD_PAD_INDIFFERENT, URL_SAFE_PAD_INDIFFERENT,
@@ -13,7 +13,7 @@ use std::alloc::{AllocError, Global};
 
 // The text without its white space.
 pub fn without_spaces(alloc: Global, text: &[u8]) -> Result<Vec<u8>, AllocError>
-    ensures { IfOk result (λ symbols. symbols.items ≡ but_spaces text.now) }
+    ensures { IfOk result (λ symbols. symbols.items ≡ without_spaces text.now) }
 {
     let mut symbols = Vec::new(alloc);
     for b in text {

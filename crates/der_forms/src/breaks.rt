@@ -1,7 +1,7 @@
 // The line breaks of PEM that came on one line, or with its line breaks spelled.
 ghost use Rattle.std.specs.Prelude.{◌≡◌, ◌++◌, if◌then◌else◌, IfOk, OnOk};
 ghost use Rattle.std.specs.Char.{is_ascii_whitespace};
-ghost use Rattle.der_forms.specs.Texts.{begins_begin, begins_by, begins_end, behind_label as behind_label_is, behind_opening as behind_opening_is, behind_words as behind_words_is, broken, is_filler, kept, lacks_break as lacks_break_is, more_hyphens as more_hyphens_is, place_behind as place_behind_is, unfolded as unfolded_is, with_breaks as with_breaks_are};
+ghost use Rattle.der_forms.specs.Texts.{begins_begin, begins_by, begins_end, behind_label as behind_label_is, behind_opening as behind_opening_is, behind_words as behind_words_is, broken, is_filler, lacks_break as lacks_break_is, more_hyphens as more_hyphens_is, octet_or_break, place_behind as place_behind_is, unfolded as unfolded_is, with_breaks as with_breaks_are};
 ghost use Rattle.der_forms.specs.declared.breaks.Place.TheVariants.{Blank as blank, Label as label, Words as words};
 
 use std::alloc::{AllocError, Global};
@@ -39,7 +39,7 @@ pub fn with_breaks(alloc: Global, text: &[u8]) -> Result<Vec<u8>, AllocError>
         } else if rest.starts_with(b"\\/") {
             rest = &rest[1..];
         } else {
-            broken.push(kept(rest[0], &rest[1..]))?;
+            broken.push(octet_or_break(rest[0], &rest[1..]))?;
             rest = &rest[1..];
         }
     }
@@ -47,8 +47,8 @@ pub fn with_breaks(alloc: Global, text: &[u8]) -> Result<Vec<u8>, AllocError>
 }
 
 // The octet before the text, or a line feed for a carriage return alone.
-fn kept(b: u8, text: &[u8]) -> u8
-    ensures { result ≡ kept b text.now }
+fn octet_or_break(b: u8, text: &[u8]) -> u8
+    ensures { result ≡ octet_or_break b text.now }
 {
     if b == b'\r' && !text.starts_with(b"\n") {
         b'\n'

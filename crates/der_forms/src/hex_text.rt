@@ -4,7 +4,7 @@ ghost use Rattle.std.specs.Char.{is_ascii_hexdigit};
 ghost use Rattle.std.specs.List.{list_all};
 ghost use Rattle.std.specs.Result.{result_ok};
 ghost use Rattle.hex.specs.Hex.{decode_of};
-ghost use Rattle.der_forms.specs.Forms.{all_of_some, begins_prefix, begins_space, but_separators, column_behind, column_of, digits_of, has_bits, has_columns, has_hex_offsets, has_octets, has_other_columns, is_binary, is_separator, offset_of};
+ghost use Rattle.der_forms.specs.Forms.{all_of_some, begins_prefix, begins_space, column_behind, column_of, digits_of, has_bits, has_columns, has_hex_offsets, has_octets, has_other_columns, is_binary, is_separator, offset_of, without_separators};
 ghost use Rattle.der_io.specs.Lines.{lines_of};
 
 use crate::lines::part_before;
@@ -160,7 +160,7 @@ fn column_behind(text: &[u8]) -> &[u8]
 
 // Puts what is left of the text without its separators.
 pub fn push_digits(text: &[u8], digits: &mut Vec<u8>) -> Result<(), AllocError>
-    ensures { OnOk result (digits.new.items ≡ digits.old.items ++ but_separators text.now) }
+    ensures { OnOk result (digits.new.items ≡ digits.old.items ++ without_separators text.now) }
 {
     let mut rest = text;
     while !rest.is_empty() {

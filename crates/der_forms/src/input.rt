@@ -3,7 +3,7 @@ ghost use Rattle.std.specs.Prelude.{◌≡◌, ◌⊎◌, IfOk, IfErr, None, Som
 ghost use Rattle.base64.specs.GeneralPurpose.{decode_of as decode_base64};
 ghost use Rattle.base64.specs.Engines.{standard, url_safe_pad_indifferent};
 ghost use Rattle.std.specs.Result.{result_ok};
-ghost use Rattle.der_forms.specs.Forms.{all_of_some, but_spaces, is_printed, other_text};
+ghost use Rattle.der_forms.specs.Forms.{all_of_some, is_printed, other_text, without_spaces};
 ghost use Rattle.der_forms.specs.Known.{are_words, fits_one, fits_three, fits_two, form_is, form_of_text, if_sequence, of_hex_digits};
 ghost use Rattle.hex.specs.Hex.{decode_of as decode_hex};
 ghost use Rattle.der_forms.specs.Known.{is_in_words, is_sequence, length_fits, of_base64, of_loose_base64, of_symbols};
@@ -96,7 +96,7 @@ fn form_of_digits(alloc: Global, digits: &[u8]) -> Result<Form, AllocError>
 
 fn base64_form(alloc: Global, text: &[u8]) -> Result<Form, AllocError>
     ensures { IfOk result (λ form. shown form
-        ≡ of_base64 (decode_base64 standard (but_spaces text.now)) (but_spaces text.now)) }
+        ≡ of_base64 (decode_base64 standard (without_spaces text.now)) (without_spaces text.now)) }
 {
     let symbols = base64_text::without_spaces(alloc, text)?;
     match base64_text::decode(alloc, &symbols)? {

@@ -1,7 +1,7 @@
 // Lines of an input, and which of them begin and end objects.
 ghost use Rattle.std.specs.Prelude.{◌≡◌, MatchOption, codes, false, true};
 ghost use Rattle.std.specs.List.{list_all};
-ghost use Rattle.der_forms.specs.Forms.{begins, begins_object, but_indent, but_mark, has_object, has_words, is_text_octet, up_to};
+ghost use Rattle.der_forms.specs.Forms.{begins, begins_object, has_object, has_words, is_text_octet, up_to, without_indent, without_mark};
 ghost use Rattle.der_forms.specs.Objects.{end_label_in, ends_object, label_in};
 ghost use Rattle.der_io.specs.Lines.{lines_of};
 
@@ -22,7 +22,7 @@ pub struct Lines<'a> {
 impl<'a> Lines<'a> {
     /// All lines of an input, without a byte order mark.
     pub fn of(input: &'a [u8]) -> Lines<'a>
-        ensures { result.rest.now ≡ but_mark input.now }
+        ensures { result.rest.now ≡ without_mark input.now }
     {
         Lines {
             rest: without_mark(input),
@@ -33,7 +33,7 @@ impl<'a> Lines<'a> {
 
 // The input without the byte order mark of UTF-8 at its front.
 pub fn without_mark(input: &[u8]) -> &[u8]
-    ensures { result.now ≡ but_mark input.now }
+    ensures { result.now ≡ without_mark input.now }
 {
     if input.starts_with(&[0xEF, 0xBB, 0xBF]) {
         &input[3..]
@@ -43,7 +43,7 @@ pub fn without_mark(input: &[u8]) -> &[u8]
 }
 
 pub fn without_indent(line: &[u8]) -> &[u8]
-    ensures { result.now ≡ but_indent line.now }
+    ensures { result.now ≡ without_indent line.now }
 {
     line.trim_ascii_start()
 }
@@ -82,7 +82,7 @@ pub fn is_end(line: &[u8]) -> bool
 
 // Whether a line says that its object is encrypted.
 pub fn tells_encryption(line: &[u8]) -> bool
-    ensures { result ≡ begins (codes "Proc-Type: 4,ENCRYPTED") (but_indent line.now) }
+    ensures { result ≡ begins (codes "Proc-Type: 4,ENCRYPTED") (without_indent line.now) }
 {
     without_indent(line).starts_with(b"Proc-Type: 4,ENCRYPTED")
 }

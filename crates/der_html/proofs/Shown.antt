@@ -1,4 +1,4 @@
--- Pieces that are pushed one after another, for the functions that push them.
+-- Pieces of a page that are pushed one after another, for `markup`, `element` and the printer of rows.
 use Rattle.std.proofs.Common.{◌≡◌, ℕ, Bool, List, [], ◌∷◌, ◌++◌, ap, append-nil, append_assoc, map, refl, sym, ◌∙◌}
 use Rattle.std.specs.List.{flat_map}
 use Rattle.std.proofs.lemmas.Grind.{flat_map-append}
@@ -50,7 +50,9 @@ Shows-append fs gs xs ys us vs a b c s t =
       faults_are =
           faults_in-append s.pieces t.pieces
           ∙ append-equal (faults_in s.pieces) (faults_in t.pieces) fs gs s.faults_are t.faults_are;
-      text_is = text_in-append s.pieces t.pieces ∙ append-equal (text_in s.pieces) (text_in t.pieces) xs ys s.text_is t.text_is;
+      text_is =
+          text_in-append s.pieces t.pieces
+          ∙ append-equal (text_in s.pieces) (text_in t.pieces) xs ys s.text_is t.text_is;
       octets_are =
           octets_in-append s.pieces t.pieces
           ∙ append-equal (octets_in s.pieces) (octets_in t.pieces) us vs s.octets_are t.octets_are;
@@ -62,7 +64,8 @@ Shows-append fs gs xs ys us vs a b c s t =
     }
 
 -- what shows nothing, and then more
-pub Shows-nil_append : (gs : List Bool) (ys vs a b c : List ℕ) → Shows [] [] [] a b → Shows gs ys vs b c → Shows gs ys vs a c
+pub Shows-nil_append :
+    (gs : List Bool) (ys vs a b c : List ℕ) → Shows [] [] [] a b → Shows gs ys vs b c → Shows gs ys vs a c
 Shows-nil_append gs ys vs a b c s t = Shows-append [] gs [] ys [] vs a b c s t
 
 pub Shows-equal :
@@ -78,7 +81,8 @@ Shows-equal fs gs xs ys us vs a b d e f s =
     }
 
 -- something, and then what shows nothing
-pub Shows-append_nil : (fs : List Bool) (xs us a b c : List ℕ) → Shows fs xs us a b → Shows [] [] [] b c → Shows fs xs us a c
+pub Shows-append_nil :
+    (fs : List Bool) (xs us a b c : List ℕ) → Shows fs xs us a b → Shows [] [] [] b c → Shows fs xs us a c
 Shows-append_nil fs xs us a b c s t =
     Shows-equal (fs ++ []) fs (xs ++ []) xs (us ++ []) us a c (append-nil fs) (append-nil xs) (append-nil us)
     (Shows-append fs [] xs [] us [] a b c s t)

@@ -1,6 +1,6 @@
--- Blocks by their offsets.
+-- Blocks by their offsets, and what they hold, for `documents`.
 use Rattle.std.proofs.Common.{ℕ, List, ◌++◌, length, refl, sym, ◌∙◌, append_assoc, inr}
-use Rattle.std.specs.Prelude.{Err, IfOk, MatchOption, None, Ok, Option, Result, Some}
+use Rattle.std.specs.Prelude.{MatchOption, None, Option, Some}
 use Rattle.der_inputs.specs.Findings.{IsBlockAt, IsValueAt}
 use Rattle.der_elements.specs.Elements.{HasNoContents, IsElement, of_definite_form, of_definite_length}
 use Rattle.der_elements.specs.Elements.{of_indefinite_form, of_indefinite_length}
@@ -27,7 +27,8 @@ StandsBehindHeader-encoding octets e =
 pub IsElement-has_contents : (octets : List ℕ) → IsElement octets → HasNoContents octets → ⊥
 IsElement-has_contents octets (of_definite_form definite e) none =
     none e.contents (of_definite_length definite (StandsBehindHeader-encoding octets e))
-IsElement-has_contents octets (of_indefinite_form contents standing inside) none = none contents (of_indefinite_length standing)
+IsElement-has_contents octets (of_indefinite_form contents standing inside) none =
+    none contents (of_indefinite_length standing)
 
 -- a block is an element
 pub IsBlockAt-element : (n : ℕ) (input block : List ℕ) → IsBlockAt n input (Some block) → IsElement block
@@ -39,8 +40,3 @@ pub IsValueAt-block :
     MatchOption octets (HoldsNoOctets block) (HoldsOctets block) → IsValueAt n input octets
 IsValueAt-block n input block (Some octets) at h = (block, at, h)
 IsValueAt-block n input block None at h = inr (block, at, h)
-
--- what is so of a value is also otherwise
-pub if_ok : {A E : Type 0} {P Q : A → Type 0} (r : Result A E) → ((a : A) → P a → Q a) → IfOk r P → IfOk r Q
-if_ok (Ok a) f h = f a h
-if_ok (Err e) f h = tt

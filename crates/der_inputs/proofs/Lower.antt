@@ -1,4 +1,4 @@
--- What the crates below push, as inputs have it.
+-- What the crates below push, by the definitions of this crate, for `show::Show`.
 use Rattle.std.proofs.Common.{◌≡◌, ℕ, List, Bool, true, false, sym, subst}
 use Rattle.std.specs.Prelude.{Option}
 use Rattle.serde_json.specs.Data.{Members}
@@ -25,7 +25,8 @@ pub IsWritten-json :
     (a b : Option (List ℕ)) →
     is_all_read verdict ≡ right →
     IsWritten (IsJsonOf octets origin right) a b → IsWritten (IsOctetsJson false octets origin verdict) a b
-IsWritten-json octets origin right verdict a b same h = subst (λ z. IsWritten (IsJsonOf octets origin z) a b) (sym same) h
+IsWritten-json octets origin right verdict a b same h =
+    subst (λ z. IsWritten (IsJsonOf octets origin z) a b) (sym same) h
 
 pub IsWritten-strict_json :
     (octets : List ℕ) (origin : Members) (right : Bool) (verdict : Verdict)

@@ -1,4 +1,4 @@
--- Inputs after inputs, each of which a loop over their readers has come to.
+-- Inputs that were written and readers that were read, one after another, for `sources::push_sources`.
 use Rattle.std.proofs.Common.{◌≡◌, ◌<◌, ◌+◌, ℕ, suc, List, [], ◌∷◌, ◌++◌, arith, drop, get_or, length, map, refl}
 use Rattle.std.proofs.Common.{false, is_err, is_ok, if◌then◌else◌, set, sym, take, ◌∙◌}
 use Rattle.std.specs.Prelude.{Option, Result, Ok, Err}
@@ -13,10 +13,11 @@ use Rattle.der_inputs.specs.declared.outcome.Outcome.{Outcome}
 
 -- one reader more
 AreReadToEnds-append_last :
-    (came : List Outcome) (left : List (Option (List ℕ))) (last : Outcome) (its : Option (List ℕ)) →
-    AreReadToEnds came left → IsReadToEnd last its → AreReadToEnds (came ++ last ∷ []) (left ++ its ∷ [])
+    (outcomes : List Outcome) (left : List (Option (List ℕ))) (last : Outcome) (its : Option (List ℕ)) →
+    AreReadToEnds outcomes left → IsReadToEnd last its → AreReadToEnds (outcomes ++ last ∷ []) (left ++ its ∷ [])
 AreReadToEnds-append_last [] [] last its h e = (e, tt)
-AreReadToEnds-append_last (v ∷ vs) (x ∷ xs) last its (first, rest) e = (first, AreReadToEnds-append_last vs xs last its rest e)
+AreReadToEnds-append_last (v ∷ vs) (x ∷ xs) last its (first, rest) e =
+    (first, AreReadToEnds-append_last vs xs last its rest e)
 AreReadToEnds-append_last [] (x ∷ xs) last its h e = absurd h
 AreReadToEnds-append_last (v ∷ vs) [] last its h e = absurd h
 

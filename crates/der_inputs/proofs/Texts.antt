@@ -1,4 +1,4 @@
--- Texts that are pushed one after another.
+-- Texts that are pushed one after another, for `show::Show::push_all`, `documents::objects_of` and `sources`.
 use Rattle.std.proofs.Common.{◌≡◌, ℕ, ◌+◌, ◌<◌, List, [], ◌∷◌, ◌++◌, get_or, length, map, take, refl, sym, ap, ◌∙◌}
 use Rattle.std.proofs.Common.{append_assoc, append-nil}
 use Rattle.std.proofs.lemmas.List.{map-append, take_more}
@@ -20,8 +20,9 @@ use Rattle.der_lines.specs.declared.document.Verdict.TheVariants.{AllRead}
 module _ {A B : Type 0} (Is : A → B → List ℕ → Type 0) where
   -- the text of one more
   AreTexts-append_last :
-      (xs : List A) (came : List B) (x : A) (last : B) (text own : List ℕ) → AreTexts Is xs came text → Is x last own →
-      AreTexts Is (xs ++ x ∷ []) (came ++ last ∷ []) (text ++ own)
+      (xs : List A) (results : List B) (x : A) (last : B) (text own : List ℕ) →
+      AreTexts Is xs results text → Is x last own →
+      AreTexts Is (xs ++ x ∷ []) (results ++ last ∷ []) (text ++ own)
   AreTexts-append_last [] [] x last text own e is = (own, [], ap (λ z. z ++ own) e ∙ sym (append-nil own), is, refl)
   AreTexts-append_last (y ∷ ys) (v ∷ vs) x last text own (first, rest, e, h, later) is = (
     first,
@@ -34,12 +35,12 @@ module _ {A B : Type 0} (Is : A → B → List ℕ → Type 0) where
   AreTexts-append_last (y ∷ ys) [] x last text own h is = absurd h
 
   pub IsWritten-append_last :
-      (xs : List A) (came : List B) (x : A) (last : B) (a b c : Option (List ℕ)) →
-      IsWritten (AreTexts Is xs came) a b →
-      IsWritten (Is x last) b c → IsWritten (AreTexts Is (xs ++ x ∷ []) (came ++ last ∷ [])) a c
-  IsWritten-append_last xs came x last a b c = IsWritten-append _ _ _ a b c (AreTexts-append_last xs came x last)
+      (xs : List A) (results : List B) (x : A) (last : B) (a b c : Option (List ℕ)) →
+      IsWritten (AreTexts Is xs results) a b →
+      IsWritten (Is x last) b c → IsWritten (AreTexts Is (xs ++ x ∷ []) (results ++ last ∷ [])) a c
+  IsWritten-append_last xs results x last a b c = IsWritten-append _ _ _ a b c (AreTexts-append_last xs results x last)
 
--- the text of one more of what is found
+-- the text of one more finding
 pub IsWritten-next_finding :
     {F : Type 0} (Is : Finding → Verdict → List ℕ → Type 0) (f : F → Finding) (all : List F) (i : ℕ) (x : F)
     (read one both : Verdict) (a b c : Option (List ℕ)) → i < length all → x ≡ get_or all i x → both ≡ both_read read
@@ -53,10 +54,11 @@ IsWritten-next_finding Is f all i x read one both a b c l at is (verdicts, e, ea
     let more = map-append f (take i all) (x ∷ []) in (
       verdicts ++ one ∷ [],
       is ∙ (ap (λ z. both_read z one) e ∙ sym (fold-append both_read AllRead verdicts (one ∷ []))),
-      rw (take_more all i x l, ← at, more) (IsWritten-append_last Is (map f (take i all)) verdicts (f x) one a b c earlier last),
+      rw (take_more all i x l, ← at, more) (IsWritten-append_last Is (map f (take i all)) verdicts
+          (f x) one a b c earlier last),
     )
 
--- what one more object has
+-- findings so far, and those of the objects that are left
 module _ {X Y : Type 0} (h : X → List Y) (old all : List Y) (left : List X) (earlier : old ++ flat_map h left ≡ all)
   where
     pub append-next_object :

@@ -54,13 +54,13 @@ IsBlockAt offset input None =
     (document_of input ≡ None)
     ⊎ ((document : List ℕ) × (document_of input ≡ Some document) × HasNoBlockAt document offset)
 
--- so of its contents octets
+-- the contents octets of the block that begins at the offset; or that none does
 abbrev pub IsContentsAt : ℕ → List ℕ → Option (List ℕ) → Type 0
 IsContentsAt offset input (Some contents) =
     (block : List ℕ) × IsBlockAt offset input (Some block) × HasContents block contents
 IsContentsAt offset input None = IsBlockAt offset input None
 
--- the octets of the string that begins there; or that no block begins there, or that it holds none
+-- the octets of the string that begins at the offset; or that no block begins there, or that it holds none
 abbrev pub IsValueAt : ℕ → List ℕ → Option (List ℕ) → Type 0
 IsValueAt offset input (Some octets) =
     (block : List ℕ) × IsBlockAt offset input (Some block) × HoldsOctets block octets

@@ -20,22 +20,22 @@ use Rattle.der_rows.specs.declared.printer.Look.TheVariants.{Colored, Plain}
 abbrev pub IsTitle : List ℕ → List ℕ → Type 0
 IsTitle name text = IsLine (IsNote equals_sign (escaped name)) text
 
--- so of a label, where there is one
+-- the line of a label, where there is one
 abbrev pub IsLabel : Option (List ℕ) → List ℕ → Type 0
 IsLabel None text = text ≡ []
 IsLabel (Some label) text = IsTitle label text
 
 -- the dump of octets, read strictly or not, with no more than so many blocks around a block, where there is a most; or
 -- a line `!` in words where there are none to be read
-abbrev pub IsFoundDump : Bool → Option ℕ → Option (List ℕ) → Verdict → List ℕ → Type 0
-IsFoundDump strict most (Some octets) verdict text = IsDumpOf strict most octets verdict text
-IsFoundDump strict most None verdict text = (why : List ℕ) × IsRefusal why verdict text
+abbrev pub IsDumpOrRefusal : Bool → Option ℕ → Option (List ℕ) → Verdict → List ℕ → Type 0
+IsDumpOrRefusal strict most (Some octets) verdict text = IsDumpOf strict most octets verdict text
+IsDumpOrRefusal strict most None verdict text = (why : List ℕ) × IsRefusal why verdict text
 
 -- a dump under the line of its label
 abbrev pub IsDump : Bool → Option ℕ → Finding → Verdict → List ℕ → Type 0
 IsDump strict most finding verdict text =
     (title dump : List ℕ) × (text ≡ title ++ dump) × IsLabel finding.label title
-    × IsFoundDump strict most finding.octets verdict dump
+    × IsDumpOrRefusal strict most finding.octets verdict dump
 
 -- lines with colors, or as they are
 abbrev pub look_by : Bool → Look
@@ -66,7 +66,7 @@ IsAccount strict (Some octets) verdict text =
 IsAccount strict None verdict text =
     (why line : List ℕ) × IsRefusal why verdict line × IsShown false line text
 
--- what is written in this form of a finding in the file of this name, if it is told: as JSON, which has all blocks, on
+-- what is written in this form of a finding in the file of this name, if it is shown: as JSON, which has all blocks, on
 -- a page, as an account, or as lines, with colors or not
 abbrev pub IsText :
     Form → Bool → Bool → Option ℕ → Option (List ℕ) → Finding → Verdict → List ℕ → Type 0
@@ -83,7 +83,7 @@ abbrev pub IsTitleSection : List ℕ → List ℕ → Type 0
 IsTitleSection name text =
     (line : List ℕ) × (faults : List Bool) × IsTitle name line × Shows faults line [] [] text
 
--- the name above dumps in a form: JSON tells it in each line
+-- the name above dumps in a form: JSON has it in each line
 abbrev pub IsName : Form → Bool → List ℕ → List ℕ → Type 0
 IsName Lines colored name text = IsTitleLine colored name text
 IsName Accounts colored name text = IsTitleLine colored name text

@@ -17,7 +17,7 @@ use Rattle.der_options.specs.declared.options.Options.{Options}
 use Rattle.der_options.specs.declared.options.Task.{Task}
 use Rattle.der_options.specs.declared.options.Task.TheVariants.{At, Contents, Dump, Extract, Value}
 
--- names are told in JSON, and where there are several inputs, and not beside octets as they stand
+-- names are shown in JSON, and where there are several inputs, and not beside octets as they stand
 abbrev pub names_shown : Task → Bool → ℕ → Bool
 names_shown (Extract offset) json count = false
 names_shown (Contents offset) json count = false
@@ -35,8 +35,8 @@ are_colors_shown (Contents offset) color = false
 are_colors_shown (Value offset) color = false
 are_colors_shown _ color = is_always color
 
--- what is wanted of inputs: what is done with each, whether its name is told, and how findings are shown, as lines with
--- colors or without
+-- what is wanted of inputs: what is done with each, whether its name is shown, and how findings are shown, as lines
+-- with colors or without
 pub record Wanted : Type 0 where
   pub task : Task
   pub named : Bool
@@ -45,7 +45,7 @@ pub record Wanted : Type 0 where
   pub strict : Bool
   pub most_depth : Option ℕ
 
--- so by the options, of so many inputs
+-- what the options want of so many inputs
 abbrev pub wanted_by : Options → ℕ → Wanted
 wanted_by options count = record {
   task = options.task;
@@ -66,7 +66,7 @@ AreShown wanted file findings outcome text =
     (verdicts : List Verdict) × (outcome ≡ Written (all_read verdicts))
     × AreTexts (IsFindingText wanted file) findings verdicts text
 
--- octets as they stand, or nothing where there are none, for a reason that is told elsewhere
+-- octets as they stand, or nothing where there are none, and the outcome says why
 abbrev pub IsPart : Option (List ℕ) → Outcome → List ℕ → Type 0
 IsPart (Some octets) outcome text = (outcome ≡ Written AllRead) × (text ≡ octets)
 IsPart None (Lacking why) text = text ≡ []
@@ -85,7 +85,7 @@ IsTaskText (Contents offset) wanted file input outcome text =
 IsTaskText (Value offset) wanted file input outcome text =
     (octets : Option (List ℕ)) × IsValueAt offset input octets × IsPart octets outcome text
 
--- so of octets in the file of this name, which is told or not
+-- what is written of octets in the file of this name, which is shown or not
 abbrev pub IsNamedText : Bool → Wanted → List ℕ → List ℕ → Outcome → List ℕ → Type 0
 IsNamedText false wanted name octets outcome text = IsTaskText wanted.task wanted None octets outcome text
 IsNamedText true wanted name octets outcome text =
@@ -107,12 +107,12 @@ IsInputText wanted input outcome text =
     ⊎ ((octets : List ℕ) × IfSome input.octets (λ known. octets ≡ known)
     × IsNamedText wanted.named wanted input.name octets outcome text)
 
--- what a reader has left after an input of which this came: nothing, unless it could not be read
+-- what a reader has left after an input with this outcome: nothing, unless it could not be read
 abbrev pub IsReadToEnd : Outcome → Option (List ℕ) → Type 0
 IsReadToEnd outcome left = outcome ≢ Unread → IsAtEnd left
 
--- so of all inputs
+-- what all readers have left, after inputs with these outcomes
 abbrev pub AreReadToEnds : List Outcome → List (Option (List ℕ)) → Type 0
 AreReadToEnds [] [] = Unit {0}
-AreReadToEnds (came ∷ later) (left ∷ others) = IsReadToEnd came left × AreReadToEnds later others
+AreReadToEnds (outcome ∷ later) (left ∷ others) = IsReadToEnd outcome left × AreReadToEnds later others
 AreReadToEnds _ _ = ⊥

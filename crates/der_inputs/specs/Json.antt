@@ -7,28 +7,28 @@ use Rattle.der_inputs.specs.Findings.{Finding}
 use Rattle.der_lines.specs.declared.document.Verdict.{Verdict}
 use Rattle.der_lines.specs.declared.document.Verdict.TheVariants.{AllRead, Refused}
 
--- a line that says in words why there are no octets
-abbrev pub IsWords : Members → List ℕ → Type 0
-IsWords origin text =
-    (words : List ℕ)
-    × (text ≡ line_text (refusal_json (record { code = None; offset = None; words = words }) origin))
+-- a line that says why there are no octets
+abbrev pub IsReason : Members → List ℕ → Type 0
+IsReason origin text =
+    (reason : List ℕ)
+    × (text ≡ line_text (refusal_json (record { code = None; offset = None; words = reason }) origin))
 
 abbrev pub is_all_read : Verdict → Bool
 is_all_read AllRead = true
 is_all_read Refused = false
 
--- the lines of octets, in which something is at fault or nothing is; strictly, so of what is not DER
+-- the lines of octets, in which something is at fault or nothing is; strictly, of octets that are DER or not
 abbrev pub IsOctetsJson : Bool → List ℕ → Members → Verdict → List ℕ → Type 0
 IsOctetsJson false octets origin verdict = IsJsonOf octets origin (is_all_read verdict)
 IsOctetsJson true octets origin verdict = IsStrictJsonOf octets origin (is_all_read verdict)
 
--- so, or a line of why there are none to be read
-abbrev pub IsFoundJson : Bool → Option (List ℕ) → Members → Verdict → List ℕ → Type 0
-IsFoundJson strict (Some octets) origin verdict text = IsOctetsJson strict octets origin verdict text
-IsFoundJson strict None origin verdict text = (verdict ≡ Refused) × IsWords origin text
+-- the lines of octets, or the line that says why there are none to be read
+abbrev pub IsJsonOrRefusal : Bool → Option (List ℕ) → Members → Verdict → List ℕ → Type 0
+IsJsonOrRefusal strict (Some octets) origin verdict text = IsOctetsJson strict octets origin verdict text
+IsJsonOrRefusal strict None origin verdict text = (verdict ≡ Refused) × IsReason origin text
 
--- lines that tell the file and the label, of each that there is. Where a label is no UTF-8, U+FFFD stands in place of
+-- lines that have the file and the label, of each that there is. Where a label is no UTF-8, U+FFFD stands in place of
 -- the octets that are none
 abbrev pub IsJson : Bool → Option (List ℕ) → Finding → Verdict → List ℕ → Type 0
 IsJson strict file finding =
-    IsFoundJson strict finding.octets (origin_members file (option_map utf8_lossy finding.label))
+    IsJsonOrRefusal strict finding.octets (origin_members file (option_map utf8_lossy finding.label))

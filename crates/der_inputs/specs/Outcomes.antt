@@ -1,16 +1,16 @@
--- What came of inputs, and the exit status after them.
+-- The outcomes of inputs, and the exit status after them.
 use Rattle.std.specs.Prelude.{ℕ, List, fold, max}
 use Rattle.der_lines.specs.declared.document.Verdict.{Verdict}
 use Rattle.der_lines.specs.declared.document.Verdict.TheVariants.{AllRead, Refused}
 use Rattle.der_inputs.specs.declared.outcome.Outcome.{Outcome}
 use Rattle.der_inputs.specs.declared.outcome.Outcome.TheVariants.{Lacking, Unread, Written}
 
--- where one and then another were read, all was
+-- two were both read
 abbrev pub both_read : Verdict → Verdict → Verdict
 both_read AllRead verdict = verdict
 both_read Refused verdict = Refused
 
--- so of any number
+-- all of these were read
 abbrev pub all_read : List Verdict → Verdict
 all_read verdicts = fold both_read AllRead verdicts
 
@@ -22,6 +22,6 @@ status_of (Written Refused) = 1
 status_of (Lacking why) = 1
 status_of Unread = 2
 
--- the greatest of all
+-- the greatest exit status that an input asks for
 abbrev pub greatest_status : List Outcome → ℕ
-greatest_status came = fold (λ most one. max most (status_of one)) 0 came
+greatest_status outcomes = fold (λ most one. max most (status_of one)) 0 outcomes

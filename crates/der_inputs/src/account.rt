@@ -1,4 +1,4 @@
-// Accounts of what is found.
+// Accounts of documents.
 ghost use Rattle.std.specs.Prelude.{◌≡◌, IfOk, true};
 ghost use Rattle.asn1_der.specs.Der.{IsDer};
 ghost use Rattle.der_inputs.specs.Forms.{IsAccount};
@@ -6,7 +6,7 @@ ghost use Rattle.der_inputs.specs.Parts.{finding_in};
 ghost use Rattle.der_io.specs.Output.{IsWritten};
 ghost use Rattle.der_lines.specs.declared.document.Verdict.TheVariants.{AllRead};
 
-use crate::found::Found;
+use crate::documents::Document;
 use crate::show::Show;
 use asn1_der::is_der;
 use der_account::{account_of, joined};
@@ -17,17 +17,17 @@ use std::alloc::AllocError;
 use std::io::Write;
 
 impl Show {
-    // Writes the account of octets, or why there are none to be read.
+    // Writes the account of a document, or why it cannot be read.
     pub fn push_account<W: Write>(
         &self,
-        found: &Found,
+        document: &Document,
         printer: &mut Printer<W>,
     ) -> Result<Verdict, StreamFault>
         ensures { IfOk result (λ verdict. IsWritten
-            (IsAccount self.now.is_strict (finding_in found.now).octets verdict)
+            (IsAccount self.now.is_strict (finding_in document.now).octets verdict)
             (W.contents printer.old.out) (W.contents printer.new.out)) }
     {
-        match &found.octets {
+        match &document.octets {
             Ok(octets) => self.write_account(octets, &mut printer.out),
             Err(why) => {
                 printer.look = Look::Plain;

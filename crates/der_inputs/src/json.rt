@@ -1,12 +1,12 @@
-// Lines of JSON of what is found.
+// Lines of JSON of documents.
 ghost use Rattle.std.specs.Prelude.{◌≡◌, IfOk, OnOk};
 ghost use Rattle.std.specs.Option.{option_map};
 ghost use Rattle.der_io.specs.Output.{IsWritten};
-ghost use Rattle.der_inputs.specs.Json.{IsFoundJson, IsJson, IsOctetsJson, IsWords, is_all_read};
+ghost use Rattle.der_inputs.specs.Json.{IsJson, IsJsonOrRefusal, IsOctetsJson, IsReason, is_all_read};
 ghost use Rattle.der_inputs.specs.Parts.{finding_in, octets_in};
 ghost use Rattle.der_json.specs.Json.{told_of};
 
-use crate::found::Found;
+use crate::documents::Document;
 use crate::show::Show;
 use der_io::{StreamFault, write_part};
 use der_json::{Fault, Origin, push_json, push_refusal, push_strict_json};
@@ -15,50 +15,50 @@ use std::alloc::{AllocError, Global};
 use std::io::Write;
 
 impl Show {
-    // Writes the lines of octets, or that of why there are none to be read.
+    // Writes the lines of a document, or the line that says why it cannot be read.
     pub fn push_json<W: Write>(
         &self,
         file: Option<&str>,
-        found: &Found,
+        document: &Document,
         out: &mut W,
     ) -> Result<Verdict, StreamFault>
         ensures { IfOk result (λ verdict. IsWritten (IsJson self.now.is_strict
-            (option_map (λ name. name.now) file.entry) (finding_in found.now) verdict)
+            (option_map (λ name. name.now) file.entry) (finding_in document.now) verdict)
             (W.contents out.old) (W.contents out.new)) }
     {
-        match &found.label {
+        match &document.label {
             Some(label) => {
                 let text = String::from_utf8_lossy(self.alloc, label)?;
                 let label = Some(text.as_str());
-                self.push_from(Origin { file, label }, found, out)
+                self.push_with_origin(Origin { file, label }, document, out)
             }
             None => {
                 let label = None;
-                self.push_from(Origin { file, label }, found, out)
+                self.push_with_origin(Origin { file, label }, document, out)
             }
         }
     }
 
-    fn push_from<W: Write>(
+    fn push_with_origin<W: Write>(
         &self,
         origin: Origin<'_>,
-        found: &Found,
+        document: &Document,
         out: &mut W,
     ) -> Result<Verdict, StreamFault>
-        ensures { IfOk result (λ verdict. IsWritten (IsFoundJson self.now.is_strict (octets_in found.now.octets)
+        ensures { IfOk result (λ verdict. IsWritten (IsJsonOrRefusal self.now.is_strict (octets_in document.now.octets)
             (told_of origin.entry) verdict) (W.contents out.old) (W.contents out.new)) }
     {
-        match &found.octets {
-            Ok(octets) => self.push_read(self.style_of(found), origin, octets, out),
+        match &document.octets {
+            Ok(octets) => self.push_json_of(self.style_of(document), origin, octets, out),
             Err(why) => {
-                push_words(self.alloc, origin, why, out)?;
+                push_reason(self.alloc, origin, why, out)?;
                 Ok(Verdict::Refused)
             }
         }
     }
 
-    // Writes the lines of octets; strictly, also that of what is not DER.
-    fn push_read<W: Write>(
+    // Writes the lines of octets; strictly, also the line that says what is not DER.
+    fn push_json_of<W: Write>(
         &self,
         style: Style,
         origin: Origin<'_>,
@@ -76,7 +76,7 @@ impl Show {
     }
 }
 
-// What came of octets that are right, or not.
+// The verdict on octets: all were read, if nothing is wrong with them.
 fn verdict_of(is_right: bool) -> Verdict
     ensures { is_all_read result ≡ is_right }
 {
@@ -87,22 +87,22 @@ fn verdict_of(is_right: bool) -> Verdict
     }
 }
 
-// Writes the line that says in words why there are no octets.
-fn push_words<W: Write>(
+// Writes the line that says why there are no octets.
+fn push_reason<W: Write>(
     alloc: Global,
     origin: Origin<'_>,
     why: &str,
     out: &mut W,
 ) -> Result<(), StreamFault>
-    ensures { OnOk result (IsWritten (IsWords (told_of origin.entry)) (W.contents out.old) (W.contents out.new)) }
+    ensures { OnOk result (IsWritten (IsReason (told_of origin.entry)) (W.contents out.old) (W.contents out.new)) }
 {
-    let line = words_line(alloc, origin, why)?;
+    let line = reason_line(alloc, origin, why)?;
     write_part(out, &line)?;
     Ok(())
 }
 
-fn words_line(alloc: Global, origin: Origin<'_>, why: &str) -> Result<Vec<u8>, AllocError>
-    ensures { IfOk result (λ line. IsWords (told_of origin.entry) line.items) }
+fn reason_line(alloc: Global, origin: Origin<'_>, why: &str) -> Result<Vec<u8>, AllocError>
+    ensures { IfOk result (λ line. IsReason (told_of origin.entry) line.items) }
 {
     let fault = Fault {
         code: None,

@@ -3,10 +3,10 @@
 //! [`run`] reads inputs, each a [`Source`] with a name, and writes what the options of `der_options` want of each: a
 //! dump, a line of JSON, a section of a page, or octets as they stand. An input is a document in one of the forms of
 //! `der_forms`, told apart by its octets; a dump has the lines of `der_lines`, a line of JSON is that of `der_json`,
-//! and a page that of `der_html`. What comes of an input is an [`Outcome`], and [`status`] is the exit status after a
-//! run.
+//! and a page that of `der_html`. An [`Outcome`] says what was done with an input, and [`status`] is the exit status
+//! after a run.
 //!
-//! Two steps do it: `found` lists what is found in an input, and `show` pushes the text of each.
+//! Two steps do it: `documents` lists the documents of an input, and `show` pushes the text of each.
 //!
 //! It opens nothing by itself: `der_dump` gives it files and standard input, and tests give it octets.
 #![tactic(auto)]
@@ -14,7 +14,7 @@
 mod account;
 mod appended;
 mod before;
-mod found;
+mod documents;
 mod json;
 mod outcome;
 mod show;

@@ -1,10 +1,10 @@
-// What came of inputs, and the exit status after them.
+// The outcomes of inputs, and the exit status after them.
 ghost use Rattle.std.specs.Prelude.{◌≡◌, max};
 ghost use Rattle.der_inputs.specs.Outcomes.{greatest_status, status_of};
 
 use der_lines::Verdict;
 
-/// What came of an input.
+/// What was done with an input.
 #[derive(Debug, Drop, PartialEq)]
 pub enum Outcome {
     /// What the options want was written. It says, too, what is rejected.
@@ -16,10 +16,11 @@ pub enum Outcome {
 }
 
 // The greatest exit status that one of the inputs asks for.
-pub fn greatest(came: &[Outcome]) -> u8
-    ensures { result ≡ greatest_status came.now }
+pub fn greatest(outcomes: &[Outcome]) -> u8
+    ensures { result ≡ greatest_status outcomes.now }
 {
-    came.iter()
+    outcomes
+        .iter()
         .fold(0, |most, outcome| larger(most, status_after(outcome)))
 }
 

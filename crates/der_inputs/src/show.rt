@@ -1,7 +1,7 @@
-// How what is found is shown.
+// How documents are shown.
 ghost use Rattle.std.specs.Prelude.{◌≡◌, [], IfOk, OnOk, false, map, unwrap_or};
 ghost use Rattle.std.specs.Option.{option_map};
-ghost use Rattle.der_inputs.specs.Forms.{IsDump, IsFoundDump, IsFrameOf, IsLabel, IsLines, IsName, IsSection, IsTitle};
+ghost use Rattle.der_inputs.specs.Forms.{IsDump, IsDumpOrRefusal, IsFrameOf, IsLabel, IsLines, IsName, IsSection, IsTitle};
 ghost use Rattle.der_inputs.specs.Forms.{IsTitleLine, IsTitleSection, form_by, look_by};
 ghost use Rattle.der_io.specs.Output.{IsWritten};
 ghost use Rattle.der_lines.specs.Dump.{IsDumpOf};
@@ -12,7 +12,7 @@ ghost use Rattle.der_inputs.specs.Outcomes.{both_read};
 ghost use Rattle.der_inputs.specs.Parts.{finding_in, octets_in, wanted_of};
 ghost use Rattle.der_inputs.specs.declared.show.Form.TheVariants.{Page as page_form};
 
-use crate::found::Found;
+use crate::documents::Document;
 use crate::outcome::Outcome;
 use der_html::{push_foot, push_head};
 use der_io::{StreamFault, write_part};
@@ -34,13 +34,13 @@ pub enum Form {
     Accounts,
 }
 
-// What is done with each input, and how what is found is shown.
+// What is done with each input, and how its documents are shown.
 #[derive(Drop)]
 pub struct Show {
     pub alloc: Global,
     pub names: Names,
     pub task: Task,
-    // the name of each input is told
+    // the name of each input is shown
     pub is_named: bool,
     pub form: Form,
     pub is_strict: bool,
@@ -52,7 +52,7 @@ pub struct Show {
 }
 
 impl Show {
-    // As the options want it of so many inputs.
+    // What the options want of so many inputs.
     pub fn new(
         alloc: Global,
         options: &Options<'_>,
@@ -86,21 +86,21 @@ impl Show {
         })
     }
 
-    // Writes the text of each, one after another. JSON tells the name of the file.
+    // Writes the text of each document, one after another. JSON has the name of the file.
     pub fn push_all<W: Write>(
         &self,
         file: Option<&str>,
-        found: &[Found],
+        documents: &[Document],
         printer: &mut Printer<W>,
     ) -> Result<Outcome, StreamFault>
         ensures { IfOk result (λ outcome. IsWritten (AreShown (wanted_of self.now)
-            (option_map (λ name. name.now) file.entry) (map finding_in found.now) outcome)
+            (option_map (λ name. name.now) file.entry) (map finding_in documents.now) outcome)
             (W.contents printer.old.out) (W.contents printer.new.out)) }
     {
         let mut verdict = Verdict::AllRead;
-        for one in found {
-            let read = self.push(file, one, printer)?;
-            verdict = both(verdict, read);
+        for document in documents {
+            let read = self.push(file, document, printer)?;
+            verdict = both_verdicts(verdict, read);
         }
         Ok(Outcome::Written(verdict))
     }
@@ -108,49 +108,49 @@ impl Show {
     fn push<W: Write>(
         &self,
         file: Option<&str>,
-        found: &Found,
+        document: &Document,
         printer: &mut Printer<W>,
     ) -> Result<Verdict, StreamFault>
         ensures { IfOk result (λ verdict. IsWritten (IsFindingText (wanted_of self.now)
-            (option_map (λ name. name.now) file.entry) (finding_in found.now) verdict)
+            (option_map (λ name. name.now) file.entry) (finding_in document.now) verdict)
             (W.contents printer.old.out) (W.contents printer.new.out)) }
     {
         match self.form {
-            Form::Lines => self.push_as_lines(found, printer),
-            Form::Json => self.push_json(file, found, &mut printer.out),
-            Form::Page => self.push_on_page(found, printer),
-            Form::Accounts => self.push_account(found, printer),
+            Form::Lines => self.push_as_lines(document, printer),
+            Form::Json => self.push_json(file, document, &mut printer.out),
+            Form::Page => self.push_on_page(document, printer),
+            Form::Accounts => self.push_account(document, printer),
         }
     }
 
     // Prints a dump as lines.
     fn push_as_lines<W: Write>(
         &self,
-        found: &Found,
+        document: &Document,
         printer: &mut Printer<W>,
     ) -> Result<Verdict, StreamFault>
         ensures { IfOk result (λ verdict. IsWritten (IsLines self.now.is_colored self.now.is_strict
-            self.now.style.most_depth (finding_in found.now) verdict)
+            self.now.style.most_depth (finding_in document.now) verdict)
             (W.contents printer.old.out) (W.contents printer.new.out)) }
     {
         printer.look = self.look();
-        let verdict = self.push_dump(found, printer)?;
+        let verdict = self.push_dump(document, printer)?;
         Ok(verdict)
     }
 
     // Prints a section of a page: a dump, and the octets.
     fn push_on_page<W: Write>(
         &self,
-        found: &Found,
+        document: &Document,
         printer: &mut Printer<W>,
     ) -> Result<Verdict, StreamFault>
         ensures { IfOk result (λ verdict. IsWritten (IsSection self.now.is_strict self.now.style.most_depth
-            (finding_in found.now) verdict) (W.contents printer.old.out) (W.contents printer.new.out)) }
+            (finding_in document.now) verdict) (W.contents printer.old.out) (W.contents printer.new.out)) }
     {
         printer.look = Look::Page;
         printer.begin_section()?;
-        let verdict = self.push_dump(found, printer)?;
-        printer.end_section(octets_or_none(found))?;
+        let verdict = self.push_dump(document, printer)?;
+        printer.end_section(octets_or_empty(document))?;
         Ok(verdict)
     }
 
@@ -168,41 +168,41 @@ impl Show {
     // Prints a dump under the line of its label, if it has one.
     fn push_dump<W: Write>(
         &self,
-        found: &Found,
+        document: &Document,
         printer: &mut Printer<W>,
     ) -> Result<Verdict, StreamFault>
         ensures { IfOk result (λ verdict. IsPrinted W.contents (IsDump self.now.is_strict self.now.style.most_depth
-            (finding_in found.now) verdict) printer.old printer.new) }
+            (finding_in document.now) verdict) printer.old printer.new) }
     {
-        self.push_label_of(found, printer)?;
-        let verdict = self.push_found(found, printer)?;
+        self.push_label_of(document, printer)?;
+        let verdict = self.push_dump_or_refusal(document, printer)?;
         printer.end_folds()?;
         Ok(verdict)
     }
 
     fn push_label_of<W: Write>(
         &self,
-        found: &Found,
+        document: &Document,
         printer: &mut Printer<W>,
     ) -> Result<(), StreamFault>
-        ensures { OnOk result (IsPrinted W.contents (IsLabel (finding_in found.now).label) printer.old printer.new) }
+        ensures { OnOk result (IsPrinted W.contents (IsLabel (finding_in document.now).label) printer.old printer.new) }
     {
-        match &found.label {
+        match &document.label {
             Some(label) => push_label(self.alloc, label, printer),
             None => Ok(()),
         }
     }
 
-    fn push_found<W: Write>(
+    fn push_dump_or_refusal<W: Write>(
         &self,
-        found: &Found,
+        document: &Document,
         printer: &mut Printer<W>,
     ) -> Result<Verdict, StreamFault>
-        ensures { IfOk result (λ verdict. IsPrinted W.contents (IsFoundDump self.now.is_strict
-            self.now.style.most_depth (octets_in found.now.octets) verdict) printer.old printer.new) }
+        ensures { IfOk result (λ verdict. IsPrinted W.contents (IsDumpOrRefusal self.now.is_strict
+            self.now.style.most_depth (octets_in document.now.octets) verdict) printer.old printer.new) }
     {
-        match &found.octets {
-            Ok(octets) => self.push_octets(self.style_of(found), octets, printer),
+        match &document.octets {
+            Ok(octets) => self.push_octets(self.style_of(document), octets, printer),
             Err(why) => push_refusal(why, printer),
         }
     }
@@ -223,23 +223,23 @@ impl Show {
         }
     }
 
-    // How what was found is shown: its shape is that of its label, where none is wanted.
-    pub fn style_of(&self, found: &Found) -> Style
+    // How a document is shown: its shape is that of its label, where none is wanted.
+    pub fn style_of(&self, document: &Document) -> Style
         ensures { result.most_depth ≡ self.now.style.most_depth }
     {
         Style {
-            shape: self.style.shape.or_else(|| self.labelled(found)),
+            shape: self.style.shape.or_else(|| self.shape_of_label(document)),
             ..self.style
         }
     }
 
-    // The shape of what stands behind the label of what was found.
-    fn labelled(&self, found: &Found) -> Option<usize> {
-        let label = found.label.as_deref()?;
+    // The shape that the label of a document says.
+    fn shape_of_label(&self, document: &Document) -> Option<usize> {
+        let label = document.label.as_deref()?;
         self.names.shapes.labelled(str::from_utf8(label).ok()?)
     }
 
-    // Prints the line of a name above dumps, on a page or not: JSON tells it in each line.
+    // Prints the line of a name above dumps, on a page or not: JSON has it in each line.
     pub fn push_name<W: Write>(
         &self,
         name: &str,
@@ -333,16 +333,16 @@ fn write_foot<W: Write>(alloc: Global, out: &mut W) -> Result<(), StreamFault>
     Ok(())
 }
 
-fn octets_or_none(found: &Found) -> &[u8]
-    ensures { result.now ≡ unwrap_or (octets_in found.now.octets) [] }
+fn octets_or_empty(document: &Document) -> &[u8]
+    ensures { result.now ≡ unwrap_or (octets_in document.now.octets) [] }
 {
-    match &found.octets {
+    match &document.octets {
         Ok(octets) => octets,
         Err(_) => &[],
     }
 }
 
-fn both(a: Verdict, b: Verdict) -> Verdict
+fn both_verdicts(a: Verdict, b: Verdict) -> Verdict
     ensures { result ≡ both_read a b }
 {
     match a {
@@ -375,7 +375,7 @@ fn are_colors_shown(task: Task, color: Color) -> bool
     }
 }
 
-// Whether names are told of so many inputs, in JSON or not.
+// Whether names of so many inputs are shown, in JSON or not.
 fn are_names_shown(task: Task, is_json: bool, count: usize) -> bool
     ensures { result ≡ names_shown task is_json count }
 {

@@ -14,7 +14,7 @@ ghost use Rattle.der_io.specs.declared.StreamFault.TheVariants.{Memory as memory
 
 use crate::appended::Appended;
 use crate::before::Before;
-use crate::found::{alone, block_of, contents_of, documents_of, value_of};
+use crate::documents::{alone, block_of, contents_of, documents_of, value_of};
 use crate::outcome::{Outcome, greatest};
 use crate::show::Show;
 use der_io::{StreamFault, flush, read_all, write_part};
@@ -35,7 +35,7 @@ pub struct Source<'a, R> {
 }
 
 /// Reads each input to its end, in order, and writes to `w` what the options want of it before the next is read.
-/// Returns what came of each, and the writer. The readers of those that could be read are at their ends.
+/// Returns the outcome of each, and the writer. The readers of those that could be read are at their ends.
 ///
 /// An input is DER, PEM, hex digits or base64, told apart by its bytes. A document is put as a dump, as a line of JSON,
 /// on a page of HTML, or as a short account, which tells how many days are left if it is given the time; names of
@@ -53,12 +53,12 @@ pub fn run<R: Read + Drop, W: Write>(
     sources: &mut [Source<'_, R>],
     w: W,
 ) -> (Result<Vec<Outcome>, StreamFault>, W)
-    ensures answered { IfOk result.0 (λ came. (texts output : List ℕ)
+    ensures answered { IfOk result.0 (λ outcomes. (texts output : List ℕ)
         × AreTexts (IsInputText (wanted_by options.now (length sources.old)))
-        (map (λ source. input_of source.name.now (R.remaining source.reader)) sources.old) came.items texts
+        (map (λ source. input_of source.name.now (R.remaining source.reader)) sources.old) outcomes.items texts
         × IsFramed (form_by options.now.is_json options.now.is_html options.now.is_text) texts output
         × Appends (W.contents w) (W.contents result.1) output) }
-    ensures read { IfOk result.0 (λ came. AreReadToEnds came.items
+    ensures read { IfOk result.0 (λ outcomes. AreReadToEnds outcomes.items
         (map (λ source. R.remaining source.reader) sources.new)) }
     ensures kept { ∥ Grows (W.contents w) (W.contents result.1) ∥₁ }
 {
@@ -75,12 +75,12 @@ fn run_on<B: Before, R: Read + Drop, W: Write>(
     w: W,
 ) -> (Result<Vec<Outcome>, StreamFault>, W)
     requires { W.contents w ≡ B.before }
-    ensures answered { IfOk result.0 (λ came. (texts output : List ℕ)
+    ensures answered { IfOk result.0 (λ outcomes. (texts output : List ℕ)
         × AreTexts (IsInputText (wanted_by options.now (length sources.old)))
-        (map (λ source. input_of source.name.now (R.remaining source.reader)) sources.old) came.items texts
+        (map (λ source. input_of source.name.now (R.remaining source.reader)) sources.old) outcomes.items texts
         × IsFramed (form_by options.now.is_json options.now.is_html options.now.is_text) texts output
         × Appends (W.contents w) (W.contents result.1) output) }
-    ensures read { IfOk result.0 (λ came. AreReadToEnds came.items
+    ensures read { IfOk result.0 (λ outcomes. AreReadToEnds outcomes.items
         (map (λ source. R.remaining source.reader) sources.new)) }
     ensures kept { ∥ Grows (W.contents w) (W.contents result.1) ∥₁ }
 {
@@ -92,9 +92,9 @@ fn run_on<B: Before, R: Read + Drop, W: Write>(
         since: PhantomData,
     };
     let mut printer = Printer::new(alloc, Look::Plain, out);
-    let came = write_all_of(&show, sources, &mut printer);
+    let outcomes = write_all_of(&show, sources, &mut printer);
     let Appended { writer, since: _ } = printer.into_writer();
-    (came, writer)
+    (outcomes, writer)
 }
 
 // Writes what is wanted of all inputs, with what stands before and behind it.
@@ -103,19 +103,19 @@ fn write_all_of<R: Read + Drop, W: Write>(
     sources: &mut [Source<'_, R>],
     printer: &mut Printer<W>,
 ) -> Result<Vec<Outcome>, StreamFault>
-    ensures written { IfOk result (λ came. (texts output : List ℕ)
+    ensures written { IfOk result (λ outcomes. (texts output : List ℕ)
         × AreTexts (IsInputText (wanted_of show.now))
-        (map (λ source. input_of source.name.now (R.remaining source.reader)) sources.old) came.items texts
+        (map (λ source. input_of source.name.now (R.remaining source.reader)) sources.old) outcomes.items texts
         × IsFramed show.now.form texts output
         × Appends (W.contents printer.old.out) (W.contents printer.new.out) output) }
-    ensures read { IfOk result (λ came. AreReadToEnds came.items
+    ensures read { IfOk result (λ outcomes. AreReadToEnds outcomes.items
         (map (λ source. R.remaining source.reader) sources.new)) }
 {
     show.begin(&mut printer.out)?;
-    let came = push_sources(show, sources, printer)?;
+    let outcomes = push_sources(show, sources, printer)?;
     show.end(&mut printer.out)?;
     flush(&mut printer.out)?;
-    Ok(came)
+    Ok(outcomes)
 }
 
 // Writes what is wanted of each input, one after another.
@@ -124,20 +124,20 @@ fn push_sources<R: Read + Drop, W: Write>(
     sources: &mut [Source<'_, R>],
     printer: &mut Printer<W>,
 ) -> Result<Vec<Outcome>, StreamFault>
-    ensures written { IfOk result (λ came. IsWritten (AreTexts (IsInputText (wanted_of show.now))
-        (map (λ source. input_of source.name.now (R.remaining source.reader)) sources.old) came.items)
+    ensures written { IfOk result (λ outcomes. IsWritten (AreTexts (IsInputText (wanted_of show.now))
+        (map (λ source. input_of source.name.now (R.remaining source.reader)) sources.old) outcomes.items)
         (W.contents printer.old.out) (W.contents printer.new.out)) }
-    ensures read { IfOk result (λ came. AreReadToEnds came.items
+    ensures read { IfOk result (λ outcomes. AreReadToEnds outcomes.items
         (map (λ source. R.remaining source.reader) sources.new)) }
 {
-    let mut came = Vec::new(show.alloc);
+    let mut outcomes = Vec::new(show.alloc);
     for source in sources.iter_mut() {
         let outcome = push_source(show, source, printer)?;
-        if came.push(outcome).is_err() {
+        if outcomes.push(outcome).is_err() {
             return Err(StreamFault::Memory);
         }
     }
-    Ok(came)
+    Ok(outcomes)
 }
 
 // Writes what is wanted of an input, where it can be read.
@@ -146,10 +146,10 @@ fn push_source<R: Read + Drop, W: Write>(
     source: &mut Source<'_, R>,
     printer: &mut Printer<W>,
 ) -> Result<Outcome, StreamFault>
-    ensures written { IfOk result (λ came. IsWritten (IsInputText (wanted_of show.now)
-        (input_of source.old.name.now (R.remaining source.old.reader)) came)
+    ensures written { IfOk result (λ outcome. IsWritten (IsInputText (wanted_of show.now)
+        (input_of source.old.name.now (R.remaining source.old.reader)) outcome)
         (W.contents printer.old.out) (W.contents printer.new.out)) }
-    ensures read { IfOk result (λ came. IsReadToEnd came (R.remaining source.new.reader)) }
+    ensures read { IfOk result (λ outcome. IsReadToEnd outcome (R.remaining source.new.reader)) }
 {
     let Some(input) = read_source(show.alloc, &mut source.reader)? else {
         return Ok(Outcome::Unread);
@@ -160,9 +160,9 @@ fn push_source<R: Read + Drop, W: Write>(
 
 // All that the reader has left, or `None` where a read fails. It is read to its end. The only error is `Memory`.
 fn read_source<R: Read>(alloc: Global, r: &mut R) -> Result<Option<Vec<u8>>, StreamFault>
-    ensures bytes { IfOk result (λ found. IfSome found (λ input.
+    ensures bytes { IfOk result (λ read. IfSome read (λ input.
         IfSome (R.remaining r.old) (λ bytes. input.items ≡ bytes))) }
-    ensures read { IfOk result (λ found. IsSome found → IsAtEnd (R.remaining r.new)) }
+    ensures read { IfOk result (λ read. IsSome read → IsAtEnd (R.remaining r.new)) }
     ensures fault { IfErr result (λ e. e ≡ memory_fault) }
 {
     match read_all(alloc, r) {
@@ -172,7 +172,7 @@ fn read_source<R: Read>(alloc: Global, r: &mut R) -> Result<Option<Vec<u8>>, Str
     }
 }
 
-// Writes what is wanted of octets, with their name where names are told.
+// Writes what is wanted of octets, behind their name where names are shown.
 fn push_named<W: Write>(
     show: &Show,
     name: &str,
@@ -203,13 +203,13 @@ fn push_input<W: Write>(
 {
     match show.task {
         Task::Dump => {
-            let found = documents_of(show.alloc, input)?;
-            show.push_all(file, &found, printer)
+            let documents = documents_of(show.alloc, input)?;
+            show.push_all(file, &documents, printer)
         }
         Task::At(offset) => {
             let block = block_of(show.alloc, input, offset)?;
-            let found = alone(show.alloc, block)?;
-            show.push_all(file, &found, printer)
+            let documents = one_document(show.alloc, block)?;
+            show.push_all(file, &documents, printer)
         }
         Task::Extract(offset) => {
             let part = block_of(show.alloc, input, offset)?;
@@ -226,7 +226,7 @@ fn push_input<W: Write>(
     }
 }
 
-// Writes octets as they stand. Where there are none, it is told elsewhere why.
+// Writes octets as they stand. Where there are none, the outcome says why.
 fn push_part<W: Write>(part: Result<Vec<u8>, String>, out: &mut W) -> Result<Outcome, StreamFault>
     ensures { IfOk result (λ outcome. IsWritten (IsPart (octets_in part) outcome)
         (W.contents out.old) (W.contents out.new)) }
@@ -243,11 +243,11 @@ fn push_part<W: Write>(part: Result<Vec<u8>, String>, out: &mut W) -> Result<Out
 /// The exit status after a run: 0 where all that is wanted was written, 1 where some of the input is rejected or has no
 /// such block, 2 where some cannot be read, after a fault of writing and where memory ran out.
 pub fn status(outcome: &Result<Vec<Outcome>, StreamFault>) -> u8
-    ensures greatest { IfOk outcome.now (λ came. result ≡ greatest_status came.items) }
+    ensures greatest { IfOk outcome.now (λ outcomes. result ≡ greatest_status outcomes.items) }
     ensures fault { IsErr outcome.now → result ≡ 2 }
 {
     match outcome {
-        Ok(came) => greatest(came),
+        Ok(outcomes) => greatest(outcomes),
         Err(_) => 2,
     }
 }

@@ -1,4 +1,4 @@
--- What is written for characters, one after another.
+-- What is written for characters, one after another, for `escape::push_escaped` and `escape::push_shown`.
 use Rattle.std.proofs.Common.{◌≡◌, ℕ, List, [], ◌∷◌, ◌++◌, ap, append-nil, append_assoc, sym, ◌∙◌}
 use Rattle.der_io.specs.Escaped.{all_escaped}
 

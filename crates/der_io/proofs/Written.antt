@@ -1,4 +1,4 @@
--- Texts that are written one after another.
+-- Texts that are written one after another, for crates that write an output in parts.
 use Rattle.std.proofs.Common.{ℕ, List, ◌++◌}
 use Rattle.std.specs.Prelude.{Option}
 use Rattle.std.proofs.KnownBytes.{Appends-trans}

@@ -4,7 +4,7 @@
 //! A program reads its input by [`read_all`], takes it apart by [`split_line`] where it comes in lines, and writes its
 //! answer by [`write_all`]; or part by part, by [`write_part`] and at last [`flush`]. What ends a run early is a
 //! [`StreamFault`]: its [`fault_text`] goes to standard error, and [`status`] is the exit status of the program. Words
-//! from an input are shown by [`escaped`]. [`words`] are those of the command line.
+//! from an input are shown by [`escaped`]. [`arguments`] are those of the command line.
 #![tactic(auto)]
 
 ghost use Rattle.std.specs.Prelude.{◌≡◌, ◌⊎◌, ◌<◌, ◌∷◌, ◌++◌, length, IfOk, IfErr, IfSome, OnOk, IsOk, codes};
@@ -14,17 +14,17 @@ ghost use Rattle.der_io.specs.declared.StreamFault.TheVariants.{Read as read_fau
 ghost use Rattle.der_io.specs.declared.StreamFault.TheVariants.{Write as write_fault};
 ghost use Rattle.der_io.specs.declared.StreamFault.TheVariants.{Memory as memory_fault};
 
-mod arguments;
+mod command_line;
 mod escape;
 pub mod failing;
 
-pub use arguments::words;
+pub use command_line::arguments;
 pub use escape::{escaped, is_shown, push_escaped, push_shown};
 use memchr::memchr;
 use std::alloc::{AllocError, Global};
 use std::io::{Read, Write};
 
-/// Why a run did not answer its input.
+/// Why a run ended early.
 #[derive(Debug, Drop, PartialEq)]
 pub enum StreamFault {
     /// A read failed, or the input had no end.
@@ -143,7 +143,7 @@ pub fn fault_status(fault: &StreamFault) -> u8
     }
 }
 
-/// What is said of a fault on standard error.
+/// The message of a fault, for standard error.
 pub fn fault_text(fault: &StreamFault) -> &'static str
     ensures reading { fault.now ≡ read_fault → result.now ≡ codes "read fault" }
     ensures writing { fault.now ≡ write_fault → result.now ≡ codes "write fault" }

@@ -128,7 +128,9 @@ row_block row f o h c i d w m width line is =
       mark = on_one_line row.mark.now;
       line_is = same;
       one_field = IsOneLine-on_one_line row.field.now;
-      one = IsOneLine-append value fault (IsOneLine-on_one_line row.value.now) (IsOneLine-on_one_line (fault_message row));
+      one =
+          IsOneLine-append value fault (IsOneLine-on_one_line row.value.now)
+          (IsOneLine-on_one_line (fault_message row));
       mark_is = m;
     }
 

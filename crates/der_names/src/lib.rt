@@ -26,12 +26,12 @@ mod member_bodies;
 mod organizations;
 mod own;
 
+use der_shapes::Shapes;
 use itu_t::ITU_T;
 use joint::JOINT;
 use member_bodies::MEMBER_BODIES;
 use organizations::ORGANIZATIONS;
 pub use own::{NamesFault, OwnNames};
-use der_shapes::Shapes;
 use std::alloc::{AllocError, Global};
 
 /// The names of object identifiers, by their numbers, and of fields, by their shapes: tables, which are made once.

@@ -94,7 +94,7 @@ fn take_line(alloc: Global, line: &[u8], rows: &mut Vec<OwnName>) -> Result<bool
         return Ok(false);
     };
     if word == "Description".as_bytes() {
-        row.name = escaped(alloc, but_numbers(value))?;
+        row.name = escaped(alloc, without_numbers(value))?;
         Ok(true)
     } else if word == "Comment".as_bytes() {
         row.comment = escaped(alloc, value)?;
@@ -105,7 +105,7 @@ fn take_line(alloc: Global, line: &[u8], rows: &mut Vec<OwnName>) -> Result<bool
 }
 
 // A description without the numbers in parentheses at its end, as older files have them: `commonName (2 5 4 3)`.
-fn but_numbers(value: &[u8]) -> &[u8] {
+fn without_numbers(value: &[u8]) -> &[u8] {
     let Some(place) = value.iter().rposition(|b| *b == b'(') else {
         return value;
     };

@@ -1,4 +1,4 @@
--- What clap says of the command, as it says it of any that is equal to it.
+-- What clap says of the command, and so of any that is equal to it, for `options::matches_for`.
 use Rattle.std.proofs.Common.{◌≡◌, ◌∙◌, sym, ap, refl, true, List}
 use Rattle.clap.specs.Words.{App, Row, Text, fault_of, is_simple, is_simple_and_free, matches_of}
 use Rattle.der_options.specs.Options.{command}

@@ -125,7 +125,7 @@ fn asked_for<'a>(alloc: Global, matches: &ArgMatches<'a>) -> Result<Options<'a>,
 
 // Refuses arguments that do not go together.
 fn refuse_exclusions<'a>(matches: &ArgMatches<'a>) -> Result<(), OptionsFault<'a>>
-    ensures kept { OnOk result (go_together (rows_of (found_of matches.now)) ≡ true) }
+    ensures together { OnOk result (go_together (rows_of (found_of matches.now)) ≡ true) }
     ensures refused { IfErr result (AsksForNothing (rows_of (found_of matches.now))) }
 {
     refuse_tasks(matches)?;
@@ -139,7 +139,7 @@ fn refuse_exclusions<'a>(matches: &ArgMatches<'a>) -> Result<(), OptionsFault<'a
 
 // Refuses two tasks.
 fn refuse_tasks<'a>(matches: &ArgMatches<'a>) -> Result<(), OptionsFault<'a>>
-    ensures kept { OnOk result (go_together_of task_exclusions (rows_of (found_of matches.now)) ≡ true) }
+    ensures together { OnOk result (go_together_of task_exclusions (rows_of (found_of matches.now)) ≡ true) }
     ensures refused { IfErr result (AsksForNothing (rows_of (found_of matches.now))) }
 {
     refuse_both(matches, "at", "extract")?;
@@ -152,7 +152,7 @@ fn refuse_tasks<'a>(matches: &ArgMatches<'a>) -> Result<(), OptionsFault<'a>>
 
 // Refuses JSON with what shows fewer blocks or less of them, or writes octets.
 fn refuse_with_json<'a>(matches: &ArgMatches<'a>) -> Result<(), OptionsFault<'a>>
-    ensures kept { OnOk result (go_together_of json_exclusions (rows_of (found_of matches.now)) ≡ true) }
+    ensures together { OnOk result (go_together_of json_exclusions (rows_of (found_of matches.now)) ≡ true) }
     ensures refused { IfErr result (AsksForNothing (rows_of (found_of matches.now))) }
 {
     refuse_both(matches, "json", "depth")?;
@@ -165,7 +165,7 @@ fn refuse_with_json<'a>(matches: &ArgMatches<'a>) -> Result<(), OptionsFault<'a>
 
 // Refuses a page with JSON or octets.
 fn refuse_with_html<'a>(matches: &ArgMatches<'a>) -> Result<(), OptionsFault<'a>>
-    ensures kept { OnOk result (go_together_of html_exclusions (rows_of (found_of matches.now)) ≡ true) }
+    ensures together { OnOk result (go_together_of html_exclusions (rows_of (found_of matches.now)) ≡ true) }
     ensures refused { IfErr result (AsksForNothing (rows_of (found_of matches.now))) }
 {
     refuse_both(matches, "html", "json")?;
@@ -176,7 +176,7 @@ fn refuse_with_html<'a>(matches: &ArgMatches<'a>) -> Result<(), OptionsFault<'a>
 
 // Refuses accounts with what shows some blocks, and with other forms of output.
 fn refuse_with_text<'a>(matches: &ArgMatches<'a>) -> Result<(), OptionsFault<'a>>
-    ensures kept { OnOk result (go_together_of text_exclusions (rows_of (found_of matches.now)) ≡ true) }
+    ensures together { OnOk result (go_together_of text_exclusions (rows_of (found_of matches.now)) ≡ true) }
     ensures refused { IfErr result (AsksForNothing (rows_of (found_of matches.now))) }
 {
     refuse_both(matches, "text", "json")?;
@@ -192,7 +192,7 @@ fn refuse_with_text<'a>(matches: &ArgMatches<'a>) -> Result<(), OptionsFault<'a>
 
 // Refuses colors of lines with what writes none.
 fn refuse_with_color<'a>(matches: &ArgMatches<'a>) -> Result<(), OptionsFault<'a>>
-    ensures kept { OnOk result (go_together_of color_exclusions (rows_of (found_of matches.now)) ≡ true) }
+    ensures together { OnOk result (go_together_of color_exclusions (rows_of (found_of matches.now)) ≡ true) }
     ensures refused { IfErr result (AsksForNothing (rows_of (found_of matches.now))) }
 {
     refuse_both(matches, "color", "json")?;
@@ -204,7 +204,7 @@ fn refuse_with_color<'a>(matches: &ArgMatches<'a>) -> Result<(), OptionsFault<'a
 
 // Refuses names of object identifiers with octets.
 fn refuse_with_oids<'a>(matches: &ArgMatches<'a>) -> Result<(), OptionsFault<'a>>
-    ensures kept { OnOk result (go_together_of oids_exclusions (rows_of (found_of matches.now)) ≡ true) }
+    ensures together { OnOk result (go_together_of oids_exclusions (rows_of (found_of matches.now)) ≡ true) }
     ensures refused { IfErr result (AsksForNothing (rows_of (found_of matches.now))) }
 {
     refuse_both(matches, "oids", "extract")?;
@@ -214,7 +214,7 @@ fn refuse_with_oids<'a>(matches: &ArgMatches<'a>) -> Result<(), OptionsFault<'a>
 
 // Refuses the type of a document with no names of fields, and with octets.
 fn refuse_with_type<'a>(matches: &ArgMatches<'a>) -> Result<(), OptionsFault<'a>>
-    ensures kept { OnOk result (go_together_of type_exclusions (rows_of (found_of matches.now)) ≡ true) }
+    ensures together { OnOk result (go_together_of type_exclusions (rows_of (found_of matches.now)) ≡ true) }
     ensures refused { IfErr result (AsksForNothing (rows_of (found_of matches.now))) }
 {
     refuse_both(matches, "as", "plain")?;
@@ -230,7 +230,7 @@ fn refuse_both<'a>(
     second: &'static str,
 ) -> Result<(), OptionsFault<'a>>
     requires { are_exclusive first.now second.now ≡ true }
-    ensures kept { OnOk result
+    ensures together { OnOk result
         (are_both_given first.entry.now second.entry.now (rows_of (found_of matches.now)) ≡ false) }
     ensures refused { IfErr result (AsksForNothing (rows_of (found_of matches.now))) }
 {

@@ -23,7 +23,7 @@ use Rattle.der_pieces.specs.declared.leaf.Meaning.{Meaning}
 use Rattle.der_pieces.specs.declared.leaf.Meaning.TheVariants.{NoCharacters, Nothing, Text, Time, Value}
 use Rattle.der_pieces.specs.declared.piece.Piece.{Piece}
 use Rattle.der_pieces.specs.declared.place.Place.{Place}
-use Rattle.der_elements.proofs.Seeking.{header_size}
+use Rattle.der_elements.proofs.Seeking.{size-length_header}
 
 pub starts_next :
     (left : Left) (offset depth : ℕ) (front : Front) (step : Step) (faults : List ℕ) →
@@ -144,7 +144,7 @@ front_encoding left contents s n c k t h l e =
           ∙ (ap (λ z. z ++ take n (drop s left)) h.front_is
           ∙ (append_assoc h.identifier h.len (take n (drop s left))
           ∙ ap (λ z. h.identifier ++ (h.len ++ z)) (sym cut)));
-      size = header_size left s n c k t h;
+      size = size-length_header left s n c k t h;
     }
 
 -- what is wrong with an encoding that is gone into

@@ -10,8 +10,8 @@ use Rattle.der_elements.specs.declared.cursor.End.{End}
 use Rattle.der_elements.specs.declared.cursor.Left.{Left}
 use Rattle.der_elements.specs.declared.cursor.Step.{Step}
 use Rattle.der_elements.specs.declared.cursor.Step.TheVariants.{Into, Out, Past}
-use Rattle.der_elements.proofs.Seeking.{header_some}
-use Rattle.der_elements.proofs.Cursors.{around_is, taken_some}
+use Rattle.der_elements.proofs.Seeking.{BeginsWithHeader-some}
+use Rattle.der_elements.proofs.Cursors.{drop-ends_of, taken-some}
 use Rattle.std.proofs.lemmas.List.{take-append-drop}
 
 pub ahead_is :
@@ -54,12 +54,12 @@ step_goes m n left f (Out size) own later more at (within, is, inl (two, begins,
     subst (λ z. IsAhead m (f ∷ later) (z ++ more)) (sym none)
     (ended_by_octets at.end at.around later at.ends_are (sym at.form ∙ within)
     (subst (λ z. begins_with_end z ≡ true) at.octets_are begins)
-    (ahead_is n m.octets.now (m.offset + 2) at.around later more o x (ends ∙ around_is m left at) ahead)
+    (ahead_is n m.octets.now (m.offset + 2) at.around later more o x (ends ∙ drop-ends_of m left at) ahead)
     (ap (λ z. z ∷ later) (is ∙ ap (λ z. end_of_contents m.offset z (length at.around)) two)))
 step_goes m n left f (Out size) own later more at (within, is, inr (zero, none, faults)) (o, g, ends) ahead =
     let x : n.offset ≡ m.offset = omega (arith, g, zero) in
     end_missing at.end at.around later more at.ends_are (sym at.form ∙ within) (sym at.octets_are ∙ none)
-    (ahead_is n m.octets.now m.offset at.around later more o x (ends ∙ around_is m left at) ahead)
+    (ahead_is n m.octets.now m.offset at.around later more o x (ends ∙ drop-ends_of m left at) ahead)
     (ap (λ z. z ∷ later) (is ∙ ap (λ z. end_of_contents m.offset z (length at.around)) zero))
     (ap (λ z. z ++ more) faults)
 
@@ -90,7 +90,7 @@ first_some :
     (left : List ℕ) (offset depth : ℕ) (f : Front) (opened : Bool) (own : List ℕ) →
     IsFirst left offset depth f opened own → 0 < f.header
 first_some left offset depth f opened own h =
-    header_some left f.header f.contents h.class h.constructed h.tag h.header
+    BeginsWithHeader-some left f.header f.contents h.class h.constructed h.tag h.header
 
 pub next_takes :
     (offset depth : ℕ) (left : Left) (f : Front) (step : Step) (own : List ℕ) →
@@ -100,7 +100,7 @@ next_takes offset depth left f (Into header size indefinite) own (e, some, (p, q
 next_takes offset depth left f (Past size) own (e, some, inl (q, first)) =
     let h = first_some left.octets.now offset depth f false own first in
     let t : 0 < size_in left.octets.now f =
-    taken_some f.indefinite (f.header + f.contents) (length left.octets.now) (omega (arith, h)) some in
+    taken-some f.indefinite (f.header + f.contents) (length left.octets.now) (omega (arith, h)) some in
     (omega (arith, q, t), some)
 next_takes offset depth left f (Past size) own (e, some, inr (q, none, is, faults)) = (omega (arith, q, some), some)
 next_takes offset depth left f (Out size) own is = tt

@@ -1,4 +1,4 @@
--- Texts without control characters, for `laws::law_one_line` and for those who put parts of lines together.
+-- Texts without control characters, for `laws::law_one_line` and for crates that put parts of lines together.
 use Rattle.std.proofs.Common.{◌≡◌, ◌==◌, ◌-◌, ◌/◌, ◌%◌, length, min, ℕ, zero, suc, Bool, true, false, List, [], ◌∷◌, ◌++◌, if◌then◌else◌, replicate, arith, refl, ap, ◌∙◌}
 use Rattle.std.specs.Prelude.{◌&&◌, ◌*◌, codes, decimal}
 use Rattle.std.specs.List.{list_all}
@@ -22,7 +22,8 @@ is_shown-or_space b false is = refl
 pub IsOneLine-on_one_line : (text : List ℕ) → IsOneLine (on_one_line text)
 IsOneLine-on_one_line [] = refl
 IsOneLine-on_one_line (b ∷ text) =
-    ap (λ z. z && list_all is_shown (on_one_line text)) (is_shown-or_space b (is_shown b) refl) ∙ IsOneLine-on_one_line text
+    ap (λ z. z && list_all is_shown (on_one_line text)) (is_shown-or_space b (is_shown b) refl)
+    ∙ IsOneLine-on_one_line text
 
 -- spaces
 IsOneLine-spaces : (n : ℕ) → IsOneLine (replicate n 32)
@@ -72,8 +73,10 @@ IsOneLine-columns_text row =
     IsOneLine-append contents levels (IsOneLine-contents_column row.is_indefinite row.contents)
     (IsOneLine-spaces (2 * min row.depth 40)) in
     let one_sizes : IsOneLine (32 ∷ (right_of 2 row.header ++ (32 ∷ (contents ++ levels)))) =
-    IsOneLine-append (right_of 2 row.header) (32 ∷ (contents ++ levels)) (IsOneLine-right_of 2 row.header) one_contents in
-    IsOneLine-append (offset_column row.is_inside row.offset) (32 ∷ (right_of 2 row.header ++ (32 ∷ (contents ++ levels))))
+    IsOneLine-append (right_of 2 row.header) (32 ∷ (contents ++ levels))
+    (IsOneLine-right_of 2 row.header) one_contents in
+    IsOneLine-append (offset_column row.is_inside row.offset)
+    (32 ∷ (right_of 2 row.header ++ (32 ∷ (contents ++ levels))))
     (IsOneLine-offset_column row.is_inside row.offset) one_sizes
 
 pub IsOneLine-row_line : (row : Row) → IsOneLine (row_line row)
@@ -83,7 +86,8 @@ IsOneLine-row_line row =
     let value = on_one_line row.value.now in
     let type_name = on_one_line row.type_name.now in
     let field = on_one_line row.field.now in
-    IsOneLine-append (columns_text row) (field ++ (type_name ++ (value ++ (fault ++ mark)))) (IsOneLine-columns_text row)
+    IsOneLine-append (columns_text row) (field ++ (type_name ++ (value ++ (fault ++ mark))))
+    (IsOneLine-columns_text row)
     (IsOneLine-append field (type_name ++ (value ++ (fault ++ mark))) (IsOneLine-on_one_line row.field.now)
     (IsOneLine-append type_name (value ++ (fault ++ mark)) (IsOneLine-on_one_line row.type_name.now)
     (IsOneLine-append value (fault ++ mark) (IsOneLine-on_one_line row.value.now)

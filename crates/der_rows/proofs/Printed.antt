@@ -1,9 +1,9 @@
--- What is pushed in a look, one after another, for the functions that print rows.
+-- What is pushed in a look, one after another, for `printer` and for crates that print rows.
 use Rattle.std.proofs.Common.{◌≡◌, ℕ, Bool, List, [], ◌∷◌, ◌++◌, ap, append-nil, append_assoc, refl, subst, sym, ◌∙◌}
-use Rattle.der_color.proofs.Painted.{Paints-nil, Paints-append}
+use Rattle.der_color.proofs.Painted.{Paints-append, Paints-nil}
 use Rattle.std.proofs.KnownBytes.{Appends-nil, Appends-trans}
 use Rattle.std.specs.Prelude.{Option}
-use Rattle.der_html.proofs.Shown.{Shows-nil_append, Shows-equal, Shows-behind, Shows-nil, Shows-append}
+use Rattle.der_html.proofs.Shown.{Shows-append, Shows-behind, Shows-equal, Shows-nil, Shows-nil_append}
 use Rattle.der_html.specs.Page.{Shows}
 use Rattle.der_io.specs.Output.{IsWritten}
 use Rattle.der_rows.specs.Printing.{IsPrinted, Prints, PrintsOctets, Pushes}
@@ -125,7 +125,8 @@ module _ {W : Type 0} (contents : W → Option (List ℕ)) where
       PrintsOctets contents [] a b → IsPrinted contents Is b c → PrintsOctets contents octets c d →
       IsWritten (λ text. (lines : List ℕ) × (faults : List Bool) × Is lines × Shows faults lines octets [] text)
       (contents a.out) (contents d.out)
-  IsWritten-section Is octets a b c d page (begun, (first, one, put)) (faults, (lines, (later, (own, made, written)), is))
+  IsWritten-section Is octets a b c d page (begun, (first, one, put))
+      (faults, (lines, (later, (own, made, written)), is))
       (last, (beside, shown, ended)) =
       let rows : Shows faults lines [] [] own = subst (λ z. Pushes z faults lines [] own) (begun ∙ page) made in
       let more = Shows-append faults [] lines [] [] octets [] own (own ++ beside) rows

@@ -15,13 +15,13 @@ mod tests;
 use crate::run::{RunFault, fault_text, run, status};
 use clap::Command;
 use clap::error::ErrorKind;
-use der_io::{StreamFault, escaped, fault_status, words};
+use der_io::{StreamFault, arguments, escaped, fault_status};
 use std::alloc::{AllocError, Global};
 use std::io;
 use std::process::ExitCode;
 
-// The exit status of words that are not understood.
-const WRONG_WORDS: u8 = 2;
+// The exit status after arguments that are not understood.
+const WRONG_ARGUMENTS: u8 = 2;
 
 // What `--version` prints after the name.
 const VERSION: &str = "1.0.0";
@@ -31,24 +31,24 @@ const ABOUT: &str =
     It is read from standard input, as DER, PEM, hex digits or base64.";
 
 fn main(rt: HostRuntime) -> ExitCode {
-    let words = match words(&rt) {
-        Ok(words) => words,
+    let arguments = match arguments(&rt) {
+        Ok(arguments) => arguments,
         Err(e) => {
-            let _ = eprintln!(rt; "{}", words_fault(&e));
-            return ExitCode::from(WRONG_WORDS);
+            let _ = eprintln!(rt; "{}", arguments_fault(&e));
+            return ExitCode::from(WRONG_ARGUMENTS);
         }
     };
     let command = Command::new(rt.alloc(), "der_signed")
         .version(VERSION)
         .about(ABOUT);
-    match command.try_get_matches_from(&words) {
-        Ok(_) => ExitCode::from(obey(&rt)),
-        Err(answer) => ExitCode::from(tell(&rt, &answer)),
+    match command.try_get_matches_from(&arguments) {
+        Ok(_) => ExitCode::from(write_content(&rt)),
+        Err(answer) => ExitCode::from(print_answer(&rt, &answer)),
     }
 }
 
-// Why the arguments are no words.
-fn words_fault(e: &io::Error) -> &'static str {
+// Why there are no arguments in UTF-8.
+fn arguments_fault(e: &io::Error) -> &'static str {
     match e.kind() {
         io::ErrorKind::OutOfMemory => memory_text(),
         _ => "error: arguments are not UTF-8",
@@ -59,15 +59,15 @@ fn memory_text() -> &'static str {
     fault_text(&RunFault::Stream(StreamFault::Memory))
 }
 
-// Help and the version go to standard output, and what is wrong with the words, on one line, to standard error.
-fn tell(rt: &HostRuntime, answer: &clap::Error) -> u8 {
+// Prints help and the version to standard output, and what is wrong with the arguments, on one line, to standard error.
+fn print_answer(rt: &HostRuntime, answer: &clap::Error) -> u8 {
     if matches!(answer.kind(), ErrorKind::OutOfMemory) {
         let _ = eprintln!(rt; "{}", memory_text());
-        return WRONG_WORDS;
+        return WRONG_ARGUMENTS;
     }
     let Ok(text) = format!(in rt.alloc(); "{answer}") else {
         let _ = eprintln!(rt; "{}", memory_text());
-        return WRONG_WORDS;
+        return WRONG_ARGUMENTS;
     };
     if matches!(
         answer.kind(),
@@ -83,28 +83,28 @@ fn tell(rt: &HostRuntime, answer: &clap::Error) -> u8 {
         Ok(shown) => eprintln!(rt; "{shown}"),
         Err(_) => eprintln!(rt; "{}", memory_text()),
     };
-    WRONG_WORDS
+    WRONG_ARGUMENTS
 }
 
-// Answers standard input.
-fn obey(rt: &HostRuntime) -> u8 {
+// Writes what was signed of the document on standard input.
+fn write_content(rt: &HostRuntime) -> u8 {
     let outcome = run(rt.alloc(), &mut rt.stdin(), &mut rt.stdout());
     if let Err(fault) = &outcome {
-        let _ = match fault_words(rt.alloc(), fault) {
-            Ok(words) => eprintln!(rt; "{words}"),
+        let _ = match fault_message(rt.alloc(), fault) {
+            Ok(message) => eprintln!(rt; "{message}"),
             Err(_) => eprintln!(rt; "{}", fault_text(fault)),
         };
     }
     status(&outcome)
 }
 
-// What is said of a fault, with what is no printed character escaped.
-fn fault_words(alloc: Global, fault: &RunFault) -> Result<String, AllocError> {
+// The message of a fault, with what is no printed character escaped.
+fn fault_message(alloc: Global, fault: &RunFault) -> Result<String, AllocError> {
     let text = fault_text(fault);
-    let words = match fault {
+    let message = match fault {
         RunFault::NoDocument(why) => format!(in alloc; "{text}: {why}")?,
         RunFault::Refused(why) => format!(in alloc; "{text}: {why}")?,
         _ => String::from_str(alloc, text)?,
     };
-    escaped(alloc, words.as_bytes())
+    escaped(alloc, message.as_bytes())
 }

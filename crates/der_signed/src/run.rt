@@ -126,7 +126,7 @@ pub fn status(outcome: &Result<(), RunFault>) -> u8
     }
 }
 
-/// What is said of a fault on standard error, before what is wrong with the document.
+/// The beginning of the message of a fault, before what is wrong with the document.
 pub fn fault_text(fault: &RunFault) -> &'static str
     ensures reading { fault.now ≡ Stream read_fault → result.now ≡ codes "read fault" }
     ensures writing { fault.now ≡ Stream write_fault → result.now ≡ codes "write fault" }

@@ -11,7 +11,7 @@ const TRIPLE: &[u8] = &[
 ];
 
 #[test]
-fn a_fault_of_a_stream_is_told(rt: HostRuntime) -> Result<(), Fail> {
+fn a_fault_of_a_stream_is_returned(rt: HostRuntime) -> Result<(), Fail> {
     for reads in 0..TRIPLE.len() + 1 {
         let mut reader = FailingReader {
             octets: TRIPLE,

@@ -1,4 +1,4 @@
--- Each input has one output that answers it.
+-- Each input has one output that answers it, for `laws::law_one_output`.
 use Rattle.std.proofs.Common.{◌≡◌, ◌==◌, ◌<◌, ◌≤◌, ◌^◌, ◌++◌, ◌⊎◌, ℕ, zero, suc, List, [], ◌∷◌, length, Result, Ok, Err, inl, inr, refl, sym, ap, ◌∙◌, arith}
 use Rattle.std.specs.Prelude.{MatchResult, codes}
 use Rattle.std.proofs.lemmas.Bool.{cond_both}
@@ -23,7 +23,8 @@ AreWithin-suc : (lines : List (List ℕ)) (n : ℕ) → AreWithin n lines → Ar
 AreWithin-suc [] n all = tt
 AreWithin-suc (line ∷ lines) n all = (omega (arith, all.0), AreWithin-suc lines n all.1)
 
-AreWithin-onto_first_line : (b : ℕ) (lines : List (List ℕ)) (n : ℕ) → AreWithin n lines → AreWithin (suc n) (onto_first_line b lines)
+AreWithin-onto_first_line :
+    (b : ℕ) (lines : List (List ℕ)) (n : ℕ) → AreWithin n lines → AreWithin (suc n) (onto_first_line b lines)
 AreWithin-onto_first_line b [] n all = (omega arith, tt)
 AreWithin-onto_first_line b (line ∷ lines) n all = (omega (arith, all.0), AreWithin-suc lines n all.1)
 
@@ -95,7 +96,8 @@ IsAnswer-unique reading law line a b n within small u v = go (decode_of line) re
     go : (r : Result (List ℕ) FromHexError) → decode_of line ≡ r →
         MatchResult r (λ octets. IsVerdict reading octets a) (λ _. a ≡ codes "badhex")
         → MatchResult r (λ octets. IsVerdict reading octets b) (λ _. b ≡ codes "badhex") → a ≡ b
-    go (Ok octets) is u v = IsVerdict-unique reading law octets a b (length-decoded_lt line octets n within small is) u v
+    go (Ok octets) is u v =
+        IsVerdict-unique reading law octets a b (length-decoded_lt line octets n within small is) u v
     go (Err e) is u v = u ∙ sym v
 
 IsAnswer-some : (reading : Reading) → Settled reading → (line : List ℕ) (n : ℕ) → length line ≤ n → n < 2 ^ 64

@@ -21,7 +21,7 @@ number_after (invalid_bit_string_length n) = codes " " ++ signed_decimal n
 number_after (not_canonical n) = codes " " ++ decimal n
 number_after fault = []
 
--- what is said of a fault
+-- the answer to octets with a fault: its name, and its number if it has one
 abbrev pub refusal : DecodeFault → List ℕ
 refusal fault = codes "refused " ++ (fault_name fault ++ number_after fault)
 
@@ -37,14 +37,14 @@ abbrev pub IsRefused : Reading → List ℕ → DecodeFault → Type 0
 IsRefused Lenient octets fault = FirstFault octets fault
 IsRefused Strict octets fault = StrictFault octets fault
 
--- what is said of octets: the canonical octets of those that are accepted, and else the fault
+-- the answer to octets: the canonical octets of those that are accepted, and else the fault
 abbrev pub IsVerdict : Reading → List ℕ → List ℕ → Type 0
 IsVerdict reading octets answer =
     ((canonical : List ℕ) × IsAccepted reading octets canonical
     × (answer ≡ codes "ok " ++ encode_upper canonical))
     ⊎ ((fault : DecodeFault) × IsRefused reading octets fault × (answer ≡ refusal fault))
 
--- what is said of a line
+-- the answer to a line: that to its octets, or that it is no hex digits
 abbrev pub IsAnswer : Reading → List ℕ → List ℕ → Type 0
 IsAnswer reading line answer =
     MatchResult (decode_of line)

@@ -50,7 +50,7 @@ fn append_answer(
     }
 }
 
-// Appends what is said of octets: their canonical ones, or why they are refused.
+// Appends the verdict on octets: their canonical ones, or why they are refused.
 fn append_verdict(
     alloc: Global,
     reading: Reading,
@@ -71,7 +71,7 @@ fn append_verdict(
     }
 }
 
-// Appends what is said of a fault.
+// Appends the name of a fault, and its number if it has one.
 fn append_refusal(
     alloc: Global,
     fault: &ASN1DecodeErr,
@@ -114,7 +114,7 @@ fn strict_octets(alloc: Global, octets: &[u8]) -> Result<Vec<u8>, ASN1DecodeErr>
     Ok(octets.to_vec(alloc)?)
 }
 
-// A space and the number of a fault, if it is one of the four whose number is told.
+// A space and the number of a fault, if it is one of the four with a number.
 fn number_text(alloc: Global, fault: &ASN1DecodeErr) -> Result<String, AllocError>
     ensures { IfOk result (λ text. string_bytes text ≡ number_after (fault_of fault.now)) }
 {

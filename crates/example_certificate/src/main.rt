@@ -8,7 +8,7 @@ use crate::names::name_of;
 use clap::error::ErrorKind;
 use clap::{Command, Error as Answer};
 use der_forms::{FormFault, document_of};
-use der_io::{escaped, words};
+use der_io::{arguments, escaped};
 use jiff::civil::DateTime;
 use simple_asn1::{ASN1Block, ASN1Class, ASN1DecodeErr, BigInt, Document, OID, encoding_at};
 use std::alloc::{AllocError, Global};
@@ -140,13 +140,13 @@ fn print<R: Read, W: Write>(
     write_certificate(alloc, out, &certificate)
 }
 
-// What help, the version or a mistake in the words give: there are no arguments but those.
+// What help, the version or a mistake in the arguments give: there are no others.
 fn answer_to(rt: &HostRuntime) -> Result<Option<Answer>, io::Error> {
-    let words = words(rt)?;
+    let arguments = arguments(rt)?;
     let command = Command::new(rt.alloc(), "example_certificate")
         .version("1.0.0")
         .about("Prints what the certificate on standard input says.");
-    Ok(command.try_get_matches_from(&words).err())
+    Ok(command.try_get_matches_from(&arguments).err())
 }
 
 fn tell(rt: &HostRuntime, answer: &Answer) -> io::Result<ExitCode> {

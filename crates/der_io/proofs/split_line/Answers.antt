@@ -33,7 +33,8 @@ take-drop_suc n xs =
     take_all (length xs - (n + 1)) (drop (n + 1) xs) (omega (arith, length-drop (n + 1) xs)) ∙ ap (λ m. drop m xs) e
 
 -- where a byte is not found, it does not stand
-slice_index-no_line_feed : (input : List ℕ) (n : ℕ) → Nowhere (Passes (is_byte 10) input) 0 n → (i : ℕ) → i < n → slice_index input i ≢ 10
+slice_index-no_line_feed :
+    (input : List ℕ) (n : ℕ) → Nowhere (Passes (is_byte 10) input) 0 n → (i : ℕ) → i < n → slice_index input i ≢ 10
 slice_index-no_line_feed input n nowhere i lt e = nowhere i (omega arith) lt (eq-eqb (slice_index input i) 10 e)
 
 pub returns-in-Some-clause-first : goal.returns-in-Some-clause-first
@@ -41,9 +42,11 @@ returns-in-Some-clause-first c =
     let input = c.args.input.now in
     let n = c.in-Some.end in
     let found = c.in-Some.ensures in
-    lines_of-ended input n found.0.high (slice_index-no_line_feed input n found.0.before) (eqb-true (slice_index input n) 10 found.1)
+    lines_of-ended input n found.0.high (slice_index-no_line_feed input n found.0.before)
+    (eqb-true (slice_index input n) 10 found.1)
     ∙ ap (λ rest. take n input ∷ lines_of rest) (sym (take-drop_suc n input))
 
 pub returns-in-None-clause-first : goal.returns-in-None-clause-first
 returns-in-None-clause-first c =
-    lines_of-unended c.args.input.now c.requires (slice_index-no_line_feed c.args.input.now (length c.args.input.now) c.in-None.ensures)
+    lines_of-unended c.args.input.now c.requires (slice_index-no_line_feed c.args.input.now
+    (length c.args.input.now) c.in-None.ensures)

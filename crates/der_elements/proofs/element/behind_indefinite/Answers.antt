@@ -2,18 +2,18 @@
 use Rattle.std.proofs.Common.{subst, sym}
 use Rattle.asn1_headers.specs.Front.{HasNoHeader, IsAtFront}
 use Rattle.der_elements.specs.Elements.{StandsBehindIndefinite}
-use Rattle.der_elements.proofs.Elements.{behind_form, is_not, is_so, no_form}
+use Rattle.der_elements.proofs.Elements.{HasIndefiniteForm-no_header, StandsBehindIndefinite-header, false-not_true, true-not_false}
 use Rattle.der_elements.proofs.element.behind_indefinite.Goals as goal
 
 pub returns-in_default : goal.returns-in_default
 returns-in_default c =
     let none : HasNoHeader c.args.octets.now = rw c.in_default.is at c.in_ok-header.ensures.found in
-    no_form c.args.octets.now none
+    HasIndefiniteForm-no_header c.args.octets.now none
 
 pub returns-then-not-header : goal.returns-then-not-header
 returns-then-not-header c = λ form.
     let indefinite = rw c.in-Some.is at c.in_ok-header.ensures.form in
-    is_not c.in-Some.header.is_indefinite c.if-not-header.true (indefinite.1 form)
+    false-not_true c.in-Some.header.is_indefinite c.if-not-header.true (indefinite.1 form)
 
 pub returns : goal.returns
 returns c =
@@ -22,5 +22,5 @@ returns c =
     let front : IsAtFront octets header = rw c.in-Some.is at c.in_ok-header.ensures.found in
     let indefinite = rw c.in-Some.is at c.in_ok-header.ensures.form in
     subst (StandsBehindIndefinite octets) (sym c.split_at.ensures.back)
-    (behind_form octets header.size header.announced header.class header.constructed header.tag front
-    (indefinite.0 (is_so header.is_indefinite c.if-not-header.false)))
+    (StandsBehindIndefinite-header octets header.size header.announced header.class header.constructed header.tag front
+    (indefinite.0 (true-not_false header.is_indefinite c.if-not-header.false)))

@@ -3,21 +3,21 @@ use Rattle.std.proofs.Common.{ap, subst, sym, take, ◌∙◌}
 use Rattle.asn1_headers.specs.Front.{HasIndefiniteForm}
 use Rattle.der_elements.specs.Elements.{ElementAt, StandsBehindIndefinite}
 use Rattle.der_elements.specs.SeekSteps.{Closes}
-use Rattle.der_elements.proofs.Elements.{element_there, encoding_or_none, no_element_there}
+use Rattle.der_elements.proofs.Elements.{ElementAt-indefinite, HasNoElement-not_closed, MatchOption-element}
 use Rattle.der_elements.proofs.element.element_at.Goals as goal
 
 pub returns-in_default : goal.returns-in_default
 returns-in_default c =
     let octets = c.args.octets.now in
     let definite : HasIndefiniteForm octets → ⊥ = rw c.in_default.is at c.in_ok-behind.ensures in
-    encoding_or_none octets c.encoding_at.result definite c.encoding_at.ensures.found c.encoding_at.ensures.none
+    MatchOption-element octets c.encoding_at.result definite c.encoding_at.ensures.found c.encoding_at.ensures.none
 
 pub returns-in_default-2 : goal.returns-in_default-2
 returns-in_default-2 c =
     let octets = c.args.octets.now in
     let behind = c.in-Some.behind.now in
     let at : StandsBehindIndefinite octets behind = rw c.in-Some.is at c.in_ok-behind.ensures in
-    no_element_there octets behind at (rw c.in_default-2.is at c.in_ok-after.ensures)
+    HasNoElement-not_closed octets behind at (rw c.in_default-2.is at c.in_ok-after.ensures)
 
 pub returns : goal.returns
 returns c =
@@ -27,4 +27,4 @@ returns c =
     let at : StandsBehindIndefinite octets behind = rw c.in-Some.is at c.in_ok-behind.ensures in
     let ends : Closes 1 behind after = rw c.in-Some-2.is at c.in_ok-after.ensures in
     let front = c.split_at.ensures.front ∙ ap (λ k. take k octets) c.saturating_sub.ensures in
-    subst (ElementAt octets) (sym front) (element_there octets behind at after ends)
+    subst (ElementAt octets) (sym front) (ElementAt-indefinite octets behind at after ends)

@@ -2,20 +2,21 @@
 use Rattle.std.proofs.Common.{◌≡◌, true, false, length, drop, sym, ◌∙◌, arith}
 use Rattle.asn1_headers.specs.Front.{HasNoHeader, IsAtFront}
 use Rattle.der_elements.specs.Headers.{is_stray_form}
-use Rattle.der_elements.proofs.Seeking.{header_alone, no_header_begins, stray_same}
+use Rattle.der_elements.proofs.Seeking.{BeginsWithHeader-unique, HasNoHeader-begins, is_stray_form-unique}
 use Rattle.der_elements.proofs.header.whole_header.Goals as goal
 
 pub returns-in_default-clause-none : goal.returns-in_default-clause-none
 returns-in_default-clause-none c size announced class constructed tag begins whole form =
     let none : HasNoHeader c.args.octets.now = rw c.in_default.is at c.in_ok-header.ensures.found in
-    no_header_begins c.args.octets.now size announced class constructed tag none begins
+    HasNoHeader-begins c.args.octets.now size announced class constructed tag none begins
 
 pub returns-then-header-octets-clause-none : goal.returns-then-header-octets-clause-none
 returns-then-header-octets-clause-none c size announced class constructed tag begins whole form =
     let octets = c.args.octets.now in
     let header = c.in-Some.header in
     let front : IsAtFront octets header = rw c.in-Some.is at c.in_ok-header.ensures.found in
-    let same = header_alone octets header.size header.announced header.class header.constructed header.tag size
+    let same = BeginsWithHeader-unique octets header.size header.announced header.class header.constructed header.tag
+    size
     announced
     class constructed tag front begins in
     absurd (omega (arith, same.size, same.announced, whole, c.if-header-octets.true))
@@ -27,7 +28,8 @@ returns-then-has_stray_form-clause-none c size announced class constructed tag b
     let front : IsAtFront octets header = rw c.in-Some.is at c.in_ok-header.ensures.found in
     let stray : is_stray_form header.constructed (drop (length front.identifier) octets) ≡ true =
     sym (c.has_stray_form.ensures front) ∙ c.if-has_stray_form.true in
-    let same = stray_same octets size announced class constructed tag header.size header.announced header.class
+    let same = is_stray_form-unique octets size announced class constructed tag header.size header.announced
+    header.class
     header.constructed header.tag begins front in
     let never : true ≡ false = sym (same ∙ stray) ∙ form in
     absurd (cc never)

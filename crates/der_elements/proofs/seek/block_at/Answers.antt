@@ -1,7 +1,7 @@
 -- For `seek::block_at`: its loop keeps its invariant and what it returns is right (`none`, `why`, `found`).
 use Rattle.std.proofs.Common.{◌≡◌, arith}
 use Rattle.der_elements.specs.SeekSteps.{LeadsNowhere, LeadsOn}
-use Rattle.der_elements.proofs.Seeking.{found_at, if_ok, none_at, reaches_nowhere, reaches_there, why_at}
+use Rattle.der_elements.proofs.Seeking.{IfErr-lacks_block, IfErr-no_block, IfOk-begins_at, IfOk-every, Reaches-leads, Reaches-nowhere}
 use Rattle.der_elements.proofs.seek.block_at.Goals as goal
 
 pub loop-target-preserved : goal.loop-target-preserved
@@ -10,7 +10,7 @@ loop-target-preserved c around others =
     let nearer = c.in-Some.nearer in
     let leads : LeadsOn target nearer = rw c.in-Some.is at c.in_ok-nearer.ensures.found in
     let next =
-    reaches_there target.depth target.octets.now target.distance nearer.depth nearer.octets.now nearer.distance
+    Reaches-leads target.depth target.octets.now target.distance nearer.depth nearer.octets.now nearer.distance
     c.loop-target-test.true leads around others in
     let same = c.loop-target.invariant around others in
     (λ h. next.0 (same.0 h), λ h. same.1 (next.1 h))
@@ -19,22 +19,22 @@ pub returns-in_default-clause-none : goal.returns-in_default-clause-none
 returns-in_default-clause-none c block h =
     let target = c.loop-target.target in
     let none : LeadsNowhere target = rw c.in_default.is at c.in_ok-nearer.ensures.found in
-    reaches_nowhere target.depth target.octets.now target.distance c.loop-target-test.true none h.around h.others
+    Reaches-nowhere target.depth target.octets.now target.distance c.loop-target-test.true none h.around h.others
     ((c.loop-target.invariant h.around h.others).0 h.reached)
 
 pub returns-in_default-clause-why : goal.returns-in_default-clause-why
 returns-in_default-clause-why c around others h =
     let target = c.loop-target.target in
     let none : LeadsNowhere target = rw c.in_default.is at c.in_ok-nearer.ensures.found in
-    absurd (reaches_nowhere target.depth target.octets.now target.distance c.loop-target-test.true none around others
+    absurd (Reaches-nowhere target.depth target.octets.now target.distance c.loop-target-test.true none around others
     ((c.loop-target.invariant around others).0 h))
 
 pub returns-clause-found : goal.returns-clause-found
 returns-clause-found c =
     let target = c.loop-target.target in
     let here : target.distance ≡ 0 = omega (arith, c.loop-target-test.false) in
-    if_ok c.block_here.result
-    (found_at c.args.octets.now target.octets.now c.args.offset target.depth target.distance here
+    IfOk-every c.block_here.result
+    (IfOk-begins_at c.args.octets.now target.octets.now c.args.offset target.depth target.distance here
     c.loop-target.invariant)
     c.block_here.ensures
 
@@ -42,8 +42,8 @@ pub returns-clause-none : goal.returns-clause-none
 returns-clause-none c =
     let target = c.loop-target.target in
     let here : target.distance ≡ 0 = omega (arith, c.loop-target-test.false) in
-    if_ok c.block_here.result
-    (none_at c.args.octets.now target.octets.now c.args.offset target.depth target.distance here
+    IfOk-every c.block_here.result
+    (IfErr-no_block c.args.octets.now target.octets.now c.args.offset target.depth target.distance here
     c.loop-target.invariant)
     c.block_here.ensures
 
@@ -51,6 +51,7 @@ pub returns-clause-why : goal.returns-clause-why
 returns-clause-why c =
     let target = c.loop-target.target in
     let here : target.distance ≡ 0 = omega (arith, c.loop-target-test.false) in
-    if_ok c.block_here.result
-    (why_at c.args.octets.now target.octets.now c.args.offset target.depth target.distance here c.loop-target.invariant)
+    IfOk-every c.block_here.result
+    (IfErr-lacks_block c.args.octets.now target.octets.now c.args.offset target.depth target.distance here
+    c.loop-target.invariant)
     c.block_here.ensures

@@ -1,7 +1,7 @@
 -- For `seek::by_length`: what it returns is right (`found`).
 use Rattle.std.proofs.Common.{◌≡◌, ◌+◌, ◌-◌, ◌<◌, ℕ, List, drop, refl, subst, sym, take, arith}
 use Rattle.der_elements.specs.Seek.{Holds, behind_element, inside_element}
-use Rattle.der_elements.proofs.Seeking.{contents_of, holds_alone, in_contents, rest_of}
+use Rattle.der_elements.proofs.Seeking.{Holds-unique, LeadsTo-in_contents, drop-contents, take-contents}
 use Rattle.der_elements.proofs.seek.by_length.Goals as goal
 
 pub returns-then-place-header-clause-found : goal.returns-then-place-header-clause-found
@@ -9,7 +9,7 @@ returns-then-place-header-clause-found c =
     let target = c.args.target in
     let header = c.args.header.now in
     let after =
-    rest_of target.octets.now c.split_at.result.1.now c.split_at-2.result.1.now header.size header.announced
+    drop-contents target.octets.now c.split_at.result.1.now c.split_at-2.result.1.now header.size header.announced
     c.min.result
     c.split_at.ensures.back c.min.ensures c.split_at-2.ensures.back in
     let later : target.distance
@@ -23,14 +23,14 @@ returns-in_default-clause-found c =
     let target = c.args.target in
     let header = c.args.header.now in
     let contents =
-    contents_of target.octets.now c.split_at.result.1.now c.split_at-2.result.0.now header.size header.announced
+    take-contents target.octets.now c.split_at.result.1.now c.split_at-2.result.0.now header.size header.announced
     c.min.result
     c.split_at.ensures.back c.min.ensures c.split_at-2.ensures.front in
     let few : target.distance < header.size + header.announced = omega (arith, c.requires.behind) in
     let none : (b : ℕ) (ys : List ℕ) → Holds header.class header.constructed header.tag c.split_at-2.result.0.now b ys →
     ⊥ =
     rw c.in_default.is at c.octets_inside.ensures in
-    in_contents target.depth target.octets.now target.distance c.requires.element header.size header.announced
+    LeadsTo-in_contents target.depth target.octets.now target.distance c.requires.element header.size header.announced
     header.class
     header.constructed header.tag c.requires.front few c.requires.form
     (λ before inside held. absurd (none before inside
@@ -43,17 +43,17 @@ returns-then-place-before-clause-found c =
     let found = c.in-Some in
     let Inside = λ (z : List ℕ). Holds header.class header.constructed header.tag z found.before found.octets.now in
     let contents =
-    contents_of target.octets.now c.split_at.result.1.now c.split_at-2.result.0.now header.size header.announced
+    take-contents target.octets.now c.split_at.result.1.now c.split_at-2.result.0.now header.size header.announced
     c.min.result
     c.split_at.ensures.back c.min.ensures c.split_at-2.ensures.front in
     let held : Inside c.split_at-2.result.0.now = rw c.in-Some.is at c.octets_inside.ensures in
     let few : target.distance < header.size + header.announced = omega (arith, c.requires.behind) in
-    in_contents target.depth target.octets.now target.distance c.requires.element header.size header.announced
+    LeadsTo-in_contents target.depth target.octets.now target.distance c.requires.element header.size header.announced
     header.class
     header.constructed header.tag c.requires.front few c.requires.form
     (λ before inside other.
     let one =
-    holds_alone header.class header.constructed header.tag (take header.announced (drop header.size target.octets.now))
+    Holds-unique header.class header.constructed header.tag (take header.announced (drop header.size target.octets.now))
     before
     found.before inside found.octets.now other (subst Inside contents held)
     in
@@ -66,7 +66,7 @@ returns-clause-found c =
     let found = c.in-Some in
     let Inside = λ (z : List ℕ). Holds header.class header.constructed header.tag z found.before found.octets.now in
     let contents =
-    contents_of target.octets.now c.split_at.result.1.now c.split_at-2.result.0.now header.size header.announced
+    take-contents target.octets.now c.split_at.result.1.now c.split_at-2.result.0.now header.size header.announced
     c.min.result
     c.split_at.ensures.back c.min.ensures c.split_at-2.ensures.front in
     let held : Inside c.split_at-2.result.0.now = rw c.in-Some.is at c.octets_inside.ensures in

@@ -2,14 +2,14 @@
 use Rattle.std.proofs.Common.{◌≡◌, ◌+◌, ◌-◌, suc, sym, ◌∙◌, arith}
 use Rattle.asn1_headers.specs.Front.{HasNoHeader, IsAtFront}
 use Rattle.der_elements.specs.Seek.{behind_indefinite}
-use Rattle.der_elements.proofs.Seeking.{in_header, in_no_header}
+use Rattle.der_elements.proofs.Seeking.{LeadsTo-in_header, LeadsTo-no_header}
 use Rattle.der_elements.proofs.seek.next_target.Goals as goal
 
 pub returns-in_default-clause-found : goal.returns-in_default-clause-found
 returns-in_default-clause-found c =
     let target = c.args.target in
     let none : HasNoHeader target.octets.now = rw c.in_default.is at c.in_ok-header.ensures.found in
-    in_no_header target.depth target.octets.now target.distance
+    LeadsTo-no_header target.depth target.octets.now target.distance
     (sym c.begins_with_end.ensures ∙ c.if-begins_with_end.false) none
 
 pub returns-then-target-header-clause-found : goal.returns-then-target-header-clause-found
@@ -17,7 +17,7 @@ returns-then-target-header-clause-found c =
     let target = c.args.target in
     let header = c.in-Some.header in
     let front : IsAtFront target.octets.now header = rw c.in-Some.is at c.in_ok-header.ensures.found in
-    in_header target.depth target.octets.now target.distance
+    LeadsTo-in_header target.depth target.octets.now target.distance
     (sym c.begins_with_end.ensures ∙ c.if-begins_with_end.false) header.size header.announced header.class
     header.constructed header.tag front c.if-target-header.true
 

@@ -1,7 +1,7 @@
 -- For `seek::why_none`: what it returns is right.
 use Rattle.std.proofs.Common.{◌<◌, length, rules}
 use Rattle.asn1_headers.specs.Front.{HasNoHeader, IsAtFront}
-use Rattle.der_elements.proofs.Seeking.{no_header_begins}
+use Rattle.der_elements.proofs.Seeking.{HasNoHeader-begins}
 use Rattle.der_elements.proofs.seek.why_none.Goals as goal
 
 pub returns-in_default : goal.returns-in_default
@@ -14,5 +14,5 @@ pub returns : goal.returns
 returns c =
     let header = c.in-Some._header in
     let front : IsAtFront c.args.octets.now header = rw c.in-Some.is at c.in_ok-_header.ensures.found in
-    λ none. no_header_begins c.args.octets.now header.size header.announced header.class header.constructed header.tag
+    λ none. HasNoHeader-begins c.args.octets.now header.size header.announced header.class header.constructed header.tag
     none front

@@ -7,14 +7,14 @@ use Rattle.asn1_headers.specs.declared.header.ASN1Class.TheVariants.{Universal}
 use Rattle.der_elements.specs.Headers.{is_stray_form}
 use Rattle.der_elements.specs.Segments.{segment_tag}
 use Rattle.der_elements.specs.Steps.{HasNoWhole}
-use Rattle.der_elements.proofs.JoinedSegments.{constructed_segment, no_joined_segment, no_other_segment, no_whole_segment}
-use Rattle.der_elements.proofs.JoinedSegments.{primitive_segment}
+use Rattle.der_elements.proofs.JoinedSegments.{HasNoSegment-no_whole, HasNoSegment-not_joined, HasNoSegment-other_type, IsSegment-constructed}
+use Rattle.der_elements.proofs.JoinedSegments.{IsSegment-primitive}
 use Rattle.der_elements.proofs.segments.join_next.Goals as goal
 
 pub returns-in_default : goal.returns-in_default
 returns-in_default c =
     let none : HasNoWhole c.args.left.octets.now = rw c.in_default.is at c.in_ok-header.ensures.none in
-    no_whole_segment c.args.tag c.args.left c.args.joined.now.items
+    HasNoSegment-no_whole c.args.tag c.args.left c.args.joined.now.items
     (sym c.begins_with_end.ensures ∙ c.if-begins_with_end.false) none
 
 pub returns-then-not-is_segment : goal.returns-then-not-is_segment
@@ -22,7 +22,7 @@ returns-then-not-is_segment c =
     let header = c.in-Some.header in
     let octets = c.args.left.octets.now in
     let front : IsAtFront octets header = rw c.in-Some.is at c.in_ok-header.ensures.front in
-    no_other_segment c.args.tag c.args.left c.args.joined.now.items
+    HasNoSegment-other_type c.args.tag c.args.left c.args.joined.now.items
     (sym c.begins_with_end.ensures ∙ c.if-begins_with_end.false) header front
     (λ class tag. grind (arith, common_steps))
 
@@ -35,7 +35,7 @@ returns-then-header c =
     let form : IsTrue header.is_indefinite ↔ HasIndefiniteForm octets =
     rw c.in-Some.is at c.in_ok-header.ensures.form in
     let is : (header.class ≡ Universal) × (header.tag ≡ segment_tag c.args.tag) = search rules in
-    constructed_segment c.args.tag c.args.left header c.size_of-size.result _
+    IsSegment-constructed c.args.tag c.args.left header c.size_of-size.result _
     (sym c.begins_with_end.ensures ∙ c.if-begins_with_end.false) front whole form is.0 c.if-header.true is.1
     c.size_of-size.ensures
 
@@ -49,7 +49,7 @@ returns-then-branch c =
     is_stray_form header.constructed (drop (length other.identifier) octets) ≡ false =
     rw c.in-Some.is at c.in_ok-header.ensures.no_stray in
     let is : (header.class ≡ Universal) × (header.tag ≡ segment_tag c.args.tag) = search rules in
-    primitive_segment c.args.tag c.args.left header _ _ (sym c.begins_with_end.ensures ∙ c.if-begins_with_end.false)
+    IsSegment-primitive c.args.tag c.args.left header _ _ (sym c.begins_with_end.ensures ∙ c.if-begins_with_end.false)
     front
     whole is.0 c.if-header.false is.1 stray (c.in_ok-join.ensures.joined c.if-branch.true)
 
@@ -58,6 +58,6 @@ returns c =
     let header = c.in-Some.header in
     let octets = c.args.left.octets.now in
     let front : IsAtFront octets header = rw c.in-Some.is at c.in_ok-header.ensures.front in
-    no_joined_segment c.args.tag c.args.left c.args.joined.now.items
+    HasNoSegment-not_joined c.args.tag c.args.left c.args.joined.now.items
     (sym c.begins_with_end.ensures ∙ c.if-begins_with_end.false) header front c.if-header.false
     (c.in_ok-join.ensures.refused c.if-branch.false)

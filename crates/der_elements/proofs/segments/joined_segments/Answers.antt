@@ -2,9 +2,9 @@
 use Rattle.std.proofs.Common.{◌<◌, ◌≤◌, arith, refl}
 use Rattle.der_elements.specs.Segments.{no_more}
 use Rattle.der_elements.specs.Steps.{HasNoSegment, IsSegment, to_go}
-use Rattle.der_elements.proofs.Cursors.{left_less, step_less}
-use Rattle.der_elements.proofs.JoinedSegments.{segment_behind, segment_goes, segment_takes, segments_back, segments_nowhere}
-use Rattle.der_elements.proofs.JoinedSegments.{segments_on}
+use Rattle.der_elements.proofs.Cursors.{to_go-left_le, to_go-step_lt}
+use Rattle.der_elements.proofs.JoinedSegments.{AreLeft-back, AreLeft-before_segment, AreLeft-behind_segment, AreLeft-no_segment, Takes-segment}
+use Rattle.der_elements.proofs.JoinedSegments.{AreLeft-on}
 use Rattle.der_elements.proofs.segments.joined_segments.Goals as goal
 
 pub loop-left-smaller : goal.loop-left-smaller
@@ -16,9 +16,9 @@ loop-left-smaller c =
     let segment : IsSegment c.args.tag c.in-Some.left c.in-Some-2.step c.loop-left.joined.items
     c.join_next.new.joined.items =
     rw c.in-Some-2.is at c.in_ok-step.ensures in
-    let takes = segment_takes c.args.tag c.in-Some.left c.in-Some-2.step _ _ segment in
-    let less : to_go n < to_go m = step_less m n c.in-Some.left c.in-Some-2.step e.left takes c.in_ok-go.ensures in
-    let fewer : to_go m ≤ to_go k = left_less k m e.octets e.offset e.ended in
+    let takes = Takes-segment c.args.tag c.in-Some.left c.in-Some-2.step _ _ segment in
+    let less : to_go n < to_go m = to_go-step_lt m n c.in-Some.left c.in-Some-2.step e.left takes c.in_ok-go.ensures in
+    let fewer : to_go m ≤ to_go k = to_go-left_le k m e.octets e.offset e.ended in
     omega (arith, less, fewer)
 
 pub loop-left-preserved : goal.loop-left-preserved
@@ -32,11 +32,12 @@ loop-left-preserved c after =
     rw c.in-Some-2.is at c.in_ok-step.ensures in
     let same = c.loop-left.invariant after in (
       λ later.
-          same.0 (segments_back tag k m _ after e.octets e.offset e.ended
-          (segment_goes tag m n c.in-Some.left c.in-Some-2.step _ _ after e.left segment c.in_ok-go.ensures later)),
+          same.0 (AreLeft-back tag k m _ after e.octets e.offset e.ended
+          (AreLeft-before_segment tag m n c.in-Some.left c.in-Some-2.step _ _ after e.left segment c.in_ok-go.ensures
+          later)),
       λ all.
-          segment_behind tag m n c.in-Some.left c.in-Some-2.step _ _ after e.left segment c.in_ok-go.ensures
-          (segments_on tag k m _ after e.octets e.offset e.ended (same.1 all)),
+          AreLeft-behind_segment tag m n c.in-Some.left c.in-Some-2.step _ _ after e.left segment c.in_ok-go.ensures
+          (AreLeft-on tag k m _ after e.octets e.offset e.ended (same.1 all)),
     )
 
 pub returns-in_default-2 : goal.returns-in_default-2
@@ -47,8 +48,8 @@ returns-in_default-2 c after all =
     let e = c.in-Some.ensures in
     let none : HasNoSegment tag c.in-Some.left c.loop-left.joined.items =
     rw c.in_default-2.is at c.in_ok-step.ensures in
-    segments_nowhere tag m c.in-Some.left c.loop-left.joined.items after e.left none
-    (segments_on tag k m _ after e.octets e.offset e.ended ((c.loop-left.invariant after).1 all))
+    AreLeft-no_segment tag m c.in-Some.left c.loop-left.joined.items after e.left none
+    (AreLeft-on tag k m _ after e.octets e.offset e.ended ((c.loop-left.invariant after).1 all))
 
 pub returns : goal.returns
 returns c =
@@ -57,4 +58,4 @@ returns c =
     let m = c.next.new.self in
     let e = c.next.ensures in
     (c.loop-left.invariant _).0
-    (segments_back tag k m _ _ e.octets e.offset e.ended (no_more c.in_default.ensures.none refl))
+    (AreLeft-back tag k m _ _ e.octets e.offset e.ended (no_more c.in_default.ensures.none refl))

@@ -4,19 +4,19 @@ use Rattle.std.specs.Prelude.{◌↔◌, IsTrue}
 use Rattle.asn1_headers.specs.Front.{HasIndefiniteForm, HasNoHeader, IsAtFront}
 use Rattle.der_elements.specs.StringOctets.{AreOctetsOf}
 use Rattle.der_elements.specs.StringSteps.{HasNoPiece, HasPiece}
-use Rattle.der_elements.proofs.StringOctets.{a_string, holds, holds_none, holds_nothing, no_header_string, other_string}
+use Rattle.der_elements.proofs.StringOctets.{HoldsNoOctets-no_octets, HoldsNoOctets-no_piece, HoldsOctets-piece, IsString-no_header, IsString-other_type, IsString-tag}
 use Rattle.der_elements.proofs.string_value.string_octets.Goals as goal
 
 pub returns-in_default : goal.returns-in_default
 returns-in_default c =
     let none : HasNoHeader c.args.element.now = rw c.in_default.is at c.in_ok-header.ensures.found in
-    no_header_string c.args.element.now none
+    IsString-no_header c.args.element.now none
 
 pub returns-in_default-string_type : goal.returns-in_default-string_type
 returns-in_default-string_type c =
     let header = c.in-Some.header in
     let front : IsAtFront c.args.element.now header = rw c.in-Some.is at c.in_ok-header.ensures.found in
-    other_string c.args.element.now header front c.in_default-string_type.ensures
+    IsString-other_type c.args.element.now header front c.in_default-string_type.ensures
 
 pub returns-in_default-2 : goal.returns-in_default-2
 returns-in_default-2 c =
@@ -28,8 +28,8 @@ returns-in_default-2 c =
     rw c.in-Some.is at c.in_ok-header.ensures.form in
     let (class, number, is) = c.in-Some-string_type.ensures in
     let none : HasNoPiece tag header element = rw c.in_default-2.is at c.in_ok-contents.ensures in (
-      a_string element header front form tag class number is,
-      holds_none element header front form tag class number is none,
+      IsString-tag element header front form tag class number is,
+      HoldsNoOctets-no_piece element header front form tag class number is none,
     )
 
 pub returns-in-Some-3 : goal.returns-in-Some-3
@@ -45,7 +45,7 @@ returns-in-Some-3 c =
     let (class, number, is) = c.in-Some-string_type.ensures in
     let piece : HasPiece tag header element contents = rw c.in-Some-2.is at c.in_ok-contents.ensures in
     let are : AreOctetsOf tag contents octets = rw c.in-Some-3.is at c.in_ok-octets.ensures in
-    holds element header front form tag class number is contents octets piece are
+    HoldsOctets-piece element header front form tag class number is contents octets piece are
 
 pub returns : goal.returns
 returns c =
@@ -59,6 +59,6 @@ returns c =
     let (class, number, is) = c.in-Some-string_type.ensures in
     let piece : HasPiece tag header element contents = rw c.in-Some-2.is at c.in_ok-contents.ensures in
     let none : (octets : List ℕ) → AreOctetsOf tag contents octets → ⊥ = rw c.in-None.is at c.in_ok-octets.ensures in (
-      a_string element header front form tag class number is,
-      holds_nothing element header front form tag class number is contents piece none,
+      IsString-tag element header front form tag class number is,
+      HoldsNoOctets-no_octets element header front form tag class number is contents piece none,
     )

@@ -2,7 +2,7 @@
 use Rattle.std.proofs.Common.{◌++◌, ◌-◌, sym, ap, ◌∙◌}
 use Rattle.std.proofs.lemmas.List.{append_assoc}
 use Rattle.der_forms.specs.Columns.{times}
-use Rattle.der_forms.proofs.Times.{times_positive}
+use Rattle.der_forms.proofs.Times.{times-positive}
 use Rattle.der_forms.proofs.left_out.push_times.Goals as goal
 
 pub loop-left-preserved : goal.loop-left-preserved
@@ -12,5 +12,5 @@ loop-left-preserved c =
     let left = c.loop-left.left in
     ap (λ digits. digits ++ times (left - 1) last) c.in_ok-extend_from_slice.ensures.items
     ∙ append_assoc before last (times (left - 1) last)
-    ∙ ap (λ digits. before ++ digits) (sym (times_positive left last c.loop-left-test.true))
+    ∙ ap (λ digits. before ++ digits) (sym (times-positive left last c.loop-left-test.true))
     ∙ c.loop-left.invariant

@@ -5,21 +5,21 @@ use Rattle.der_forms.specs.Forms.{begins, up_to}
 use Rattle.der_forms.proofs.lines.part_before.Goals as goal
 
 -- where the words do not stand, one more octet stands before them
-one_more : (words text : List ℕ) (n : ℕ) → n < length text → begins words (drop n text) ≡ false
+append-one_octet : (words text : List ℕ) (n : ℕ) → n < length text → begins words (drop n text) ≡ false
     → take n text ++ up_to words (drop n text) ≡ take (suc n) text ++ up_to words (drop (suc n) text)
-one_more words [] n l h = absurd (omega (arith, l))
-one_more words (b ∷ text) zero l h = rw h refl
-one_more words (b ∷ text) (suc n) l h = ap (λ rest. b ∷ rest) (one_more words text n (omega arith) h)
+append-one_octet words [] n l h = absurd (omega (arith, l))
+append-one_octet words (b ∷ text) zero l h = rw h refl
+append-one_octet words (b ∷ text) (suc n) l h = ap (λ rest. b ∷ rest) (append-one_octet words text n (omega arith) h)
 
 -- where they stand, nothing does before them
-nothing : (words text : List ℕ) → begins words text ≡ true → up_to words text ≡ []
-nothing words [] h = refl
-nothing words (b ∷ text) h = rw h refl
+up_to-begins : (words text : List ℕ) → begins words text ≡ true → up_to words text ≡ []
+up_to-begins words [] h = refl
+up_to-begins words (b ∷ text) h = rw h refl
 
 -- what the rest of the text has from the place on
-from_place : (words text : List ℕ) (n : ℕ) (answer : Bool) → n < length text
+begins-drop : (words text : List ℕ) (n : ℕ) (answer : Bool) → n < length text
     → answer ≡ begins words (take (length text - n) (drop n text)) → begins words (drop n text) ≡ answer
-from_place words text n answer l e =
+begins-drop words text n answer l e =
     ap (λ rest. begins words rest) (sym (take_all (length text - n) (drop n text) (omega (arith, length-drop n text))))
     ∙ sym e
 
@@ -30,10 +30,10 @@ loop-end-preserved c =
     let n = c.loop-end.end in
     let e : suc n ≡ n + 1 = omega arith in
     let h : begins words (drop n text) ≡ false =
-    from_place words text n c.starts_with.result c.loop-end-test.true c.starts_with.ensures.value
+    begins-drop words text n c.starts_with.result c.loop-end-test.true c.starts_with.ensures.value
     ∙ c.if-starts_with.false in (
       omega arith,
-      c.loop-end.invariant.1 ∙ one_more words text n c.loop-end-test.true h
+      c.loop-end.invariant.1 ∙ append-one_octet words text n c.loop-end-test.true h
           ∙ ap (λ m. take m text ++ up_to words (drop m text)) e,
     )
 
@@ -43,9 +43,9 @@ returns-then-starts_with c =
     let text = c.args.text.now in
     let n = c.loop-end.end in
     let h : begins words (drop n text) ≡ true =
-    from_place words text n c.starts_with.result c.loop-end-test.true c.starts_with.ensures.value
+    begins-drop words text n c.starts_with.result c.loop-end-test.true c.starts_with.ensures.value
     ∙ c.if-starts_with.true in
-    sym (c.loop-end.invariant.1 ∙ ap (λ rest. take n text ++ rest) (nothing words (drop n text) h)
+    sym (c.loop-end.invariant.1 ∙ ap (λ rest. take n text ++ rest) (up_to-begins words (drop n text) h)
     ∙ append-nil (take n text))
 
 pub returns : goal.returns

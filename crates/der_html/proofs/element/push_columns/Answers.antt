@@ -1,6 +1,6 @@
 -- For `element::push_columns`: what it returns is right.
 use Rattle.std.proofs.Common.{[]}
-use Rattle.der_html.proofs.Shown.{Shows-nil_append, Shows-nil}
+use Rattle.der_html.proofs.Shown.{Shows-nil, Shows-nil_append}
 use Rattle.der_html.proofs.element.push_columns.Goals as goal
 
 pub returns-in_default : goal.returns-in_default

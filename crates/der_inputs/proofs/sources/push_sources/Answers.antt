@@ -2,7 +2,7 @@
 use Rattle.std.proofs.Common.{sym, ◌∙◌}
 use Rattle.der_inputs.specs.Inputs.{IsInputText, input_of}
 use Rattle.der_inputs.specs.Parts.{wanted_of}
-use Rattle.der_inputs.proofs.Readers.{drop-set_next, IsWritten-next_source, AreReadToEnds-next_source}
+use Rattle.der_inputs.proofs.Readers.{AreReadToEnds-next_source, IsWritten-next_source, drop-set_next}
 use Rattle.der_inputs.proofs.sources.push_sources.Goals as goal
 
 pub loop-source-preserved : goal.loop-source-preserved
@@ -13,18 +13,22 @@ loop-source-preserved g c =
     let l = c.loop-source-test.true in
     let n = c.loop-source.auto.sources in
     let left = c.loop-source.invariant.left in
-    let were = c.loop-source.came.items in
+    let were = c.loop-source.outcomes.items in
     let are = c.push.new.self.items in
     let last = c.in_ok-outcome.outcome in
     let e = sym c.is_err.ensures.value ∙ c.if-is_err.false in
     let p = c.push.ensures.items in
     record {
-      written = IsWritten-next_source i all now l n left c.push.result were are last e p (IsInputText (wanted_of c.args.show.now))
+      written =
+          IsWritten-next_source i all now l n left c.push.result were are last e p
+          (IsInputText (wanted_of c.args.show.now))
           (λ source. input_of source.name.now (g.R.Read.remaining source.reader)) c.source-item.result
           (g.W.Write.contents c.args.printer.now.out) (g.W.Write.contents c.loop-source.printer.out)
           (g.W.Write.contents c.push_source.new.printer.out) c.loop-source.invariant.written
           c.in_ok-outcome.ensures.written;
-      read = AreReadToEnds-next_source i all now l n left c.push.result were are last e p (λ source. g.R.Read.remaining source.reader)
+      read =
+          AreReadToEnds-next_source i all now l n left c.push.result were are last e p
+          (λ source. g.R.Read.remaining source.reader)
           c.push_source.new.source c.loop-source.invariant.read c.in_ok-outcome.ensures.read;
       left = drop-set_next i all now l n left c.push.result were are last e p c.push_source.new.source;
     }

@@ -11,8 +11,8 @@ abbrev pub invariant-loop-source : goal.invariant-loop-source
 invariant-loop-source g l = record {
   written : IsWritten (AreTexts (IsInputText (wanted_of l.fn.show))
       (map (λ source. input_of source.name.now (g.R.Read.remaining source.reader)) (take l.source-index l.fn.sources))
-      l.came.items) (g.W.Write.contents l.fn.printer.out) (g.W.Write.contents l.printer.out);
-  read : AreReadToEnds l.came.items
+      l.outcomes.items) (g.W.Write.contents l.fn.printer.out) (g.W.Write.contents l.printer.out);
+  read : AreReadToEnds l.outcomes.items
       (map (λ source. g.R.Read.remaining source.reader) (take l.source-index l.sources));
   left : drop l.source-index l.sources ≡ drop l.source-index l.fn.sources;
 }

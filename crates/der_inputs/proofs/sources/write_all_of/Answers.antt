@@ -12,7 +12,7 @@ returns-clause-written g c =
     let ended = g.W.Write.contents c.end.new.out in
     let after = g.W.Write.contents c.flush.new.w in
     let (first, put_first, is_first) = c.in_ok-begin.ensures in
-    let (texts, put, are) = c.in_ok-came.ensures.written in
+    let (texts, put, are) = c.in_ok-outcomes.ensures.written in
     let (last, put_last, is_last) = c.in_ok-end.ensures in
     let all = Appends-trans before begun ended first (texts ++ last) put_first
     (Appends-trans begun filled ended texts last put put_last) in (

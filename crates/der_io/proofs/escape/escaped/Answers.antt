@@ -36,5 +36,6 @@ pub returns-in-Err : goal.returns-in-Err
 returns-in-Err c =
     let octets = c.args.octets.now in
     IfOk-equal string_bytes c.escaped_octets.result _ _
-    (all_escaped-no_text octets (false-not_true (is_utf8 octets) (λ h. c.in-Err.ensures.cases.0 (IsUtf8-from_is_utf8 octets h))))
+    (all_escaped-no_text octets (false-not_true (is_utf8 octets)
+    (λ h. c.in-Err.ensures.cases.0 (IsUtf8-from_is_utf8 octets h))))
     c.escaped_octets.ensures

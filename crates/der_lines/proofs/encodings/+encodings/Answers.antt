@@ -7,7 +7,7 @@ use Rattle.der_lines.specs.PieceRows.{IsPieceDump, row_faults}
 use Rattle.der_pieces.specs.Pieces.{Passes, kind_header}
 use Rattle.der_pieces.specs.Steps.{IsAhead}
 use Rattle.der_lines.specs.Steps.{earlier_fault, mark_offsets}
-use Rattle.der_rows.proofs.Printed.{IsPrinted-weaker, IsPrinted-append, IsPrinted-nil}
+use Rattle.der_rows.proofs.Printed.{IsPrinted-append, IsPrinted-nil, IsPrinted-weaker}
 use Rattle.der_lines.proofs.Fronts.{ShownTo, shown_all, shown_more, shown_none}
 use Rattle.der_lines.proofs.Fronts.{nested_adds}
 use Rattle.der_lines.proofs.encodings.+encodings.Goals as goal
@@ -15,7 +15,8 @@ use Rattle.der_lines.proofs.encodings.+encodings.Goals as goal
 pub push_encodings-loop-walk-init : goal.push_encodings-loop-walk-init
 push_encodings-loop-walk-init g t c =
     let o = c.in_ok-walk.ensures in
-    IsPrinted-nil g.W.Write.contents (ShownTo c.args.place c.args.octets.now c.in_ok-walk.walk None _) c.args.printer.now
+    IsPrinted-nil g.W.Write.contents (ShownTo c.args.place c.args.octets.now c.in_ok-walk.walk None _)
+    c.args.printer.now
     (subst (λ m. ShownTo c.args.place c.args.octets.now c.in_ok-walk.walk None m [])
     (sym (ap mark_offsets c.new.ensures.items))
     (shown_none c.args.place c.args.octets.now c.in_ok-walk.walk o.octets o.place o.ahead))

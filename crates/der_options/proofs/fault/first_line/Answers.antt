@@ -13,7 +13,8 @@ use Rattle.der_options.specs.Options.{IsOneLine}
 use Rattle.der_options.proofs.fault.first_line.Goals as goal
 
 IsOneLine-no_newline : (text : List ℕ) → NoCharPasses is_newline text → IsOneLine text
-IsOneLine-no_newline text none = All-from_get_or (λ b. b ≢ 10) text 0 (λ i lt. NoCharPasses-char 10 text i none (omega arith) lt)
+IsOneLine-no_newline text none =
+    All-from_get_or (λ b. b ≢ 10) text 0 (λ i lt. NoCharPasses-char 10 text i none (omega arith) lt)
 
 IsOneLine-stripped : (line text : List ℕ) → StripsCarriageReturn line text → IsOneLine line → IsOneLine text
 IsOneLine-stripped line text (inl same) one = subst IsOneLine (sym same.0) one
@@ -27,11 +28,14 @@ IsOneLine-first_line text line rest h =
     subst IsOneLine (take_all h.0 text whole ∙ sym (h.4 (omega arith))) front)
     (cases_lt h.0 (length text))
 
-IsOneLine-unwrap_or : (s t : _) (line : Option (Bor (List ℕ))) (other : Bor (List ℕ)) → lines_steps s line t → IsOneLine other.now
+IsOneLine-unwrap_or :
+    (s t : _) (line : Option (Bor (List ℕ))) (other : Bor (List ℕ)) → lines_steps s line t → IsOneLine other.now
     → IsOneLine (unwrap_or line other).now
 IsOneLine-unwrap_or s t None other steps one = one
-IsOneLine-unwrap_or s t (Some line) other steps one = IsOneLine-first_line (lines_rest s) line.now (lines_rest t) steps.0.2
+IsOneLine-unwrap_or s t (Some line) other steps one =
+    IsOneLine-first_line (lines_rest s) line.now (lines_rest t) steps.0.2
 
 pub returns : goal.returns
 returns c = subst (λ x. IsOneLine x.now) (sym c.unwrap_or.ensures)
-    (IsOneLine-unwrap_or c.lines.result c.next.new.self c.next.result _ c.next.ensures.steps (λ k d lt e. absurd (omega arith)))
+    (IsOneLine-unwrap_or c.lines.result c.next.new.self c.next.result _ c.next.ensures.steps
+    (λ k d lt e. absurd (omega arith)))

@@ -11,7 +11,8 @@ if-not_line_feed b = grind (arith, common_steps)
 
 IsOneLine-spaced : (text : List ℕ) → IsOneLine (map (λ b. if b == 10 then 32 else b) text)
 IsOneLine-spaced [] = All-nil (λ b. b ≢ 10)
-IsOneLine-spaced (b ∷ text) = All-cons (λ b. b ≢ 10) (if b == 10 then 32 else b) _ (if-not_line_feed b) (IsOneLine-spaced text)
+IsOneLine-spaced (b ∷ text) =
+    All-cons (λ b. b ≢ 10) (if b == 10 then 32 else b) _ (if-not_line_feed b) (IsOneLine-spaced text)
 
 IsOneLine-pushed : (a b x : List ℕ) → b ≡ a ++ x → IsOneLine x → IsOneLine a → IsOneLine b
 IsOneLine-pushed a b x e one earlier = subst IsOneLine (sym e) (All-append (λ b. b ≢ 10) a x earlier one)

@@ -1,7 +1,7 @@
 -- For `options::matches_for`: what it returns is right (`read`, `refused`).
 use Rattle.std.proofs.Common.{◌∙◌, map}
 use Rattle.clap.specs.Words.{app_of, rows_of, found_of}
-use Rattle.der_options.proofs.Commands.{fault_of-equal, is_simple_and_free-equal, matches_of-equal, is_simple-equal}
+use Rattle.der_options.proofs.Commands.{fault_of-equal, is_simple-equal, is_simple_and_free-equal, matches_of-equal}
 use Rattle.der_options.proofs.options.matches_for.Goals as goal
 
 pub returns-in-Ok-clause-read : goal.returns-in-Ok-clause-read
@@ -10,7 +10,8 @@ returns-in-Ok-clause-read g c =
     let words = map g.S.AsStr.text c.args.words.now in
     let e = c.in_ok-command.ensures in (
       fault_of-equal app words e ∙ c.in-Ok.ensures.kinds (is_simple_and_free-equal app words e),
-      matches_of-equal app words e (rows_of (found_of c.in-Ok.matches)) (c.in-Ok.ensures.matches (is_simple-equal app words e)).0,
+      matches_of-equal app words e (rows_of (found_of c.in-Ok.matches))
+          (c.in-Ok.ensures.matches (is_simple-equal app words e)).0,
     )
 
 pub returns-in-Err-clause-refused : goal.returns-in-Err-clause-refused

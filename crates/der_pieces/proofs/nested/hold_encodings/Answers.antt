@@ -2,7 +2,7 @@
 use Rattle.std.proofs.Common.{◌<◌, ◌≤◌, arith}
 use Rattle.der_elements.specs.Steps.{Takes}
 use Rattle.der_elements.specs.Steps.{to_go}
-use Rattle.der_elements.proofs.Cursors.{left_less, step_less}
+use Rattle.der_elements.proofs.Cursors.{to_go-left_le, to_go-step_lt}
 use Rattle.der_pieces.proofs.nested.hold_encodings.Goals as goal
 
 pub loop-left-smaller : goal.loop-left-smaller
@@ -13,6 +13,6 @@ loop-left-smaller c =
     let e = c.in-Some.ensures in
     let step = c.in-Some-2.seen.step in
     let takes : Takes step c.in-Some.left = rw c.in-Some-2.is at c.in_ok-seen.ensures in
-    let less : to_go n < to_go m = step_less m n c.in-Some.left step e.left takes c.in_ok-go.ensures in
-    let fewer : to_go m ≤ to_go k = left_less k m e.octets e.offset e.ended in
+    let less : to_go n < to_go m = to_go-step_lt m n c.in-Some.left step e.left takes c.in_ok-go.ensures in
+    let fewer : to_go m ≤ to_go k = to_go-left_le k m e.octets e.offset e.ended in
     omega (arith, less, fewer)

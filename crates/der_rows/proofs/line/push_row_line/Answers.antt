@@ -29,4 +29,5 @@ returns c =
     (Pushes-append look [] [] name (own ++ (shown ++ (fault ++ mark))) _ _ _ named
     (Pushes-append look [] [] own (shown ++ (fault ++ mark)) _ _ _ typed
     (Pushes-append look [] [] shown (fault ++ mark) _ _ _ valued
-    (Pushes-append look [] [] fault mark _ _ _ c.in_ok-push_fault_message.ensures c.in_ok-push_part_on_one_line-4.ensures))))
+    (Pushes-append look [] [] fault mark _ _ _ c.in_ok-push_fault_message.ensures
+    c.in_ok-push_part_on_one_line-4.ensures))))

@@ -6,7 +6,8 @@ use Rattle.der_tool.specs.declared.answers.Reading.{Reading}
 use Rattle.der_tool.proofs.answers.answers.Goals as goal
 
 -- no output answers no input
-AreLineAnswers-empty : (reading : Reading) (input : List ℕ) → length input ≡ 0 → AreLineAnswers reading (lines_of input) []
+AreLineAnswers-empty :
+    (reading : Reading) (input : List ℕ) → length input ≡ 0 → AreLineAnswers reading (lines_of input) []
 AreLineAnswers-empty reading [] e = refl
 AreLineAnswers-empty reading (b ∷ input) e = absurd (omega (arith, e))
 

@@ -1,10 +1,11 @@
 -- For `cursor::Cursor::innermost`: what it returns is right (`some`).
 use Rattle.std.proofs.Common.{ap, false, reverse, sym, ◌∙◌, arith}
 use Rattle.der_elements.specs.Ends.{end_at}
-use Rattle.der_elements.proofs.Cursors.{innermost_is}
+use Rattle.der_elements.proofs.Cursors.{reverse-innermost}
 use Rattle.der_elements.proofs.cursor.Cursor.innermost.Goals as goal
 
 pub returns-in-len1-up-clause-some : goal.returns-in-len1-up-clause-some
 returns-in-len1-up-clause-some c =
-    let (around, is) = innermost_is c.as_slice.result.now (end_at 0 false) (omega (arith, c.in-len1-up.len_at_least)) in
+    let (around, is) =
+    reverse-innermost c.as_slice.result.now (end_at 0 false) (omega (arith, c.in-len1-up.len_at_least)) in
     (around, sym (ap reverse c.as_slice.ensures.value) ∙ is)

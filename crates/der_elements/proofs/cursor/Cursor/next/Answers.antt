@@ -3,7 +3,7 @@ use Rattle.std.proofs.Common.{◌≡◌, ◌∙◌, length, refl, sym, arith}
 use Rattle.std.proofs.lemmas.Grind.{common_steps}
 use Rattle.std.proofs.lemmas.List.{nil_from_length}
 use Rattle.der_elements.specs.Steps.{none_left}
-use Rattle.der_elements.proofs.Cursors.{left_on}
+use Rattle.der_elements.proofs.Cursors.{HasLeft-left}
 use Rattle.der_elements.proofs.cursor.Cursor.next.Goals as goal
 
 pub loop-end-init : goal.loop-end-init
@@ -17,6 +17,6 @@ loop-end-preserved c =
     let none : length c.left_to-octets.result.now ≡ 0 = grind (arith, common_steps) in (
       e.offset ∙ offset,
       e.octets ∙ octets,
-      left_on _ c.loop-end.self c.leave.new.self c.in-Some.end around left is c.if-end.false
+      HasLeft-left _ c.loop-end.self c.leave.new.self c.in-Some.end around left is c.if-end.false
           (sym c.left_to-octets.ensures ∙ nil_from_length c.left_to-octets.result.now none) e.octets e.offset e.ends,
     )

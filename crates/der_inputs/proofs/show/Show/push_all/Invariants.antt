@@ -10,9 +10,9 @@ use Rattle.der_lines.specs.declared.document.Verdict.{Verdict}
 use Rattle.der_inputs.proofs.show.Show.push_all.Given as goal
 
 -- the texts of those before this one are pushed
-abbrev pub invariant-loop-one : goal.invariant-loop-one
-invariant-loop-one g l =
+abbrev pub invariant-loop-document : goal.invariant-loop-document
+invariant-loop-document g l =
     (verdicts : List Verdict) × (l.verdict ≡ all_read verdicts)
     × IsWritten (AreTexts (IsFindingText (wanted_of l.self) (option_map (λ name. name.now) l.file))
-    (map finding_in (take l.one-index l.found)) verdicts) (g.W.Write.contents l.fn.printer.out)
+    (map finding_in (take l.document-index l.documents)) verdicts) (g.W.Write.contents l.fn.printer.out)
     (g.W.Write.contents l.printer.out)

@@ -10,5 +10,5 @@ returns g c =
     let contents = g.W.Write.contents in
     IsWritten-section contents _ _ (record c.args.printer.now { look = Page }) c.begin_section.new.self
     c.push_dump.new.printer c.end_section.new.self refl c.in_ok-begin_section.ensures c.in_ok-verdict.ensures
-    (subst (λ z. PrintsOctets contents z c.push_dump.new.printer c.end_section.new.self) c.octets_or_none.ensures
+    (subst (λ z. PrintsOctets contents z c.push_dump.new.printer c.end_section.new.self) c.octets_or_empty.ensures
     c.in_ok-end_section.ensures)

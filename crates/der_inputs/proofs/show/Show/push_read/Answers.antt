@@ -1,10 +1,10 @@
--- For `show::Show::push_read`: what it returns is right.
+-- For `show::Show::push_json_of`: what it returns is right.
 use Rattle.std.proofs.Common.{subst, sym}
 use Rattle.der_io.specs.Output.{IsWritten}
 use Rattle.der_inputs.specs.Json.{IsOctetsJson}
 use Rattle.der_json.specs.Json.{told_of}
 use Rattle.der_inputs.proofs.Lower.{IsWritten-json, IsWritten-strict_json}
-use Rattle.der_inputs.proofs.show.Show.push_read.Goals as goal
+use Rattle.der_inputs.proofs.show.Show.push_json_of.Goals as goal
 
 pub returns-in_ok-push_strict_json : goal.returns-in_ok-push_strict_json
 returns-in_ok-push_strict_json g c =

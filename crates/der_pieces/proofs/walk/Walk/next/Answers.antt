@@ -4,7 +4,7 @@ use Rattle.der_pieces.specs.Fronts.{StandAt}
 use Rattle.der_pieces.specs.Pieces.{IsHolding, IsKind, fault_offset, front_of}
 use Rattle.der_elements.specs.Steps.{to_go}
 use Rattle.der_pieces.proofs.Walks.{ahead_back, ahead_none, next_takes, step_goes}
-use Rattle.der_elements.proofs.Cursors.{depth_is, left_less, step_kept, step_less}
+use Rattle.der_elements.proofs.Cursors.{length-ends, octets-step, to_go-left_le, to_go-step_lt}
 use Rattle.der_pieces.proofs.Walks.{left_stands}
 use Rattle.der_pieces.proofs.walk.Walk.next.Goals as goal
 
@@ -30,8 +30,8 @@ returns c =
     let own = fault_offset piece.fault in
     let starts = p.starts levels in
     let less : to_go n < to_go m =
-    step_less m n left piece.step at (next_takes m.offset levels left f piece.step own starts) goes in
-    let no_more : to_go m ≤ to_go k = left_less k m e.octets e.offset e.ended in
+    to_go-step_lt m n left piece.step at (next_takes m.offset levels left f piece.step own starts) goes in
+    let no_more : to_go m ≤ to_go k = to_go-left_le k m e.octets e.offset e.ended in
     let position = left_stands m.octets.now left.octets.now m.offset at.end.offset at.octets_are in
     record {
       levels = levels;
@@ -44,12 +44,12 @@ returns c =
       inside = ap (λ z. z.is_inside) p.place_is ∙ h.same;
       base = ap (λ z. z.base) p.place_is ∙ h.base;
       depth = ap (λ z. z.depth) p.place_is ∙ (h.depth
-          ∙ ap (λ z. c.args.self.now.place.depth + z) (c.depth-depth.ensures ∙ depth_is m left at));
+          ∙ ap (λ z. c.args.self.now.place.depth + z) (c.depth-depth.ensures ∙ length-ends m left at));
       documents = ap (λ z. z.documents) p.place_is ∙ h.documents;
       most = ap (λ z. z.most_depth) p.place_is ∙ h.most;
       holding = subst (λ z. IsHolding left.octets.now piece.kind z piece.nested) (sym p.place_is) p.holding;
       no_list = λ out. p.no_list (sym (ap (λ z. z.is_inside) p.place_is) ∙ out);
       less = omega (arith, less, no_more);
-      same_octets = step_kept m n piece.step goes ∙ e.octets;
+      same_octets = octets-step m n piece.step goes ∙ e.octets;
       same_place = refl;
     }

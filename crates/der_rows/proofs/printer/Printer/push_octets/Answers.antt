@@ -3,7 +3,7 @@ use Rattle.std.proofs.Common.{◌≡◌, [], ◌++◌, ap, append-nil, append_as
 use Rattle.std.proofs.lemmas.Grind.{common_steps}
 use Rattle.std.proofs.lemmas.List.{nil_from_length}
 use Rattle.der_rows.specs.Printing.{PrintsOctets}
-use Rattle.der_rows.proofs.Printed.{PrintsOctets-nil, PrintsOctets-append}
+use Rattle.der_rows.proofs.Printed.{PrintsOctets-append, PrintsOctets-nil}
 use Rattle.der_rows.proofs.printer.Printer.push_octets.Goals as goal
 
 pub loop-rest-init : goal.loop-rest-init
@@ -21,7 +21,8 @@ loop-rest-preserved g c =
     ∙ ap (λ z. part ++ z) (sym c.split_at.ensures.back)) in (
       printed ++ part,
       split ∙ (ap (λ z. printed ++ z) parts ∙ sym (append_assoc printed part later)),
-      PrintsOctets-append g.W.Write.contents printed part c.args.self.now c.loop-rest.self c.push_octets_part.new.self earlier
+      PrintsOctets-append g.W.Write.contents printed part c.args.self.now c.loop-rest.self c.push_octets_part.new.self
+          earlier
           c.in_ok-push_octets_part.ensures,
     )
 

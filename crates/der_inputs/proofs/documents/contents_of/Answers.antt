@@ -1,6 +1,6 @@
--- For `found::contents_of`: `without_header` may be called.
+-- For `documents::contents_of`: `without_header` may be called.
 use Rattle.der_inputs.proofs.Blocks.{IsBlockAt-element}
-use Rattle.der_inputs.proofs.found.contents_of.Goals as goal
+use Rattle.der_inputs.proofs.documents.contents_of.Goals as goal
 
 pub without_header-requires : goal.without_header-requires
 without_header-requires c =

@@ -1,4 +1,4 @@
-// What is found in an input.
+// The documents of an input, and the block that begins at an offset.
 ghost use Rattle.std.specs.Prelude.{◌≡◌, ◌++◌, ◌∷◌, [], if◌then◌else◌, is_some, IfOk, MatchOption, OnOk, None, map};
 ghost use Rattle.std.specs.List.{flat_map};
 ghost use Rattle.der_forms.specs.Objects.{objects_of as objects_are};
@@ -16,70 +16,74 @@ use der_forms::{
 };
 use std::alloc::{AllocError, Global};
 
-// Octets under their label, if they have one, or why there are none to be read.
+// A document of an input: its octets, or why they cannot be read, under its label, if it has one.
 #[derive(Drop)]
-pub struct Found {
+pub struct Document {
     pub label: Option<Vec<u8>>,
     pub octets: Result<Vec<u8>, String>,
 }
 
 // Each document of an input and what is wrong with its form, in order.
-pub fn documents_of(alloc: Global, input: Vec<u8>) -> Result<Vec<Found>, AllocError>
-    ensures { IfOk result (λ found. map finding_in found.items ≡ findings_of input.items) }
+pub fn documents_of(alloc: Global, input: Vec<u8>) -> Result<Vec<Document>, AllocError>
+    ensures { IfOk result (λ documents. map finding_in documents.items ≡ findings_of input.items) }
 {
     let text = text_of(alloc, input)?;
     documents_in(alloc, text)
 }
 
 // Each document of a text, or of octets, and what is wrong with its form.
-fn documents_in(alloc: Global, text: Vec<u8>) -> Result<Vec<Found>, AllocError>
-    ensures { IfOk result (λ found. map finding_in found.items ≡ findings_in text.items) }
+fn documents_in(alloc: Global, text: Vec<u8>) -> Result<Vec<Document>, AllocError>
+    ensures { IfOk result (λ documents. map finding_in documents.items ≡ findings_in text.items) }
 {
     match form_of(alloc, &text)? {
         Form::Pem => objects_of(alloc, &text),
-        Form::Spelled(octets) => alone(alloc, Ok(octets)),
-        Form::OddDigits => fault_alone(alloc, &FormFault::OddDigits),
-        Form::OtherColumns => fault_alone(alloc, &FormFault::OtherColumns),
-        Form::LeftOut(line) => fault_alone(alloc, &FormFault::LeftOut(line)),
-        Form::Text(line) => fault_alone(alloc, &FormFault::Text(line)),
-        Form::Der => alone(alloc, Ok(text)),
+        Form::Spelled(octets) => one_document(alloc, Ok(octets)),
+        Form::OddDigits => one_fault(alloc, &FormFault::OddDigits),
+        Form::OtherColumns => one_fault(alloc, &FormFault::OtherColumns),
+        Form::LeftOut(line) => one_fault(alloc, &FormFault::LeftOut(line)),
+        Form::Text(line) => one_fault(alloc, &FormFault::Text(line)),
+        Form::Der => one_document(alloc, Ok(text)),
     }
 }
 
-// What has no label, alone.
-pub fn alone(alloc: Global, octets: Result<Vec<u8>, String>) -> Result<Vec<Found>, AllocError>
-    ensures { IfOk result (λ found. map finding_in found.items ≡ unlabelled (octets_in octets) ∷ []) }
+// One document, without a label.
+pub fn one_document(
+    alloc: Global,
+    octets: Result<Vec<u8>, String>,
+) -> Result<Vec<Document>, AllocError>
+    ensures { IfOk result (λ documents. map finding_in documents.items ≡ unlabelled (octets_in octets) ∷ []) }
 {
-    let mut found = Vec::new(alloc);
-    found.push(Found {
+    let mut documents = Vec::new(alloc);
+    documents.push(Document {
         label: None,
         octets,
     })?;
-    Ok(found)
+    Ok(documents)
 }
 
-// Why an input has no document.
-fn fault_alone(alloc: Global, fault: &FormFault) -> Result<Vec<Found>, AllocError>
-    ensures { IfOk result (λ found. map finding_in found.items ≡ unlabelled None ∷ []) }
+// One document that cannot be read: why the input has none.
+fn one_fault(alloc: Global, fault: &FormFault) -> Result<Vec<Document>, AllocError>
+    ensures { IfOk result (λ documents. map finding_in documents.items ≡ unlabelled None ∷ []) }
 {
-    let why = text_of_fault(alloc, fault)?;
-    alone(alloc, Err(why))
+    let why = fault_text(alloc, fault)?;
+    one_document(alloc, Err(why))
 }
 
-fn text_of_fault(alloc: Global, fault: &FormFault) -> Result<String, AllocError> {
+fn fault_text(alloc: Global, fault: &FormFault) -> Result<String, AllocError> {
     format!(in alloc; "{fault}")
 }
 
-fn objects_of(alloc: Global, input: &[u8]) -> Result<Vec<Found>, AllocError>
-    ensures { IfOk result (λ found. map finding_in found.items ≡ flat_map of_object (objects_are input.now)) }
+fn objects_of(alloc: Global, input: &[u8]) -> Result<Vec<Document>, AllocError>
+    ensures { IfOk result (λ documents. map finding_in documents.items
+        ≡ flat_map of_object (objects_are input.now)) }
 {
-    let mut found = Vec::new(alloc);
+    let mut documents = Vec::new(alloc);
     let mut lines = Lines::of(input);
     while let Some((object, after)) = next_object(alloc, lines)? {
-        push_object(alloc, object, after.before, &mut found)?;
+        push_object(alloc, object, after.before, &mut documents)?;
         lines = after;
     }
-    Ok(found)
+    Ok(documents)
 }
 
 // Pushes an object, and what is wrong with its end, up to which so many lines were read.
@@ -87,32 +91,32 @@ fn push_object(
     alloc: Global,
     object: PemObject<'_>,
     last: usize,
-    found: &mut Vec<Found>,
+    documents: &mut Vec<Document>,
 ) -> Result<(), AllocError>
-    ensures { OnOk result (map finding_in found.new.items
-        ≡ map finding_in found.old.items ++ of_object (shown_object object.entry)) }
+    ensures { OnOk result (map finding_in documents.new.items
+        ≡ map finding_in documents.old.items ++ of_object (shown_object object.entry)) }
 {
     let bad_end = fault_of_end(&object, last);
     let label = copy_of(alloc, object.label)?;
     let octets = octets_of(alloc, object.octets)?;
-    found.push(Found {
+    documents.push(Document {
         label: Some(label),
         octets,
     })?;
-    push_end(alloc, bad_end, found)
+    push_end(alloc, bad_end, documents)
 }
 
 // Pushes what is wrong with the end of an object, and in which line, if anything is.
 fn push_end(
     alloc: Global,
     bad_end: Option<(usize, &str)>,
-    found: &mut Vec<Found>,
+    documents: &mut Vec<Document>,
 ) -> Result<(), AllocError>
-    ensures { OnOk result (map finding_in found.new.items ≡ map finding_in found.old.items
+    ensures { OnOk result (map finding_in documents.new.items ≡ map finding_in documents.old.items
         ++ (if is_some bad_end.entry then unlabelled None ∷ [] else [])) }
 {
     if let Some((line, what)) = bad_end {
-        found.push(Found {
+        documents.push(Document {
             label: None,
             octets: Err(format!(in alloc; "line {line}: {what}")?),
         })?;
@@ -125,15 +129,13 @@ fn octets_of(
     alloc: Global,
     octets: Result<Vec<u8>, PemFault>,
 ) -> Result<Result<Vec<u8>, String>, AllocError>
-    ensures { IfOk result (λ found. octets_in found ≡ octets_in octets) }
+    ensures { IfOk result (λ read. octets_in read ≡ octets_in octets) }
 {
     match octets {
         Ok(octets) => Ok(Ok(octets)),
-        Err(PemFault::Encrypted) => Ok(Err(text_of_fault(alloc, &FormFault::Encrypted)?)),
-        Err(PemFault::OpenSsh) => Ok(Err(text_of_fault(alloc, &FormFault::OpenSsh)?)),
-        Err(PemFault::NoBase64(line)) => {
-            Ok(Err(text_of_fault(alloc, &FormFault::NoBase64(line))?))
-        }
+        Err(PemFault::Encrypted) => Ok(Err(fault_text(alloc, &FormFault::Encrypted)?)),
+        Err(PemFault::OpenSsh) => Ok(Err(fault_text(alloc, &FormFault::OpenSsh)?)),
+        Err(PemFault::NoBase64(line)) => { Ok(Err(fault_text(alloc, &FormFault::NoBase64(line))?)) }
     }
 }
 
@@ -143,21 +145,21 @@ pub fn block_of(
     input: Vec<u8>,
     offset: usize,
 ) -> Result<Result<Vec<u8>, String>, AllocError>
-    ensures { IfOk result (λ found. IsBlockAt offset input.items (octets_in found)) }
+    ensures { IfOk result (λ block. IsBlockAt offset input.items (octets_in block)) }
 {
     let document = match document_of(alloc, input) {
         Ok(document) => document,
         Err(FormFault::OutOfMemory) => return Err(AllocError),
-        Err(fault) => return Ok(Err(text_of_fault(alloc, &fault)?)),
+        Err(fault) => return Ok(Err(fault_text(alloc, &fault)?)),
     };
     match block_at(alloc, &document, offset)? {
         Ok(block) => Ok(Ok(copy_of(alloc, block)?)),
-        Err(why) => Ok(Err(text_of_none(alloc, why, offset)?)),
+        Err(why) => Ok(Err(no_block_text(alloc, why, offset)?)),
     }
 }
 
 // Why no block begins at the offset.
-fn text_of_none(alloc: Global, why: NoBlock, offset: usize) -> Result<String, AllocError> {
+fn no_block_text(alloc: Global, why: NoBlock, offset: usize) -> Result<String, AllocError> {
     match why {
         NoBlock::EndOfContents => {
             format!(in alloc;
@@ -172,13 +174,13 @@ fn text_of_none(alloc: Global, why: NoBlock, offset: usize) -> Result<String, Al
     }
 }
 
-// The contents octets of that block.
+// The contents octets of the block that begins at the offset, or why there are none.
 pub fn contents_of(
     alloc: Global,
     input: Vec<u8>,
     offset: usize,
 ) -> Result<Result<Vec<u8>, String>, AllocError>
-    ensures { IfOk result (λ found. IsContentsAt offset input.items (octets_in found)) }
+    ensures { IfOk result (λ contents. IsContentsAt offset input.items (octets_in contents)) }
 {
     match block_of(alloc, input, offset)? {
         Ok(block) => Ok(Ok(without_header(alloc, &block)?)),
@@ -186,13 +188,13 @@ pub fn contents_of(
     }
 }
 
-// The octets that the string holds which begins there.
+// The octets that the string at the offset holds, or why there are none.
 pub fn value_of(
     alloc: Global,
     input: Vec<u8>,
     offset: usize,
 ) -> Result<Result<Vec<u8>, String>, AllocError>
-    ensures { IfOk result (λ found. IsValueAt offset input.items (octets_in found)) }
+    ensures { IfOk result (λ value. IsValueAt offset input.items (octets_in value)) }
 {
     match block_of(alloc, input, offset)? {
         Ok(block) => octets_held(alloc, &block, offset),
@@ -206,7 +208,7 @@ fn octets_held(
     block: &[u8],
     offset: usize,
 ) -> Result<Result<Vec<u8>, String>, AllocError>
-    ensures { IfOk result (λ found. MatchOption (octets_in found)
+    ensures { IfOk result (λ held. MatchOption (octets_in held)
         (HoldsNoOctets block.now)
         (HoldsOctets block.now)) }
 {

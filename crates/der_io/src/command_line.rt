@@ -5,12 +5,12 @@ use std::{env, io};
 ///
 /// # Errors
 /// An argument is not UTF-8, or, of kind `OutOfMemory`, memory ran out.
-pub fn words(rt: &HostRuntime) -> io::Result<Vec<String>> {
-    let arguments = env::args(rt)?;
+pub fn arguments(rt: &HostRuntime) -> io::Result<Vec<String>> {
+    let args = env::args(rt)?;
     // `collect` would go on where it gets no room beforehand
-    let mut words = Vec::with_capacity(rt.alloc(), arguments.len())?;
-    for word in arguments {
-        words.push(word)?;
+    let mut arguments = Vec::with_capacity(rt.alloc(), args.len())?;
+    for argument in args {
+        arguments.push(argument)?;
     }
-    Ok(words)
+    Ok(arguments)
 }

@@ -1,7 +1,7 @@
--- For `found::block_of`: what it returns is right.
+-- For `documents::block_of`: what it returns is right.
 use Rattle.std.proofs.Common.{inr, subst}
 use Rattle.der_elements.specs.Seek.{HasNoBlockAt}
-use Rattle.der_inputs.proofs.found.block_of.Goals as goal
+use Rattle.der_inputs.proofs.documents.block_of.Goals as goal
 
 pub returns : goal.returns
 returns c =
