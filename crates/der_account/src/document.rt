@@ -34,7 +34,7 @@ impl<'h, 'd> Signed<'h, 'd> {
     }
 }
 
-// The fields of a TBSCertificate (RFC 5280, section 4.1) that an account tells.
+// The fields of a TBSCertificate (RFC 5280, section 4.1) that an account shows.
 #[derive(Clone, Copy)]
 pub struct Certificate<'h, 'd> {
     serial: Node<'h, 'd>,
@@ -166,7 +166,7 @@ fn push_attribute(lines: &mut Lines<'_>, attribute: &Node<'_, '_>) -> Result<(),
     }
 }
 
-// The fields of a TBSCertList (RFC 5280, section 5.1) that an account tells.
+// The fields of a TBSCertList (RFC 5280, section 5.1) that an account shows.
 #[derive(Clone, Copy)]
 pub struct RevocationList<'h, 'd> {
     issuer: Node<'h, 'd>,

@@ -15,7 +15,7 @@ pub fn push_extensions(lines: &mut Lines<'_>, extensions: &Node<'_, '_>) -> Resu
     Ok(())
 }
 
-// Pushes the line of an extension, if it is one of those that an account tells.
+// Pushes the line of an extension, if it is one of those that an account shows.
 fn push_extension(lines: &mut Lines<'_>, extension: &Node<'_, '_>) -> Result<(), AllocError> {
     let parts = extension.items(lines.alloc)?;
     let (Some(identifier), Some(value)) = (parts.first(), parts.last()) else {
@@ -176,7 +176,7 @@ fn push_directory(
     }
 }
 
-// An otherName: its type, and no value, which only the type tells.
+// An otherName: its type, and no value, which has a meaning only by its type.
 fn push_other(lines: &Lines<'_>, name: &Node<'_, '_>, text: &mut String) -> Result<(), AllocError> {
     match name.inner(lines.alloc)? {
         Some(kind) if kind.is(IDENTIFIER) => {

@@ -1,6 +1,6 @@
 //! Short accounts of certificates, certification requests, lists of revoked certificates, and keys, for people.
 //!
-//! An account has a title, and a line for each thing that it tells, a label and a value:
+//! An account has a title, and a line for each thing that it shows, a label and a value:
 //!
 //! ```text
 //! certificate
@@ -18,6 +18,10 @@
 //! Names are written as RFC 4514 writes them. A document is known by its fields, and read by its headers: a certificate
 //! in which a value is malformed has an account as well.
 #![tactic(auto)]
+
+ghost use Rattle.std.specs.Prelude.{◌≡◌, ℕ, IfOk, IsNone, false};
+ghost use Rattle.asn1_headers.specs.Fault.{DecodeFault};
+ghost use Rattle.asn1_outline.specs.Shapes.{FirstHeaderFaultAt};
 
 mod document;
 mod extension;
@@ -38,18 +42,18 @@ use jiff::civil::DateTime;
 use sha2::{Digest, Sha256};
 use std::alloc::{AllocError, Global};
 
-/// What is said of a document.
+/// The account of a document.
 #[derive(Debug, Drop)]
 pub struct Account {
-    /// It is a document of a kind that is known.
+    /// The document is of a kind that is known.
     pub is_known: bool,
     /// The lines, of which the first is the title.
     pub lines: Vec<Line>,
 }
 
 /// The account of a document: a certificate, a certification request, a list of revoked certificates, or a key. Of
-/// other octets it is a line that says that they are none of these. If the time `now` is given, in UTC, it is told how
-/// many days are left.
+/// other octets it is a line that says that they are none of these; octets that are no encodings by their headers are
+/// among them. If the time `now` is given, in UTC, the account says how many days are left.
 ///
 /// It takes memory for the headers of the document.
 ///
@@ -60,7 +64,10 @@ pub fn account_of(
     names: &Names,
     octets: &[u8],
     now: Option<DateTime>,
-) -> Result<Account, AllocError> {
+) -> Result<Account, AllocError>
+    ensures unreadable { (fault : DecodeFault) (offset : ℕ) → FirstHeaderFaultAt octets.now fault offset
+        → IfOk result (λ account. account.is_known ≡ false) }
+{
     match known_account(alloc, names, octets, now)? {
         Some(lines) => Ok(Account {
             is_known: true,
@@ -71,10 +78,12 @@ pub fn account_of(
 }
 
 // The line that says that octets are of no kind that is known.
-fn unknown_account(alloc: Global) -> Result<Account, AllocError> {
+fn unknown_account(alloc: Global) -> Result<Account, AllocError>
+    ensures { IfOk result (λ account. account.is_known ≡ false) }
+{
     let mut lines = Vec::new(alloc);
-    let words = "! no certificate, certification request, list of revoked certificates or key";
-    lines.push(Line::shown(alloc, words)?)?;
+    let text = "! no certificate, certification request, list of revoked certificates or key";
+    lines.push(Line::shown(alloc, text)?)?;
     Ok(Account {
         is_known: false,
         lines,
@@ -87,7 +96,10 @@ fn known_account(
     names: &Names,
     octets: &[u8],
     now: Option<DateTime>,
-) -> Result<Option<Vec<Line>>, AllocError> {
+) -> Result<Option<Vec<Line>>, AllocError>
+    ensures { (fault : DecodeFault) (offset : ℕ) → FirstHeaderFaultAt octets.now fault offset
+        → IfOk result (λ lines. IsNone lines) }
+{
     let headers = match Headers::read(alloc, octets) {
         Ok(headers) => headers,
         Err(e) => return none_unless_memory(&e.error),
@@ -108,7 +120,9 @@ fn known_account(
 }
 
 // Octets that are no document have no account; only memory that ran out is an error.
-fn none_unless_memory(error: &ASN1DecodeErr) -> Result<Option<Vec<Line>>, AllocError> {
+fn none_unless_memory(error: &ASN1DecodeErr) -> Result<Option<Vec<Line>>, AllocError>
+    ensures { IfOk result (λ lines. IsNone lines) }
+{
     match error {
         ASN1DecodeErr::OutOfMemory => Err(AllocError),
         _ => Ok(None),

@@ -116,7 +116,7 @@ pub struct Fields<'h, 'd> {
 }
 
 impl<'h, 'd> Fields<'h, 'd> {
-    // Those of an encoding.
+    // The fields of an encoding.
     pub fn of(alloc: Global, node: &Node<'h, 'd>) -> Result<Fields<'h, 'd>, AllocError> {
         Ok(Fields {
             items: node.items(alloc)?,
@@ -125,7 +125,7 @@ impl<'h, 'd> Fields<'h, 'd> {
     }
 
     // The next field, whatever it is.
-    pub fn any(&mut self) -> Option<Node<'h, 'd>> {
+    pub fn take_any(&mut self) -> Option<Node<'h, 'd>> {
         let node = self.items.get(self.next).copied()?;
         self.next = self.next.saturating_add(1);
         Some(node)

@@ -11,10 +11,10 @@ use std::{env, io};
 
 const MEGABYTE: usize = 1_000_000;
 
-// From how many megabytes of an input on it is said how many were read.
+// From how many megabytes of an input on it is printed how many were read.
 const MANY: usize = 8;
 
-// Says what is wrong, with what is no printed character escaped, on a line of standard error.
+// Prints what is wrong, with what is no printed character escaped, on a line of standard error.
 pub fn print_error(rt: &HostRuntime, message: &str) {
     if let Ok(text) = escaped(rt.alloc(), message.as_bytes()) {
         let _ = eprintln!(rt; "{text}");

@@ -72,27 +72,27 @@ fn print_answer(rt: &HostRuntime, fault: &OptionsFault<'_>) -> u8 {
     }
 }
 
-// Whether a type that the options name is known; where it is not, says that it is none.
+// Whether a type that the options name is known; where it is not, prints that it is none.
 fn is_type_known(rt: &HostRuntime, type_name: Option<&str>) -> bool {
     let Some(name) = type_name else {
         return true;
     };
     let Ok(shapes) = Shapes::new(rt.alloc()) else {
-        tell_memory(rt, &StreamFault::Memory);
+        print_memory(rt, &StreamFault::Memory);
         return false;
     };
     if shapes.named(name).is_some() {
         return true;
     }
     match escaped(rt.alloc(), name.as_bytes()) {
-        Ok(name) => tell_type(rt, &name),
-        Err(_) => tell_memory(rt, &StreamFault::Memory),
+        Ok(name) => print_unknown_type(rt, &name),
+        Err(_) => print_memory(rt, &StreamFault::Memory),
     }
     false
 }
 
-// Says that a type is not known.
-fn tell_type(rt: &HostRuntime, name: &str) {
+// Prints that a type is not known.
+fn print_unknown_type(rt: &HostRuntime, name: &str) {
     if let Ok(message) = format!(in rt.alloc();
         "error: no type '{name}' is known: give one of an RFC, such as Certificate"
     ) {
@@ -108,32 +108,32 @@ fn own_names(rt: &HostRuntime, options: &Options<'_>) -> Option<OwnNames> {
     let text = match read_all(rt.alloc(), &mut HostReader::new(rt, file)) {
         Ok(text) => text,
         Err(fault) => {
-            tell_memory(rt, &fault);
+            print_memory(rt, &fault);
             return None;
         }
     };
     match OwnNames::read(rt.alloc(), &text) {
         Ok(own) => Some(own),
         Err(NamesFault::Line(number)) => {
-            tell_line(rt, file, number);
+            print_bad_line(rt, file, number);
             None
         }
         Err(NamesFault::Memory) => {
-            tell_memory(rt, &StreamFault::Memory);
+            print_memory(rt, &StreamFault::Memory);
             None
         }
     }
 }
 
-// Says that memory ran out; of any other fault the reader has told.
-fn tell_memory(rt: &HostRuntime, fault: &StreamFault) {
+// Prints that memory ran out. Any other fault was printed by the reader.
+fn print_memory(rt: &HostRuntime, fault: &StreamFault) {
     if *fault == StreamFault::Memory {
         let _ = eprintln!(rt; "{}", fault_text(fault));
     }
 }
 
-// Says which line of a file names no object identifiers.
-fn tell_line(rt: &HostRuntime, file: &str, number: usize) {
+// Prints which line of a file names no object identifiers.
+fn print_bad_line(rt: &HostRuntime, file: &str, number: usize) {
     if let Ok(message) = format!(in rt.alloc();
         "error: {file}: line {number}: not OID, Description or Comment"
     ) {
@@ -144,12 +144,12 @@ fn tell_line(rt: &HostRuntime, file: &str, number: usize) {
 // Does what the options want.
 fn answer(rt: &HostRuntime, options: &Options<'_>, own: OwnNames) -> u8 {
     let (Ok(mut sources), Ok(writer)) = (sources(rt, options), buffered(rt)) else {
-        tell_memory(rt, &StreamFault::Memory);
+        print_memory(rt, &StreamFault::Memory);
         return status(&Err(StreamFault::Memory));
     };
     let (outcome, mut writer) = run(rt.alloc(), options, own, now(rt), &mut sources, writer);
     match &outcome {
-        Ok(outcomes) => tell_lacking(rt, options, outcomes),
+        Ok(outcomes) => print_reasons(rt, options, outcomes),
         Err(fault) => {
             // what was written before memory ran out
             let _ = writer.flush();
@@ -174,8 +174,8 @@ fn buffered<'r>(rt: &'r HostRuntime) -> io::Result<BufWriter<HostWriter<'r>>> {
     BufWriter::with_capacity(rt.alloc(), BUFFER, HostWriter::new(rt))
 }
 
-// Says on standard error of which inputs nothing was written, and why.
-fn tell_lacking(rt: &HostRuntime, options: &Options<'_>, outcomes: &[Outcome]) {
+// Prints on standard error of which inputs nothing was written, and why.
+fn print_reasons(rt: &HostRuntime, options: &Options<'_>, outcomes: &[Outcome]) {
     for (name, outcome) in options.inputs.iter().zip(outcomes) {
         let Outcome::Lacking(why) = outcome else {
             continue;

@@ -1,6 +1,7 @@
 -- Segments of a string that are joined one after another, for `segments`.
 use Rattle.std.proofs.Common.{◌≡◌, ℕ, ◌+◌, ◌≤◌, ◌&&◌, ◌==◌, Bool, true, false, List, [], ◌∷◌, ◌++◌, drop, length, inl, inr}
 use Rattle.std.proofs.Common.{slice_range, refl, sym, ap, ◌∙◌, subst, arith}
+use Rattle.std.proofs.lemmas.Result.{IfOk-weaker}
 use Rattle.asn1_headers.specs.Front.{BeginsWithHeader, HasIndefiniteForm, IsAtFront}
 use Rattle.asn1_headers.specs.declared.front.Header.{Header}
 use Rattle.asn1_headers.specs.declared.header.ASN1Class.TheVariants.{Universal}
@@ -16,7 +17,7 @@ use Rattle.der_elements.specs.declared.cursor.End.{End}
 use Rattle.der_elements.specs.declared.cursor.Left.{Left}
 use Rattle.der_elements.specs.declared.cursor.Step.{Step}
 use Rattle.der_elements.specs.declared.cursor.Step.TheVariants.{Into, Out, Past}
-use Rattle.der_elements.proofs.Seeking.{BeginsWithHeader-some, BeginsWithHeader-unique, IfOk-every, is_stray_form-unique}
+use Rattle.der_elements.proofs.Seeking.{BeginsWithHeader-some, BeginsWithHeader-unique, is_stray_form-unique}
 
 -- segments that a cursor has yet to come to
 abbrev pub AreLeft : ℕ → Cursor → List ℕ → List ℕ → Type 0
@@ -523,7 +524,7 @@ pub IfOk-joins_bits :
     {E : Type 0} (r : Result Bool E) (tag : ℕ) (before segment : List ℕ) → tag ≡ 3 →
     IfOk r (λ done. done ≡ false → (after : List ℕ) → JoinsBits before segment after → ⊥) →
     IfOk r (λ done. done ≡ false → (after : List ℕ) → Joins tag before segment after → ⊥)
-IfOk-joins_bits r tag before segment e h = IfOk-every r each h
+IfOk-joins_bits r tag before segment e h = IfOk-weaker r _ _ each h
   where
     each :
         (done : Bool) → (done ≡ false → (after : List ℕ) → JoinsBits before segment after → ⊥) → done ≡ false →

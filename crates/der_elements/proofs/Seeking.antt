@@ -345,11 +345,6 @@ Reaches-itself o xs d a ys z (is_further b zs l (inside_element s n c k t before
 Reaches-itself o xs d a ys z (is_further b zs l (behind_indefinite s n c k t not h form p e f) at) =
     absurd (omega (arith, z, f, BeginsWithHeader-some xs s n c k t h))
 
--- what is so of a value is also otherwise
-pub IfOk-every : {A E : Type 0} {P Q : A → Type 0} (r : Result A E) → ((a : A) → P a → Q a) → IfOk r P → IfOk r Q
-IfOk-every (Ok a) f h = f a h
-IfOk-every (Err e) f h = tt
-
 -- what was found at the end of the way, or was not
 module _
     (xs left : List ℕ) (offset depth distance : ℕ) (here : distance ≡ 0)

@@ -51,6 +51,6 @@ pub data HasContents (element contents : List ℕ) : Type 0 where
       (HasIndefiniteForm element → ⊥) → StandsBehindHeader element contents → HasContents element contents
   of_indefinite_length : StandsBehindIndefinite element (contents ++ end_octets) → HasContents element contents
 
--- it has none
+-- the element has no contents octets
 abbrev pub HasNoContents : List ℕ → Type 0
 HasNoContents element = (contents : List ℕ) → HasContents element contents → ⊥

@@ -16,6 +16,6 @@ is_gone_into Universal false tag = tag == 16 || tag == 17
 is_gone_into class false tag = false
 
 -- a primitive encoding has length octets of the indefinite form, which only a constructed one may have (X.690 8.1.3.2).
--- They are read as a length of 0. The octets are those behind its identifier octets
+-- Such length octets are read as a length of 0. The octets are those behind the identifier octets
 abbrev pub is_stray_form : Bool → List ℕ → Bool
 is_stray_form constructed behind = not constructed && has_indefinite_length behind

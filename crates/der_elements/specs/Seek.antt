@@ -76,7 +76,7 @@ pub data Reaches : ℕ → List ℕ → ℕ → ℕ → List ℕ → Type 0 wher
       LeadsTo depth octets offset inside nearer later → Reaches inside nearer later around others →
       Reaches depth octets offset around others
 
--- this element begins at the offset, where no end-of-contents octets stand
+-- an element begins at the offset, where no end-of-contents octets stand
 pub record BeginsAt (octets : List ℕ) (offset : ℕ) (block : List ℕ) : Type 0 where
   pub around : ℕ
   pub others : List ℕ

@@ -68,6 +68,6 @@ abbrev pub AreSegmentsOf : ℕ → List ℕ → Bool → List ℕ → Type 0
 AreSegmentsOf tag contents indefinite joined =
     AreSegments tag contents 0 (end_at (length contents) indefinite ∷ []) (no_segments tag) joined
 
--- they are no segments to their end
+-- contents octets are no segments to their end
 abbrev pub HaveNoSegments : ℕ → List ℕ → Bool → Type 0
 HaveNoSegments tag contents indefinite = (joined : List ℕ) → AreSegmentsOf tag contents indefinite joined → ⊥

@@ -21,7 +21,7 @@ ends_of cursor = reverse cursor.ends.items
 abbrev pub to_go : Cursor → ℕ
 to_go cursor = 2 * (length cursor.octets.now - cursor.offset) + length cursor.ends.items
 
--- this is left of the innermost contents octets that are open; where they are of definite length, some octets
+-- what is left of the innermost contents octets that are open; where they are of definite length, some octets are
 pub record IsLeftOf (cursor : Cursor) (left : Left) : Type 0 where
   pub end : End
   pub around : List End
@@ -48,7 +48,7 @@ Goes (Past size) old new =
 Goes (Out size) old new =
     (new.octets.now ≡ old.octets.now) × (new.offset ≡ old.offset + size) × (ends_of new ≡ drop 1 (ends_of old))
 
--- it takes some octets of what is left, or leaves contents octets
+-- the step takes some octets of what is left, or leaves contents octets
 abbrev pub Takes : Step → Left → Type 0
 Takes (Into header size indefinite) left = (0 < header) × (0 < length left.octets.now)
 Takes (Past size) left = (0 < size) × (0 < length left.octets.now)

@@ -4,7 +4,7 @@ use Rattle.std.specs.Prelude.{None}
 use Rattle.std.proofs.lemmas.Bool.{le-ltb}
 use Rattle.der_forms.specs.Columns.{number_after}
 
-pub number_after-great : (is_octal : Bool) (n : ℕ) (digits : List ℕ) → 16777216 ≤ n → 0 < length digits
+pub number_after_great : (is_octal : Bool) (n : ℕ) (digits : List ℕ) → 16777216 ≤ n → 0 < length digits
     → number_after is_octal n digits ≡ None
-number_after-great is_octal n [] h some = absurd (omega (arith, some))
-number_after-great is_octal n (b ∷ digits) h some = rw (le-ltb n 16777216 h) refl
+number_after_great is_octal n [] h some = absurd (omega (arith, some))
+number_after_great is_octal n (b ∷ digits) h some = rw (le-ltb n 16777216 h) refl

@@ -7,7 +7,7 @@ use der_lines::Verdict;
 /// What was done with an input.
 #[derive(Debug, Drop, PartialEq)]
 pub enum Outcome {
-    /// What the options want was written. It says, too, what is rejected.
+    /// What the options want was written. The verdict says whether some of it is rejected.
     Written(Verdict),
     /// Nothing was written, for this reason: the bytes that the options want are not there.
     Lacking(String),

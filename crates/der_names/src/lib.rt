@@ -54,7 +54,7 @@ impl Names {
         Names::with(alloc, OwnNames::none(alloc))
     }
 
-    /// The same, behind other names.
+    /// The names that are built in, behind those of a user.
     ///
     /// # Errors
     /// Memory ran out.
@@ -69,7 +69,7 @@ impl Names {
         Ok(Names { rows, own, shapes })
     }
 
-    /// The name of an object identifier and the standard, or what else is said of it, by its components in decimal with
+    /// The name of an object identifier and the standard, or another comment on it, by its components in decimal with
     /// points between them.
     pub fn of(&self, number: &str) -> Option<(&str, &str)> {
         match self.own.of(number) {

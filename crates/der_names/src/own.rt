@@ -11,7 +11,7 @@ pub struct OwnNames {
     rows: Vec<OwnName>,
 }
 
-// A name, and what is said of it, which may be nothing.
+// A name, and a comment on it, which may be empty.
 #[derive(Debug, Drop)]
 struct OwnName {
     number: String,
@@ -63,7 +63,7 @@ impl OwnNames {
         Ok(OwnNames { rows })
     }
 
-    // The name of an object identifier, by its components in decimal with points between them, and what is said of it.
+    // The name of an object identifier, by its components in decimal with points between them, and the comment on it.
     pub(crate) fn of(&self, number: &str) -> Option<(&str, &str)> {
         match self
             .rows

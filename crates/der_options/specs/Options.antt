@@ -230,7 +230,7 @@ AsksForNothing rows (NoColor text) =
 AsksForNothing rows (NotTogether first second) =
     (are_exclusive first.now second.now ≡ true) × (are_both_given first.now second.now rows ≡ true)
 
--- what clap says
+-- the fault of the command, as clap has it
 abbrev pub by_command : Error → OptionsFault
 by_command e = Command e
 

@@ -1,7 +1,8 @@
 -- For `seek::block_at`: its loop keeps its invariant and what it returns is right (`none`, `why`, `found`).
 use Rattle.std.proofs.Common.{◌≡◌, arith}
+use Rattle.std.proofs.lemmas.Result.{IfOk-weaker}
 use Rattle.der_elements.specs.SeekSteps.{LeadsNowhere, LeadsOn}
-use Rattle.der_elements.proofs.Seeking.{IfErr-lacks_block, IfErr-no_block, IfOk-begins_at, IfOk-every, Reaches-leads, Reaches-nowhere}
+use Rattle.der_elements.proofs.Seeking.{IfErr-lacks_block, IfErr-no_block, IfOk-begins_at, Reaches-leads, Reaches-nowhere}
 use Rattle.der_elements.proofs.seek.block_at.Goals as goal
 
 pub loop-target-preserved : goal.loop-target-preserved
@@ -33,7 +34,7 @@ pub returns-clause-found : goal.returns-clause-found
 returns-clause-found c =
     let target = c.loop-target.target in
     let here : target.distance ≡ 0 = omega (arith, c.loop-target-test.false) in
-    IfOk-every c.block_here.result
+    IfOk-weaker c.block_here.result _ _
     (IfOk-begins_at c.args.octets.now target.octets.now c.args.offset target.depth target.distance here
     c.loop-target.invariant)
     c.block_here.ensures
@@ -42,7 +43,7 @@ pub returns-clause-none : goal.returns-clause-none
 returns-clause-none c =
     let target = c.loop-target.target in
     let here : target.distance ≡ 0 = omega (arith, c.loop-target-test.false) in
-    IfOk-every c.block_here.result
+    IfOk-weaker c.block_here.result _ _
     (IfErr-no_block c.args.octets.now target.octets.now c.args.offset target.depth target.distance here
     c.loop-target.invariant)
     c.block_here.ensures
@@ -51,7 +52,7 @@ pub returns-clause-why : goal.returns-clause-why
 returns-clause-why c =
     let target = c.loop-target.target in
     let here : target.distance ≡ 0 = omega (arith, c.loop-target-test.false) in
-    IfOk-every c.block_here.result
+    IfOk-weaker c.block_here.result _ _
     (IfErr-lacks_block c.args.octets.now target.octets.now c.args.offset target.depth target.distance here
     c.loop-target.invariant)
     c.block_here.ensures
