@@ -357,7 +357,7 @@ module _
   BeginsAt-element block no_end element = record {
     around = depth;
     others = left;
-    Reaches-offset = Reaches-offset;
+    reached = Reaches-offset;
     no_end = no_end;
     element = element;
   }

@@ -14,7 +14,7 @@ ghost use Rattle.der_io.specs.declared.StreamFault.TheVariants.{Memory as memory
 
 use crate::appended::Appended;
 use crate::before::Before;
-use crate::documents::{alone, block_of, contents_of, documents_of, value_of};
+use crate::documents::{block_of, contents_of, documents_of, one_document, value_of};
 use crate::outcome::{Outcome, greatest};
 use crate::show::Show;
 use der_io::{StreamFault, flush, read_all, write_part};
