@@ -1,4 +1,9 @@
 // Certificates, certification requests, revocation lists and keys, each by its fields.
+ghost use Rattle.std.specs.Prelude.{◌≡◌, IfOk, IfSome, is_some};
+ghost use Rattle.der_account.specs.Kinds.{inside, is_certificate, is_encrypted_key, is_key, is_plain_key, is_request};
+ghost use Rattle.der_account.specs.Kinds.{is_revocation_list, is_signed, is_validity};
+ghost use Rattle.der_account.specs.Places.{entries_around};
+
 use crate::extension::push_extensions;
 use crate::lines::Lines;
 use crate::name::name_text;
@@ -18,19 +23,19 @@ pub struct Signed<'h, 'd> {
 }
 
 impl<'h, 'd> Signed<'h, 'd> {
-    pub fn find(alloc: Global, first: &Node<'h, 'd>) -> Result<Option<Signed<'h, 'd>>, AllocError> {
-        let mut fields = Fields::of(alloc, first)?;
-        let parts = (
-            fields.take(SEQUENCE),
-            fields.take(SEQUENCE),
-            fields.take(BIT_STRING),
-        );
-        match parts {
-            (Some(content), Some(algorithm), Some(_)) if fields.is_at_end() => {
-                Ok(Some(Signed { content, algorithm }))
-            }
-            _ => Ok(None),
+    pub fn find(first: &Node<'h, 'd>) -> Option<Signed<'h, 'd>>
+        ensures found { is_some result ≡ is_signed (entries_around first.now) first.now.index }
+        ensures content { IfSome result (λ signed. (signed.content.headers.now ≡ first.now.headers.now)
+            × (signed.content.index ≡ (inside (entries_around first.now) first.now.index).next)) }
+    {
+        let mut fields = Fields::of(first);
+        let content = fields.take(SEQUENCE)?;
+        let algorithm = fields.take(SEQUENCE)?;
+        fields.take(BIT_STRING)?;
+        if !fields.is_at_end() {
+            return None;
         }
+        Some(Signed { content, algorithm })
     }
 }
 
@@ -47,43 +52,27 @@ pub struct Certificate<'h, 'd> {
 }
 
 impl<'h, 'd> Certificate<'h, 'd> {
-    pub fn find(
-        alloc: Global,
-        content: &Node<'h, 'd>,
-    ) -> Result<Option<Certificate<'h, 'd>>, AllocError> {
-        let mut fields = Fields::of(alloc, content)?;
+    pub fn find(content: &Node<'h, 'd>) -> Option<Certificate<'h, 'd>>
+        ensures { is_some result ≡ is_certificate (entries_around content.now) content.now.index }
+    {
+        let mut fields = Fields::of(content);
         fields.take_context(0);
-        let parts = (
-            fields.take(INTEGER),
-            fields.take(SEQUENCE),
-            fields.take(SEQUENCE),
-            fields.take(SEQUENCE),
-            fields.take(SEQUENCE),
-            fields.take(SEQUENCE),
-        );
-        let (Some(serial), Some(_), Some(issuer), Some(validity), Some(subject), Some(key)) = parts
-        else {
-            return Ok(None);
-        };
-        let mut times = Fields::of(alloc, &validity)?;
-        let (Some(not_before), Some(not_after)) = (times.take_time(), times.take_time()) else {
-            return Ok(None);
-        };
-        fields.take_context(1);
-        fields.take_context(2);
-        let extensions = match fields.take_context(3) {
-            Some(explicit) => explicit.inner(alloc)?,
-            None => None,
-        };
-        Ok(Some(Certificate {
+        let serial = fields.take(INTEGER)?;
+        fields.take(SEQUENCE)?;
+        let issuer = fields.take(SEQUENCE)?;
+        let validity = fields.take(SEQUENCE)?;
+        let subject = fields.take(SEQUENCE)?;
+        let key = fields.take(SEQUENCE)?;
+        let (not_before, not_after) = times_in(&validity)?;
+        Some(Certificate {
             serial,
             issuer,
             not_before,
             not_after,
             subject,
             key,
-            extensions,
-        }))
+            extensions: certificate_extensions(&mut fields),
+        })
     }
 
     pub fn push(&self, lines: &mut Lines<'_>, now: Option<DateTime>) -> Result<(), AllocError> {
@@ -104,6 +93,23 @@ impl<'h, 'd> Certificate<'h, 'd> {
     }
 }
 
+// The two times of a Validity.
+fn times_in<'h, 'd>(validity: &Node<'h, 'd>) -> Option<(Node<'h, 'd>, Node<'h, 'd>)>
+    ensures { is_some result ≡ is_validity (entries_around validity.now) validity.now.index }
+{
+    let mut times = Fields::of(validity);
+    let not_before = times.take_time()?;
+    let not_after = times.take_time()?;
+    Some((not_before, not_after))
+}
+
+// The extensions of a TBSCertificate, behind its key and its unique identifiers.
+fn certificate_extensions<'h, 'd>(fields: &mut Fields<'h, 'd>) -> Option<Node<'h, 'd>> {
+    fields.take_context(1);
+    fields.take_context(2);
+    fields.take_context(3)?.inner()
+}
+
 // The fields of a CertificationRequestInfo (RFC 2986, section 4.1).
 #[derive(Clone, Copy)]
 pub struct Request<'h, 'd> {
@@ -116,25 +122,22 @@ pub struct Request<'h, 'd> {
 const EXTENSION_REQUEST: &[u8] = &[0x2A, 0x86, 0x48, 0x86, 0xF7, 0x0D, 1, 9, 14];
 
 impl<'h, 'd> Request<'h, 'd> {
-    pub fn find(
-        alloc: Global,
-        content: &Node<'h, 'd>,
-    ) -> Result<Option<Request<'h, 'd>>, AllocError> {
-        let mut fields = Fields::of(alloc, content)?;
-        let parts = (
-            fields.take(INTEGER),
-            fields.take(SEQUENCE),
-            fields.take(SEQUENCE),
-        );
+    pub fn find(content: &Node<'h, 'd>) -> Option<Request<'h, 'd>>
+        ensures { is_some result ≡ is_request (entries_around content.now) content.now.index }
+    {
+        let mut fields = Fields::of(content);
+        fields.take(INTEGER)?;
+        let subject = fields.take(SEQUENCE)?;
+        let key = fields.take(SEQUENCE)?;
         let attributes = fields.take_context(0);
-        match parts {
-            (Some(_), Some(subject), Some(key)) if fields.is_at_end() => Ok(Some(Request {
-                subject,
-                key,
-                attributes,
-            })),
-            _ => Ok(None),
+        if !fields.is_at_end() {
+            return None;
         }
+        Some(Request {
+            subject,
+            key,
+            attributes,
+        })
     }
 
     pub fn push(&self, lines: &mut Lines<'_>) -> Result<(), AllocError> {
@@ -160,7 +163,7 @@ fn push_attribute(lines: &mut Lines<'_>, attribute: &Node<'_, '_>) -> Result<(),
     if kind.contents() != EXTENSION_REQUEST {
         return Ok(());
     }
-    match values.inner(lines.alloc)? {
+    match values.inner() {
         Some(extensions) => push_extensions(lines, &extensions),
         None => Ok(()),
     }
@@ -177,36 +180,21 @@ pub struct RevocationList<'h, 'd> {
 }
 
 impl<'h, 'd> RevocationList<'h, 'd> {
-    pub fn find(
-        alloc: Global,
-        content: &Node<'h, 'd>,
-    ) -> Result<Option<RevocationList<'h, 'd>>, AllocError> {
-        let mut fields = Fields::of(alloc, content)?;
+    pub fn find(content: &Node<'h, 'd>) -> Option<RevocationList<'h, 'd>>
+        ensures { is_some result ≡ is_revocation_list (entries_around content.now) content.now.index }
+    {
+        let mut fields = Fields::of(content);
         fields.take(INTEGER);
-        let parts = (
-            fields.take(SEQUENCE),
-            fields.take(SEQUENCE),
-            fields.take_time(),
-        );
-        let (Some(_), Some(issuer), Some(this_update)) = parts else {
-            return Ok(None);
-        };
-        let next_update = fields.take_time();
-        let revoked = match fields.take(SEQUENCE) {
-            Some(list) => list.item_count(),
-            None => 0,
-        };
-        let extensions = match fields.take_context(0) {
-            Some(explicit) => explicit.inner(alloc)?,
-            None => None,
-        };
-        Ok(Some(RevocationList {
+        fields.take(SEQUENCE)?;
+        let issuer = fields.take(SEQUENCE)?;
+        let this_update = fields.take_time()?;
+        Some(RevocationList {
             issuer,
             this_update,
-            next_update,
-            revoked,
-            extensions,
-        }))
+            next_update: fields.take_time(),
+            revoked: revoked_count(&mut fields),
+            extensions: list_extensions(&mut fields),
+        })
     }
 
     pub fn push(&self, lines: &mut Lines<'_>, now: Option<DateTime>) -> Result<(), AllocError> {
@@ -227,6 +215,18 @@ impl<'h, 'd> RevocationList<'h, 'd> {
     }
 }
 
+// How many certificates are revoked.
+fn revoked_count(fields: &mut Fields<'_, '_>) -> usize {
+    match fields.take(SEQUENCE) {
+        Some(list) => list.item_count(),
+        None => 0,
+    }
+}
+
+fn list_extensions<'h, 'd>(fields: &mut Fields<'h, 'd>) -> Option<Node<'h, 'd>> {
+    fields.take_context(0)?.inner()
+}
+
 fn push_name(lines: &mut Lines<'_>, label: &str, name: &Node<'_, '_>) -> Result<(), AllocError> {
     let text = name_text(lines.alloc, lines.names, name)?;
     lines.line(label, &text)
@@ -244,7 +244,9 @@ pub fn push_signature(lines: &mut Lines<'_>, algorithm: &Node<'_, '_>) -> Result
 }
 
 // Pushes the account of a key, and returns whether the encoding is one.
-pub fn push_key(lines: &mut Lines<'_>, first: &Node<'_, '_>) -> Result<bool, AllocError> {
+pub fn push_key(lines: &mut Lines<'_>, first: &Node<'_, '_>) -> Result<bool, AllocError>
+    ensures { IfOk result (λ known. known ≡ is_key (entries_around first.now) first.now.index) }
+{
     let alloc = lines.alloc;
     if let Some(text) = public_key_text(alloc, lines.names, first)? {
         lines.title("public key")?;
@@ -263,7 +265,9 @@ fn private_key_in(
     alloc: Global,
     lines: &Lines<'_>,
     first: &Node<'_, '_>,
-) -> Result<Option<String>, AllocError> {
+) -> Result<Option<String>, AllocError>
+    ensures { IfOk result (λ text. is_some text ≡ is_plain_key (entries_around first.now) first.now.index) }
+{
     if let Some(text) = private_key_text(alloc, lines.names, first)? {
         return Ok(Some(text));
     }
@@ -274,8 +278,10 @@ fn private_key_in(
 }
 
 // Pushes the account of an EncryptedPrivateKeyInfo (RFC 5958, section 3), and returns whether the encoding is one.
-fn push_encrypted(lines: &mut Lines<'_>, first: &Node<'_, '_>) -> Result<bool, AllocError> {
-    let mut fields = Fields::of(lines.alloc, first)?;
+fn push_encrypted(lines: &mut Lines<'_>, first: &Node<'_, '_>) -> Result<bool, AllocError>
+    ensures { IfOk result (λ known. known ≡ is_encrypted_key (entries_around first.now) first.now.index) }
+{
+    let mut fields = Fields::of(first);
     let (Some(algorithm), Some(_)) = (fields.take(SEQUENCE), fields.take(OCTET_STRING)) else {
         return Ok(false);
     };

@@ -27,9 +27,7 @@ fn push_extension(lines: &mut Lines<'_>, extension: &Node<'_, '_>) -> Result<(),
     let Ok(headers) = Headers::read(lines.alloc, value.contents()) else {
         return Ok(());
     };
-    let Some(value) = Node::first(&headers) else {
-        return Ok(());
-    };
+    let value = Node::first(&headers);
     match identifier.contents() {
         [0x55, 0x1D, 15] => push_key_usage(lines, &value),
         [0x55, 0x1D, 17] => push_names(lines, &value),
@@ -167,7 +165,7 @@ fn push_directory(
     name: &Node<'_, '_>,
     text: &mut String,
 ) -> Result<(), AllocError> {
-    match name.inner(lines.alloc)? {
+    match name.inner() {
         Some(inner) => {
             text.push_str("DirName:")?;
             text.push_str(&name_text(lines.alloc, lines.names, &inner)?)
@@ -178,7 +176,7 @@ fn push_directory(
 
 // An otherName: its type, and no value, which has a meaning only by its type.
 fn push_other(lines: &Lines<'_>, name: &Node<'_, '_>, text: &mut String) -> Result<(), AllocError> {
-    match name.inner(lines.alloc)? {
+    match name.inner() {
         Some(kind) if kind.is(IDENTIFIER) => {
             text.push_str("othername:")?;
             text.push_str(&identifier_text(lines.alloc, lines.names, &kind)?)

@@ -19,9 +19,12 @@
 //! in which a value is malformed has an account as well.
 #![tactic(auto)]
 
-ghost use Rattle.std.specs.Prelude.{◌≡◌, ℕ, IfOk, IsNone, false};
+ghost use Rattle.std.specs.Prelude.{◌≡◌, ℕ, IfOk, IsErr, IsNone, false, is_some};
 ghost use Rattle.asn1_headers.specs.Fault.{DecodeFault};
-ghost use Rattle.asn1_outline.specs.Shapes.{FirstHeaderFaultAt};
+ghost use Rattle.asn1_headers.specs.declared.error.ASN1DecodeErr.TheVariants.{OutOfMemory};
+ghost use Rattle.asn1_outline.specs.Shapes.{FirstHeaderFaultAt, HasShapes, Shapes, entries_of};
+ghost use Rattle.der_account.specs.Kinds.{is_known, is_known_at};
+ghost use Rattle.der_account.specs.Places.{entries_around};
 
 mod document;
 mod extension;
@@ -67,6 +70,8 @@ pub fn account_of(
 ) -> Result<Account, AllocError>
     ensures unreadable { (fault : DecodeFault) (offset : ℕ) → FirstHeaderFaultAt octets.now fault offset
         → IfOk result (λ account. account.is_known ≡ false) }
+    ensures kind { (all : Shapes) → HasShapes octets.now all
+        → IfOk result (λ account. account.is_known ≡ is_known (entries_of 0 0 all)) }
 {
     match known_account(alloc, names, octets, now)? {
         Some(lines) => Ok(Account {
@@ -97,16 +102,16 @@ fn known_account(
     octets: &[u8],
     now: Option<DateTime>,
 ) -> Result<Option<Vec<Line>>, AllocError>
-    ensures { (fault : DecodeFault) (offset : ℕ) → FirstHeaderFaultAt octets.now fault offset
+    ensures unreadable { (fault : DecodeFault) (offset : ℕ) → FirstHeaderFaultAt octets.now fault offset
         → IfOk result (λ lines. IsNone lines) }
+    ensures kind { (all : Shapes) → HasShapes octets.now all
+        → IfOk result (λ lines. is_some lines ≡ is_known (entries_of 0 0 all)) }
 {
     let headers = match Headers::read(alloc, octets) {
         Ok(headers) => headers,
         Err(e) => return none_unless_memory(&e.error),
     };
-    let Some(first) = Node::first(&headers) else {
-        return Ok(None);
-    };
+    let first = Node::first(&headers);
     let mut lines = Lines {
         alloc,
         names,
@@ -121,7 +126,8 @@ fn known_account(
 
 // Octets that are no document have no account; only memory that ran out is an error.
 fn none_unless_memory(error: &ASN1DecodeErr) -> Result<Option<Vec<Line>>, AllocError>
-    ensures { IfOk result (λ lines. IsNone lines) }
+    ensures none { IfOk result (λ lines. IsNone lines) }
+    ensures memory { error.now ≡ OutOfMemory → IsErr result }
 {
     match error {
         ASN1DecodeErr::OutOfMemory => Err(AllocError),
@@ -134,15 +140,17 @@ fn push_known(
     lines: &mut Lines<'_>,
     first: &Node<'_, '_>,
     now: Option<DateTime>,
-) -> Result<bool, AllocError> {
-    let Some(signed) = Signed::find(lines.alloc, first)? else {
+) -> Result<bool, AllocError>
+    ensures { IfOk result (λ known. known ≡ is_known_at (entries_around first.now) first.now.index) }
+{
+    let Some(signed) = Signed::find(first) else {
         return push_key(lines, first);
     };
-    if let Some(certificate) = Certificate::find(lines.alloc, &signed.content)? {
+    if let Some(certificate) = Certificate::find(&signed.content) {
         certificate.push(lines, now)?;
-    } else if let Some(list) = RevocationList::find(lines.alloc, &signed.content)? {
+    } else if let Some(list) = RevocationList::find(&signed.content) {
         list.push(lines, now)?;
-    } else if let Some(request) = Request::find(lines.alloc, &signed.content)? {
+    } else if let Some(request) = Request::find(&signed.content) {
         request.push(lines)?;
     } else {
         return Ok(false);

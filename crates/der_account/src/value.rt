@@ -1,4 +1,8 @@
 // Numbers, times, algorithms and keys, in a few words.
+ghost use Rattle.std.specs.Prelude.{◌≡◌, IfOk, is_some};
+ghost use Rattle.der_account.specs.Kinds.{is_ec_key, is_private_key, is_public_key, is_rsa_key};
+ghost use Rattle.der_account.specs.Places.{entries_around};
+
 use crate::name::{identifier_text, string_text};
 use crate::node::{
     BIT_STRING, Fields, GENERALIZED_TIME, IDENTIFIER, INTEGER, Node, OCTET_STRING, SEQUENCE,
@@ -111,7 +115,7 @@ pub fn algorithm_text(
     names: &Names,
     algorithm: &Node<'_, '_>,
 ) -> Result<String, AllocError> {
-    match algorithm.inner(alloc)? {
+    match algorithm.inner() {
         Some(identifier) if identifier.is(IDENTIFIER) => identifier_text(alloc, names, &identifier),
         _ => String::from_str(alloc, "?"),
     }
@@ -153,10 +157,7 @@ fn modulus_bits(alloc: Global, key: &[u8], before: usize) -> Result<Option<usize
     let Ok(headers) = Headers::read(alloc, key) else {
         return Ok(None);
     };
-    let Some(first) = Node::first(&headers) else {
-        return Ok(None);
-    };
-    let parts = first.items(alloc)?;
+    let parts = Node::first(&headers).items(alloc)?;
     match parts.get(before) {
         Some(modulus) if modulus.is(INTEGER) => Ok(Some(bit_count(modulus.contents()))),
         _ => Ok(None),
@@ -168,8 +169,10 @@ pub fn public_key_text(
     alloc: Global,
     names: &Names,
     key: &Node<'_, '_>,
-) -> Result<Option<String>, AllocError> {
-    let mut fields = Fields::of(alloc, key)?;
+) -> Result<Option<String>, AllocError>
+    ensures { IfOk result (λ text. is_some text ≡ is_public_key (entries_around key.now) key.now.index) }
+{
+    let mut fields = Fields::of(key);
     let (Some(algorithm), Some(bits)) = (fields.take(SEQUENCE), fields.take(BIT_STRING)) else {
         return Ok(None);
     };
@@ -185,8 +188,10 @@ pub fn private_key_text(
     alloc: Global,
     names: &Names,
     key: &Node<'_, '_>,
-) -> Result<Option<String>, AllocError> {
-    let mut fields = Fields::of(alloc, key)?;
+) -> Result<Option<String>, AllocError>
+    ensures { IfOk result (λ text. is_some text ≡ is_private_key (entries_around key.now) key.now.index) }
+{
+    let mut fields = Fields::of(key);
     let (Some(_), Some(algorithm), Some(octets)) = (
         fields.take(INTEGER),
         fields.take(SEQUENCE),
@@ -198,12 +203,10 @@ pub fn private_key_text(
 }
 
 // How many bits the modulus of an RSAPrivateKey has (RFC 8017, appendix A.1.2), if it is one.
-pub fn rsa_key_text(alloc: Global, key: &Node<'_, '_>) -> Result<Option<String>, AllocError> {
-    let parts = key.items(alloc)?;
-    if parts.len() < 9 || !parts.iter().take(9).all(|part| part.is(INTEGER)) {
-        return Ok(None);
-    }
-    match parts.get(1) {
+pub fn rsa_key_text(alloc: Global, key: &Node<'_, '_>) -> Result<Option<String>, AllocError>
+    ensures { IfOk result (λ text. is_some text ≡ is_rsa_key (entries_around key.now) key.now.index) }
+{
+    match modulus_in(key) {
         Some(modulus) => {
             let bits = bit_count(modulus.contents());
             Ok(Some(format!(in alloc; "RSA, {bits} bits")?))
@@ -212,20 +215,39 @@ pub fn rsa_key_text(alloc: Global, key: &Node<'_, '_>) -> Result<Option<String>,
     }
 }
 
+// The modulus of an RSAPrivateKey, between the version and the seven other numbers, if it is one.
+fn modulus_in<'h, 'd>(key: &Node<'h, 'd>) -> Option<Node<'h, 'd>>
+    ensures { is_some result ≡ is_rsa_key (entries_around key.now) key.now.index }
+{
+    let mut fields = Fields::of(key);
+    fields.take(INTEGER)?;
+    let modulus = fields.take(INTEGER)?;
+    fields.take(INTEGER)?;
+    fields.take(INTEGER)?;
+    fields.take(INTEGER)?;
+    fields.take(INTEGER)?;
+    fields.take(INTEGER)?;
+    fields.take(INTEGER)?;
+    fields.take(INTEGER)?;
+    Some(modulus)
+}
+
 // The curve of an ECPrivateKey (RFC 5915, section 3), if it is one.
 pub fn ec_key_text(
     alloc: Global,
     names: &Names,
     key: &Node<'_, '_>,
-) -> Result<Option<String>, AllocError> {
-    let mut fields = Fields::of(alloc, key)?;
+) -> Result<Option<String>, AllocError>
+    ensures { IfOk result (λ text. is_some text ≡ is_ec_key (entries_around key.now) key.now.index) }
+{
+    let mut fields = Fields::of(key);
     let (Some(_), Some(_)) = (fields.take(INTEGER), fields.take(OCTET_STRING)) else {
         return Ok(None);
     };
     let Some(parameters) = fields.take_context(0) else {
         return Ok(Some(String::from_str(alloc, "EC")?));
     };
-    match parameters.inner(alloc)? {
+    match parameters.inner() {
         Some(curve) if curve.is(IDENTIFIER) => {
             let curve = identifier_text(alloc, names, &curve)?;
             Ok(Some(format!(in alloc; "EC, {curve}")?))
