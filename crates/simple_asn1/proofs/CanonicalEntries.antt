@@ -30,7 +30,7 @@ use Rattle.asn1_outline.proofs.Entries.{length-entries, IsEntry-get_or}
 use Rattle.asn1_outline.proofs.Standing.{drop-contents, length-contents_le, drop-first, drop-rest}
 use Rattle.asn1_outline.proofs.Values.{slice_range-at_offset}
 use Rattle.simple_asn1.specs.Canonical.{all_canonical, canonical, shortest_encoding}
-use Rattle.simple_asn1.specs.Inner.InEntries.{HasCanonicalAt, HasShortestAt, IsCanonicalEncoding}
+use Rattle.simple_asn1.specs.Inner.InEntries.{BeginsCanonical, HasCanonicalAt, HasShortestAt, IsCanonicalEncoding}
 use Rattle.simple_asn1.specs.Inner.InPlace.{AreCanonicalContents}
 use Rattle.simple_asn1.proofs.InPlace.{BeginsShortest-of_size}
 
@@ -264,6 +264,21 @@ HasHeaderAt-within x r (y, at, h) = end-within x y h.contents r h.tag at h.conte
 -- an entry's header has two octets at least
 pub HasHeaderAt-two_le : (x : List ℕ) (r : Entry) → HasHeaderAt x r → 2 ≤ r.header
 HasHeaderAt-two_le x r (y, at, h) = header-two_le x y h.contents r h.tag at h.contents_field h.encoding
+
+-- where an entry's header stands, whatever encoding stands there is canonical
+pub HasCanonicalAt-front : (x : List ℕ) (r : Entry) → HasHeaderAt x r → BeginsCanonical (drop r.offset x) →
+    HasCanonicalAt x r.offset
+HasCanonicalAt-front x r (y, at, h) begins = record {
+  octets = y;
+  at_offset = at;
+  class = r.class;
+  constructed = r.constructed;
+  tag = h.tag;
+  contents = h.contents;
+  header = r.header;
+  encoding = h.encoding;
+  canonical = begins y at.rest r.class r.constructed h.tag h.contents r.header at.at_offset h.encoding;
+}
 
 -- a canonical encoding with the shortest header stands at an entry's offset
 HasCanonicalAt-shortest : (x : List ℕ) (r : Entry) → (s : HasShortestAt x r) →

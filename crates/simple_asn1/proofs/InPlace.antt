@@ -36,7 +36,7 @@ all_canonical-joined (more_trees b xs) ys =
     ∙ sym (append_assoc (canonical b) (all_canonical xs) (all_canonical ys))
 
 -- an encoding whose header is canonical, and what stands there in place of its contents octets
-record HasCanonicalFront (s contents own r rest : List ℕ) (c d : ASN1Class) (j k : Bool) (n p m : ℕ) : Type 0 where
+pub record HasCanonicalFront (s contents own r rest : List ℕ) (c d : ASN1Class) (j k : Bool) (n p m : ℕ) : Type 0 where
   pub encoding : s ≡ shortest_encoding d k p contents
   pub whole : contents ++ r ≡ own ++ rest
   pub size : length contents ≡ m
@@ -45,7 +45,7 @@ record HasCanonicalFront (s contents own r rest : List ℕ) (c d : ASN1Class) (j
   pub tag : n ≡ p
 
 -- the encoding at the front of octets that begin with a canonical header
-HasCanonicalFront-header :
+pub HasCanonicalFront-header :
     (x s r contents own rest : List ℕ) (c d : ASN1Class) (j k : Bool) (n p h m : ℕ) →
     x ≡ s ++ r → Encoding s c j n contents h → m < 2 ^ 64 →
     x ≡ shortest_identifier d k p ++ (shortest_length m ++ (own ++ rest)) →
@@ -102,8 +102,8 @@ AreCanonical-empty x none o (more_trees b bs) s =
     ))
 
 -- encodings of the same fields and contents octets are the same
-shortest_encoding-same_fields : (c d : ASN1Class) (j k : Bool) (m n : ℕ) (v w : List ℕ) → c ≡ d → j ≡ k → m ≡ n → v ≡ w
-    → shortest_encoding c j m v ≡ shortest_encoding d k n w
+pub shortest_encoding-same_fields : (c d : ASN1Class) (j k : Bool) (m n : ℕ) (v w : List ℕ) → c ≡ d → j ≡ k →
+    m ≡ n → v ≡ w → shortest_encoding c j m v ≡ shortest_encoding d k n w
 shortest_encoding-same_fields c d j k m n v w p q r s =
     ap (λ z. shortest_encoding z j m v) p ∙ (ap (λ z. shortest_encoding d z m v) q
     ∙ (ap (λ z. shortest_encoding d k z v) r ∙ ap (λ z. shortest_encoding d k n z) s))
@@ -440,9 +440,8 @@ LeavesBoth-primitive x rest own after h few f behind whole size other primitive 
     (λ not k. false≢true (sym primitive ∙ k)))
 
 -- octets that begin with a header of class Universal in two octets
-append-short_header : (x rest : List ℕ) (k : Bool) (b n m : ℕ) → n < 31 → b ≡ leading_octet Universal k n → m < 128 →
-    x ≡ b ∷ m ∷ rest
-    → x ≡ shortest_identifier Universal k n ++ (shortest_length m ++ rest)
+pub append-short_header : (x rest : List ℕ) (k : Bool) (b n m : ℕ) → n < 31 → b ≡ leading_octet Universal k n →
+    m < 128 → x ≡ b ∷ m ∷ rest → x ≡ shortest_identifier Universal k n ++ (shortest_length m ++ rest)
 append-short_header x rest k b n m low is short e =
     let ds = digits_of 256 m in
     e ∙ (ap (λ z. z ∷ m ∷ rest) is ∙ ap₂ (λ s t. s ++ (t ++ rest))

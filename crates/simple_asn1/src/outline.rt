@@ -11,6 +11,7 @@ ghost use Rattle.simple_asn1.specs.ReadBack.{CanonicalDocument};
 ghost use Rattle.simple_asn1.specs.Strict.{IsNotCanonicalAt, StrictFault};
 
 mod canonical;
+mod frequent;
 
 use crate::outline::canonical::are_canonical_by_entries;
 use crate::write::in_place::are_canonical_in_place;

@@ -1,13 +1,14 @@
 // A quick look at whether a document is canonical, over its entries: at each header, and at the contents octets of each
 // leaf.
-ghost use Rattle.std.specs.Prelude.{◌≡◌, ◌⊎◌, ℕ, ◌+◌, IsTrue, drop, slice_range};
+ghost use Rattle.std.specs.Prelude.{◌≡◌, ◌⊎◌, ℕ, ◌+◌, IsTrue, slice_range};
 ghost use Rattle.asn1_blocks.specs.Grammar.{IsDocument};
 ghost use Rattle.asn1_blocks.specs.Tree.{Trees};
 ghost use Rattle.asn1_outline.specs.Entries.{HasHeaderAt, IsOutline};
 ghost use Rattle.simple_asn1.specs.Canonical.{all_canonical};
 ghost use Rattle.simple_asn1.specs.Inner.InEntries.{HasCanonicalAt, HasShortestAt};
 
-use crate::write::in_place::{are_leaf_contents_canonical, begin_with_identifier};
+use crate::outline::frequent::begin_with_frequent;
+use crate::write::in_place::are_leaf_contents_canonical;
 use asn1_headers::header::{ASN1Class, length_size};
 use asn1_outline::entry::Entry;
 
@@ -24,9 +25,24 @@ pub(crate) fn are_canonical_by_entries(octets: &[u8], entries: &[Entry]) -> bool
     true
 }
 
-// Whether the encoding of the entry has the shortest header, and the contents octets that are written for a leaf.
+// Whether the encoding of the entry has the shortest header, and the contents octets that are written for a leaf. The
+// document is looked at first: its octets say in a few comparisons what the fields of the entry say in many.
 #[inline(always)]
 fn is_canonical(octets: &[u8], entry: &Entry) -> bool
+    requires { HasHeaderAt octets.now entry.now }
+    ensures { IsTrue result → HasCanonicalAt octets.now entry.now.offset }
+{
+    let (_, from) = octets.split_at(entry.offset);
+    if begin_with_frequent(from) {
+        return true;
+    }
+    is_canonical_by_fields(octets, entry)
+}
+
+// Whether the encoding of the entry has the shortest header, and the contents octets that are written for a leaf, by
+// the fields of the entry.
+#[inline(always)]
+fn is_canonical_by_fields(octets: &[u8], entry: &Entry) -> bool
     requires { HasHeaderAt octets.now entry.now }
     ensures { IsTrue result → HasCanonicalAt octets.now entry.now.offset }
 {
@@ -51,9 +67,6 @@ fn is_canonical_universal(octets: &[u8], entry: &Entry) -> bool
     }
     if entry.constructed {
         return false;
-    }
-    if entry.tag == 6 && begin_with_identifier(octets_from(octets, entry), entry.contents) {
-        return true;
     }
     are_leaf_contents_canonical(entry.tag, contents_in(octets, entry))
 }
@@ -94,14 +107,4 @@ fn contents_in<'a>(octets: &'a [u8], entry: &Entry) -> &'a [u8]
 {
     let start = entry.offset + entry.header;
     &octets[start..start + entry.contents]
-}
-
-// The contents octets of the entry, and all that follow.
-#[inline(always)]
-fn octets_from<'a>(octets: &'a [u8], entry: &Entry) -> &'a [u8]
-    requires { HasHeaderAt octets.now entry.now }
-    ensures { result.now ≡ drop (entry.now.offset + entry.now.header) octets.now }
-{
-    let (_, from) = octets.split_at(entry.offset + entry.header);
-    from
 }

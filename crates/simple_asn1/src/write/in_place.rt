@@ -90,6 +90,29 @@ pub(crate) fn begin_with_identifier(octets: &[u8], size: usize) -> bool
     are_80.to_bitmask() == 0
 }
 
+// Whether the contents octets of an INTEGER of two octets or more, and of less than 128, stand in front, and are the
+// fewest (X.690 8.3.2): the first nine bits are not all the same.
+#[inline(always)]
+pub(crate) fn begin_with_integer(octets: &[u8], size: u8) -> bool
+    ensures short { IsTrue result → size < 128 }
+    ensures canonical { IsTrue result
+        → AreCanonicalContents Universal false 2 (take size octets.now) }
+{
+    if size < 2 || size > 127 {
+        return false;
+    }
+    match octets {
+        [first, second, ..] => {
+            if *second < 128 {
+                *first != 0
+            } else {
+                *first != 0xFF
+            }
+        }
+        _ => false,
+    }
+}
+
 // Where octets begin with a header in its shortest form: octets, maybe none, that stand inside, and those that come
 // after. Those before are canonical if both are. Most headers are of class Universal, in two octets: these have code of
 // their own, and identifiers come first. A long tag number may take memory.
@@ -101,6 +124,9 @@ fn past_header<'a>(
     ensures { IfOk result (λ found. IfSome found (λ x. LeavesBoth octets.now x.0.now x.1.now)) }
 {
     if let Some(after) = past_identifier(octets) {
+        return Ok(Some((&[], after)));
+    }
+    if let Some(after) = past_integer(octets) {
         return Ok(Some((&[], after)));
     }
     match octets {
@@ -119,6 +145,25 @@ fn past_identifier<'a>(octets: &'a [u8]) -> Option<&'a [u8]>
     };
     let size = *length as usize;
     if !begin_with_identifier(rest, size) {
+        return None;
+    }
+    let (_, after) = rest.split_at(size);
+    Some(after)
+}
+
+// The octets after an INTEGER in front that is short and found to be canonical.
+#[inline(always)]
+fn past_integer<'a>(octets: &'a [u8]) -> Option<&'a [u8]>
+    ensures { IfSome result (λ after. LeavesBoth octets.now [] after.now) }
+{
+    let [0x02, length, rest @ ..] = octets else {
+        return None;
+    };
+    let size = *length as usize;
+    if size > rest.len() {
+        return None;
+    }
+    if !begin_with_integer(rest, *length) {
         return None;
     }
     let (_, after) = rest.split_at(size);

@@ -1,8 +1,13 @@
--- For `outline::canonical::is_canonical`: what it returns is right.
-use Rattle.simple_asn1.proofs.CanonicalEntries.{HasCanonicalAt-other_class}
+-- For `outline::canonical::is_canonical`: what it returns is right, and the entry's encoding is there.
+use Rattle.std.proofs.Common.{subst, arith}
+use Rattle.simple_asn1.specs.Inner.InEntries.{BeginsCanonical}
+use Rattle.simple_asn1.proofs.CanonicalEntries.{HasCanonicalAt-front, HasHeaderAt-within}
 use Rattle.simple_asn1.proofs.outline.canonical.is_canonical.Goals as goal
 
-pub returns-in_default : goal.returns-in_default
-returns-in_default c said =
-    HasCanonicalAt-other_class c.args.octets.now c.args.entry.now (c.is_shortest.ensures c.if-not-is_shortest.false)
-    c.in_default.not-Universal
+pub split_at-requires : goal.split_at-requires
+split_at-requires c = omega (arith, HasHeaderAt-within c.args.octets.now c.args.entry.now c.requires)
+
+pub returns-then-begin_with_frequent : goal.returns-then-begin_with_frequent
+returns-then-begin_with_frequent c said =
+    HasCanonicalAt-front c.args.octets.now c.args.entry.now c.requires
+    (subst BeginsCanonical c.split_at.ensures.back (c.begin_with_frequent.ensures c.if-begin_with_frequent.true))

@@ -1,0 +1,20 @@
+-- For `outline::frequent::is_frequent`: what it returns is right.
+use Rattle.std.proofs.Common.{◌≡◌, false, refl, subst, sym, take, arith}
+use Rattle.asn1_headers.specs.declared.header.ASN1Class.TheVariants.{Universal}
+use Rattle.simple_asn1.specs.Inner.InPlace.{AreCanonicalContents}
+use Rattle.simple_asn1.proofs.Frequent.{BeginsCanonical-leaf, BeginsCanonical-one_form}
+use Rattle.simple_asn1.proofs.outline.frequent.is_frequent.Goals as goal
+
+pub returns-then-has_one_form : goal.returns-then-has_one_form
+returns-then-has_one_form c said =
+    let rest = c.args.rest.now in
+    BeginsCanonical-one_form _ rest c.args.leading c.args.length (c.has_one_form.ensures c.if-has_one_form.true)
+    c.requires refl
+
+pub returns-then-leading-eq6 : goal.returns-then-leading-eq6
+returns-then-leading-eq6 c said =
+    let rest = c.args.rest.now in
+    let six : c.args.leading ≡ 6 = omega (arith, c.if-leading-eq6.true) in
+    let keeps = c.begin_with_identifier.ensures.canonical said in
+    BeginsCanonical-leaf _ rest c.args.leading c.args.length (omega (arith, six)) c.requires refl
+    (subst (λ n. AreCanonicalContents Universal false n (take c.args.length rest)) (sym six) keeps)
