@@ -3,7 +3,9 @@
 ghost use Rattle.std.specs.Prelude.{◌<◌, ◌∷◌, IsTrue};
 ghost use Rattle.simple_asn1.specs.Inner.InEntries.{BeginsCanonical, IsOfOneForm};
 
-use crate::write::in_place::{begin_with_identifier, begin_with_integer};
+use crate::write::in_place::{
+    are_leaf_contents_canonical, begin_with_identifier, begin_with_integer,
+};
 
 // So many octets have to stand in front. Then no pattern below has to look at how many there are.
 const ENOUGH: usize = 18;
@@ -31,6 +33,9 @@ fn is_frequent(leading: u8, length: u8, rest: &[u8]) -> bool
 {
     if has_one_form(leading) {
         return true;
+    }
+    if leading == 5 && length == 0 {
+        return are_leaf_contents_canonical(5, &[]);
     }
     leading == 6 && begin_with_identifier(rest, length as usize)
 }

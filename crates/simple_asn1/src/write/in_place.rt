@@ -115,7 +115,7 @@ pub(crate) fn begin_with_integer(octets: &[u8], size: u8) -> bool
 
 // Where octets begin with a header in its shortest form: octets, maybe none, that stand inside, and those that come
 // after. Those before are canonical if both are. Most headers are of class Universal, in two octets: these have code of
-// their own, and identifiers come first. A long tag number may take memory.
+// their own, and identifiers and INTEGERs come first. A long tag number may take memory.
 #[inline(always)]
 fn past_header<'a>(
     alloc: Global,

@@ -1,5 +1,6 @@
 -- For `outline::frequent::is_frequent`: what it returns is right.
 use Rattle.std.proofs.Common.{◌≡◌, false, refl, subst, sym, take, arith}
+use Rattle.std.proofs.lemmas.Bool.{eqb-true}
 use Rattle.asn1_headers.specs.declared.header.ASN1Class.TheVariants.{Universal}
 use Rattle.simple_asn1.specs.Inner.InPlace.{AreCanonicalContents}
 use Rattle.simple_asn1.proofs.Frequent.{BeginsCanonical-leaf, BeginsCanonical-one_form}
@@ -10,6 +11,16 @@ returns-then-has_one_form c said =
     let rest = c.args.rest.now in
     BeginsCanonical-one_form _ rest c.args.leading c.args.length (c.has_one_form.ensures c.if-has_one_form.true)
     c.requires refl
+
+pub returns-then-length-eq0 : goal.returns-then-length-eq0
+returns-then-length-eq0 c said =
+    let rest = c.args.rest.now in
+    let five : c.args.leading ≡ 5 = omega (arith, c.if-leading-eq5.true) in
+    let none : c.args.length ≡ 0 = omega (arith, c.if-length-eq0.true) in
+    BeginsCanonical-leaf _ rest c.args.leading c.args.length (omega (arith, five)) c.requires refl
+    (subst (λ n. AreCanonicalContents Universal false n (take c.args.length rest)) (sym five)
+    (subst (λ n. AreCanonicalContents Universal false 5 (take n rest)) (sym none)
+    (c.are_leaf_contents_canonical.ensures said)))
 
 pub returns-then-leading-eq6 : goal.returns-then-leading-eq6
 returns-then-leading-eq6 c said =
