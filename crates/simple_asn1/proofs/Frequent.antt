@@ -94,21 +94,22 @@ take-octets x n small k = elim (cases_lt k n) [
       subst (λ z. z < 256) (sym (get_or-eq_default (take n x) 0 (omega (arith, ge, length-take n x)))) (omega arith)
 ]
 
--- two contents octets of an INTEGER or more are canonical where the first of them is needed before the second
+-- contents octets of an INTEGER are canonical where the first is needed before the second, if there are two
 pub canonical_integer :
-    (x : List ℕ) (n : ℕ) → ((k : ℕ) → get_or x k 0 < 256) → 1 < n → 1 < length x →
-    get_or x 0 0 ≢ sign_before (get_or x 1 0) → AreCanonicalContents Universal false 2 (take n x)
+    (x : List ℕ) (n : ℕ) → ((k : ℕ) → get_or x k 0 < 256) → 0 < n → 0 < length x →
+    (1 < n → get_or x 0 0 ≢ sign_before (get_or x 1 0)) → AreCanonicalContents Universal false 2 (take n x)
 canonical_integer x n small some more needed =
     let v = take n x in
-    let first : get_or v 0 0 ≡ get_or x 0 0 = get_or-take n x 0 0 (omega (arith, some)) in
-    let second : get_or v 1 0 ≡ get_or x 1 0 = get_or-take n x 1 0 some in
+    let first : get_or v 0 0 ≡ get_or x 0 0 = get_or-take n x 0 0 some in
     let long : 0 < length v = omega (arith, length-take n x, some, more) in
-    let own : get_or v 0 0 ≢ sign_before (get_or v 1 0) = λ e.
-    needed (sym first ∙ e ∙ ap sign_before second) in
+    let own : 1 < length v → get_or v 0 0 ≢ sign_before (get_or v 1 0) = λ two e.
+    let several : 1 < n = omega (arith, length-take n x, two) in
+    let second : get_or v 1 0 ≡ get_or x 1 0 = get_or-take n x 1 0 several in
+    needed several (sym first ∙ e ∙ ap sign_before second) in
     record {
       no_group = λ u g e. is_leaf_tag-not_group_tag 2 g refl e;
       primitive = λ u l e. refl;
-      leaf = λ u l e p. integer_leaf v (λ m q. shortest_from v 0 long (take-octets x n small) (λ _. own)
+      leaf = λ u l e p. integer_leaf v (λ m q. shortest_from v 0 long (take-octets x n small) own
           ∙ ap shortest_octets (sym q)) l e p;
       within = λ other e. absurd (other refl);
     }

@@ -25,16 +25,18 @@ pub(crate) fn are_canonical_by_entries(octets: &[u8], entries: &[Entry]) -> bool
     true
 }
 
-// Whether the encoding of the entry has the shortest header, and the contents octets that are written for a leaf. The
-// document is looked at first: its octets say in a few comparisons what the fields of the entry say in many.
+// Whether the encoding of the entry has the shortest header, and the contents octets that are written for a leaf. Of a
+// header of two octets, the octets say in a few comparisons what the fields of the entry say in many.
 #[inline(always)]
 fn is_canonical(octets: &[u8], entry: &Entry) -> bool
     requires { HasHeaderAt octets.now entry.now }
     ensures { IsTrue result → HasCanonicalAt octets.now entry.now.offset }
 {
-    let (_, from) = octets.split_at(entry.offset);
-    if begin_with_frequent(from) {
-        return true;
+    if entry.header == 2 {
+        let (_, from) = octets.split_at(entry.offset);
+        if begin_with_frequent(from) {
+            return true;
+        }
     }
     is_canonical_by_fields(octets, entry)
 }

@@ -90,8 +90,8 @@ pub(crate) fn begin_with_identifier(octets: &[u8], size: usize) -> bool
     are_80.to_bitmask() == 0
 }
 
-// Whether the contents octets of an INTEGER of two octets or more, and of less than 128, stand in front, and are the
-// fewest (X.690 8.3.2): the first nine bits are not all the same.
+// Whether so many contents octets of an INTEGER stand in front, less than 128, and are the fewest (X.690 8.3.2): of two
+// or more, the first nine bits are not all the same.
 #[inline(always)]
 pub(crate) fn begin_with_integer(octets: &[u8], size: u8) -> bool
     ensures short { IsTrue result → size < 128 }
@@ -99,7 +99,7 @@ pub(crate) fn begin_with_integer(octets: &[u8], size: u8) -> bool
         → AreCanonicalContents Universal false 2 (take size octets.now) }
 {
     if size < 2 || size > 127 {
-        return false;
+        return size == 1 && !octets.is_empty();
     }
     match octets {
         [first, second, ..] => {

@@ -1,6 +1,5 @@
 -- For `outline::frequent::is_frequent`: what it returns is right.
 use Rattle.std.proofs.Common.{◌≡◌, false, refl, subst, sym, take, arith}
-use Rattle.std.proofs.lemmas.Bool.{eqb-true}
 use Rattle.asn1_headers.specs.declared.header.ASN1Class.TheVariants.{Universal}
 use Rattle.simple_asn1.specs.Inner.InPlace.{AreCanonicalContents}
 use Rattle.simple_asn1.proofs.Frequent.{BeginsCanonical-leaf, BeginsCanonical-one_form}
