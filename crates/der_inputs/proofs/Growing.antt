@@ -5,6 +5,10 @@ use Rattle.std.proofs.KnownBytes.{Appends-trans}
 use Rattle.std.specs.Io.KnownBytes.{Keeps, WriteAppends}
 use Rattle.der_inputs.specs.Growing.{Grows}
 
+pub Grows-refl : (a : Option (List ℕ)) → Grows a a
+Grows-refl None = ([], tt)
+Grows-refl (Some xs) = ([], sym (append-nil xs))
+
 pub Grows-trans : (a b c : Option (List ℕ)) → Grows a b → Grows b c → Grows a c
 Grows-trans a b c (more, first) (rest, next) = (more ++ rest, Appends-trans a b c more rest first next)
 

@@ -11,7 +11,7 @@ use Rattle.der_lines.specs.declared.document.Verdict.TheVariants.{AllRead, Refus
 abbrev pub IsReason : Members → List ℕ → Type 0
 IsReason origin text =
     (reason : List ℕ)
-    × (text ≡ line_text (refusal_json (record { code = None; offset = None; words = reason }) origin))
+    × (text ≡ line_text (refusal_json (record { code = None; offset = None; message = reason }) origin))
 
 abbrev pub is_all_read : Verdict → Bool
 is_all_read AllRead = true

@@ -4,7 +4,7 @@ ghost use Rattle.std.specs.Option.{option_map};
 ghost use Rattle.der_io.specs.Output.{IsWritten};
 ghost use Rattle.der_inputs.specs.Json.{IsJson, IsJsonOrRefusal, IsOctetsJson, IsReason, is_all_read};
 ghost use Rattle.der_inputs.specs.Parts.{finding_in, octets_in};
-ghost use Rattle.der_json.specs.Json.{told_of};
+ghost use Rattle.der_json.specs.Json.{origin_data};
 
 use crate::documents::Document;
 use crate::show::Show;
@@ -46,7 +46,7 @@ impl Show {
         out: &mut W,
     ) -> Result<Verdict, StreamFault>
         ensures { IfOk result (λ verdict. IsWritten (IsJsonOrRefusal self.now.is_strict (octets_in document.now.octets)
-            (told_of origin.entry) verdict) (W.contents out.old) (W.contents out.new)) }
+            (origin_data origin.entry) verdict) (W.contents out.old) (W.contents out.new)) }
     {
         match &document.octets {
             Ok(octets) => self.push_json_of(self.style_of(document), origin, octets, out),
@@ -65,8 +65,9 @@ impl Show {
         octets: &[u8],
         out: &mut W,
     ) -> Result<Verdict, StreamFault>
-        ensures { IfOk result (λ verdict. IsWritten (IsOctetsJson self.now.is_strict octets.now (told_of origin.entry)
-            verdict) (W.contents out.old) (W.contents out.new)) }
+        ensures { IfOk result (λ verdict.
+            IsWritten (IsOctetsJson self.now.is_strict octets.now (origin_data origin.entry) verdict)
+            (W.contents out.old) (W.contents out.new)) }
     {
         if self.is_strict {
             Ok(verdict_of(push_strict_json(self.alloc, &self.names, style, origin, octets, out)?))
@@ -94,7 +95,7 @@ fn push_reason<W: Write>(
     why: &str,
     out: &mut W,
 ) -> Result<(), StreamFault>
-    ensures { OnOk result (IsWritten (IsReason (told_of origin.entry)) (W.contents out.old) (W.contents out.new)) }
+    ensures { OnOk result (IsWritten (IsReason (origin_data origin.entry)) (W.contents out.old) (W.contents out.new)) }
 {
     let line = reason_line(alloc, origin, why)?;
     write_part(out, &line)?;
@@ -102,12 +103,12 @@ fn push_reason<W: Write>(
 }
 
 fn reason_line(alloc: Global, origin: Origin<'_>, why: &str) -> Result<Vec<u8>, AllocError>
-    ensures { IfOk result (λ line. IsReason (told_of origin.entry) line.items) }
+    ensures { IfOk result (λ line. IsReason (origin_data origin.entry) line.items) }
 {
     let fault = Fault {
         code: None,
         offset: None,
-        words: String::from_str(alloc, why)?,
+        message: String::from_str(alloc, why)?,
     };
     let mut line = Vec::new(alloc);
     push_refusal(alloc, origin, &fault, &mut line)?;

@@ -20,6 +20,7 @@ use der_lines::{Style, Verdict, push_document, push_label, push_refusal, push_st
 use der_names::{Names, OwnNames};
 use der_options::{Color, Options, Task};
 use der_rows::{Look, Printer};
+use der_shapes::Shapes;
 use jiff::civil::DateTime;
 use std::alloc::{AllocError, Global};
 use std::io::Write;
@@ -62,7 +63,7 @@ impl Show {
     ) -> Result<Show, AllocError>
         ensures { IfOk result (λ show. wanted_of show ≡ wanted_by options.now count) }
     {
-        let names = Names::with(alloc, own)?;
+        let names = Names::with(alloc, own)?.with_fields(shapes_for(alloc, options)?);
         let shape = match options.type_name {
             Some(name) => names.shapes.named(name),
             None => None,
@@ -348,6 +349,14 @@ fn both_verdicts(a: Verdict, b: Verdict) -> Verdict
     match a {
         Verdict::AllRead => b,
         Verdict::Refused => Verdict::Refused,
+    }
+}
+
+// The shapes by which fields are named. An account, octets and values name none.
+fn shapes_for(alloc: Global, options: &Options<'_>) -> Result<Shapes, AllocError> {
+    match options.task {
+        Task::Dump | Task::At(_) if !options.is_plain && !options.is_text => Shapes::new(alloc),
+        _ => Ok(Shapes::none(alloc)),
     }
 }
 

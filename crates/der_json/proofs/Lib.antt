@@ -3,4 +3,5 @@ pub mod Lines
 pub mod Members
 pub mod Pieces
 pub mod Tokens
+pub mod Values
 pub mod Walk

@@ -5,11 +5,11 @@ use Rattle.std.proofs.lemmas.List.{append_assoc, nil_from_length}
 use Rattle.serde_json.proofs.OnLiterals.{serde_json_on_literals}
 use Rattle.serde_json.specs.Data.{Members, array, member, no_members, object, string}
 use Rattle.serde_json.specs.Written.{compact_text, has_float, items_text}
-use Rattle.der_json.specs.Json.{Departed, Row, ToldFault, departed_json, fault_json, items_of, line_text, member_if, number_if, refusal_json}
+use Rattle.der_json.specs.Json.{Departed, Row, FaultData, departed_json, fault_json, items_of, line_text, member_if, number_if, refusal_json}
 use Rattle.std.proofs.lemmas.Bool.Decides.{nat_tests}
 use Rattle.der_json.specs.Json.{is_der, marks_text, row_json, rows_text}
 use Rattle.der_json.specs.declared.rows.Departure.{Departure}
-use Rattle.der_json.specs.Rows.{end_text, told_marks, told_text}
+use Rattle.der_json.specs.Rows.{end_text, departures_of, text_member}
 
 -- a text behind its name, and what follows it
 behind : (name text rest : List ℕ) → (name ++ text) ++ (rest ++ 10 ∷ []) ≡ (name ++ (text ++ rest)) ++ 10 ∷ []
@@ -20,7 +20,7 @@ behind name text rest =
 
 label_end :
     (label : Option (List ℕ)) →
-    told_text (codes ",\"label\":") label ++ codes "}\n"
+    text_member (codes ",\"label\":") label ++ codes "}\n"
     ≡ end_text (member_if (codes "label") label no_members) ++ 10 ∷ []
 unfolding serde_json_on_literals
 label_end None = refl
@@ -28,7 +28,7 @@ label_end (Some t) = behind (codes ",\"label\":") (compact_text (string t)) (125
 
 file_end :
     (file : Option (List ℕ)) (others : Members) (rest : List ℕ) → rest ≡ end_text others ++ 10 ∷ [] →
-    told_text (codes ",\"file\":") file ++ rest ≡ end_text (member_if (codes "file") file others) ++ 10 ∷ []
+    text_member (codes ",\"file\":") file ++ rest ≡ end_text (member_if (codes "file") file others) ++ 10 ∷ []
 unfolding serde_json_on_literals
 file_end None others rest e = e
 file_end (Some t) others rest e =
@@ -38,7 +38,7 @@ file_end (Some t) others rest e =
 -- both texts, and the end of the line
 pub origin_end :
     (file label : Option (List ℕ)) →
-    told_text (codes ",\"file\":") file ++ (told_text (codes ",\"label\":") label ++ codes "}\n")
+    text_member (codes ",\"file\":") file ++ (text_member (codes ",\"label\":") label ++ codes "}\n")
     ≡ end_text (member_if (codes "file") file (member_if (codes "label") label no_members)) ++ 10 ∷ []
 origin_end file label = file_end file (member_if (codes "label") label no_members) _ (label_end label)
 
@@ -58,7 +58,7 @@ marks_line origin marks =
     ap (λ z. codes "{\"not_der\":[" ++ z)
     (sym (append_assoc (items_text false (items_of departed_json marks)) (end_text origin) (10 ∷ [])))
 
-pub refusal_line : (origin : Members) (fault : ToldFault)
+pub refusal_line : (origin : Members) (fault : FaultData)
     → codes "{\"fault\":" ++ (compact_text (fault_json fault) ++ (end_text origin ++ 10 ∷ []))
     ≡ compact_text (refusal_json fault origin) ++ 10 ∷ []
 unfolding serde_json_on_literals
@@ -74,8 +74,8 @@ fault_exact_of None (Some n) words = refl
 fault_exact_of (Some c) None words = refl
 fault_exact_of (Some c) (Some n) words = refl
 
-pub fault_exact : (fault : ToldFault) → has_float (fault_json fault) ≡ false
-fault_exact fault = fault_exact_of fault.code fault.offset fault.words
+pub fault_exact : (fault : FaultData) → has_float (fault_json fault) ≡ false
+fault_exact fault = fault_exact_of fault.code fault.offset fault.message
 
 none_of : (n : ℕ) → (n == 0) ≡ true → n ≡ 0
 none_of n e = grind (arith, nat_tests)
@@ -86,15 +86,15 @@ some_of n e = grind (arith, nat_tests)
 -- the line of marks, where there are none, and some
 pub no_marks :
     (faults : List Departure) (origin : Members) → (length faults == 0) ≡ true →
-    (true ≡ is_der (told_marks faults)) × (marks_text (told_marks faults) origin ≡ [])
+    (true ≡ is_der (departures_of faults)) × (marks_text (departures_of faults) origin ≡ [])
 no_marks [] origin e = (refl, refl)
 no_marks (x ∷ xs) origin e = let none = none_of (length (x ∷ xs)) e in absurd (omega (arith, none))
 
 pub some_marks :
     (faults : List Departure) (origin : Members) → (length faults == 0) ≡ false →
-    (false ≡ is_der (told_marks faults))
-    × (marks_text (told_marks faults) origin
-    ≡ line_text (object (member (codes "not_der") (array (items_of departed_json (told_marks faults))) origin)))
+    (false ≡ is_der (departures_of faults))
+    × (marks_text (departures_of faults) origin
+    ≡ line_text (object (member (codes "not_der") (array (items_of departed_json (departures_of faults))) origin)))
 some_marks [] origin e = let some = some_of 0 e in absurd (omega (arith, some))
 some_marks (x ∷ xs) origin e = (refl, refl)
 

@@ -6,9 +6,9 @@ use Rattle.std.specs.Prelude.{Option, None, Some}
 use Rattle.serde_json.specs.Data.{Data, Items, Members, number, string, unsigned}
 use Rattle.serde_json.specs.View.{view}
 use Rattle.serde_json.specs.Written.{compact_text, items_text, members_text}
-use Rattle.der_pieces.specs.Marks.{Told}
-use Rattle.der_json.specs.Json.{Departed, ToldFault, items_of, rule_json, blocks_if, boolean_or_null, number_or_null, text_or_null, fault_if, member_if, row_json, rules_if}
-use Rattle.der_json.specs.Rows.{blocks_text, fault_text, first_members, last_members, row_of, rules_text, told_text}
+use Rattle.der_pieces.specs.Marks.{Breach}
+use Rattle.der_json.specs.Json.{Departed, FaultData, items_of, rule_json, blocks_if, boolean_or_null, number_or_null, text_or_null, fault_if, member_if, row_json, rules_if}
+use Rattle.der_json.specs.Rows.{blocks_text, fault_text, first_members, last_members, row_of, rules_text, text_member}
 use Rattle.der_json.specs.declared.object.Object.{Object}
 
 -- one text put after another
@@ -42,14 +42,14 @@ blocks_end None = refl
 blocks_end (Some items) = refl
 
 fault_end :
-    (fault : Option ToldFault) (others : Members) (rest : List ℕ) → rest ≡ members_text true others →
+    (fault : Option FaultData) (others : Members) (rest : List ℕ) → rest ≡ members_text true others →
     fault_text fault ++ rest ≡ members_text true (fault_if fault others)
 unfolding serde_json_on_literals
 fault_end None others rest e = e
 fault_end (Some f) others rest e = ap (λ z. fault_text (Some f) ++ z) e
 
 not_der_end :
-    (told : List Told) (others : Members) (rest : List ℕ) → rest ≡ members_text true others →
+    (told : List Breach) (others : Members) (rest : List ℕ) → rest ≡ members_text true others →
     rules_text told ++ rest ≡ members_text true (rules_if told others)
 unfolding serde_json_on_literals
 not_der_end [] others rest e = e
@@ -57,44 +57,44 @@ not_der_end (t ∷ more) others rest e = ap (λ z. rules_text (t ∷ more) ++ z)
 
 shown_end :
     (words : Option (List ℕ)) (others : Members) (rest : List ℕ) → rest ≡ members_text true others →
-    told_text (codes ",\"shown\":") words ++ rest ≡ members_text true (member_if (codes "shown") words others)
+    text_member (codes ",\"shown\":") words ++ rest ≡ members_text true (member_if (codes "shown") words others)
 unfolding serde_json_on_literals
 shown_end None others rest e = e
 shown_end (Some t) others rest e = ap (λ z. (codes ",\"shown\":" ++ compact_text (string t)) ++ z) e
 
 octets_end :
     (words : Option (List ℕ)) (others : Members) (rest : List ℕ) → rest ≡ members_text true others →
-    told_text (codes ",\"octets\":") words ++ rest ≡ members_text true (member_if (codes "octets") words others)
+    text_member (codes ",\"octets\":") words ++ rest ≡ members_text true (member_if (codes "octets") words others)
 unfolding serde_json_on_literals
 octets_end None others rest e = e
 octets_end (Some t) others rest e = ap (λ z. (codes ",\"octets\":" ++ compact_text (string t)) ++ z) e
 
 name_end :
     (words : Option (List ℕ)) (others : Members) (rest : List ℕ) → rest ≡ members_text true others →
-    told_text (codes ",\"name\":") words ++ rest ≡ members_text true (member_if (codes "name") words others)
+    text_member (codes ",\"name\":") words ++ rest ≡ members_text true (member_if (codes "name") words others)
 unfolding serde_json_on_literals
 name_end None others rest e = e
 name_end (Some t) others rest e = ap (λ z. (codes ",\"name\":" ++ compact_text (string t)) ++ z) e
 
 field_end :
     (words : Option (List ℕ)) (others : Members) (rest : List ℕ) → rest ≡ members_text true others →
-    told_text (codes ",\"field\":") words ++ rest ≡ members_text true (member_if (codes "field") words others)
+    text_member (codes ",\"field\":") words ++ rest ≡ members_text true (member_if (codes "field") words others)
 unfolding serde_json_on_literals
 field_end None others rest e = e
 field_end (Some t) others rest e = ap (λ z. (codes ",\"field\":" ++ compact_text (string t)) ++ z) e
 
 type_end :
     (words : Option (List ℕ)) (others : Members) (rest : List ℕ) → rest ≡ members_text true others →
-    told_text (codes ",\"of\":") words ++ rest ≡ members_text true (member_if (codes "of") words others)
+    text_member (codes ",\"of\":") words ++ rest ≡ members_text true (member_if (codes "of") words others)
 unfolding serde_json_on_literals
 type_end None others rest e = e
 type_end (Some t) others rest e = ap (λ z. (codes ",\"of\":" ++ compact_text (string t)) ++ z) e
 
 -- the members that not every object has behind its names, and the closing bracket
 others_end :
-    (name shown octets : Option (List ℕ)) (told : List Told) (fault : Option ToldFault) (inside : Option Items) →
-    (told_text (codes ",\"name\":") name ++ (told_text (codes ",\"shown\":") shown
-    ++ (told_text (codes ",\"octets\":") octets
+    (name shown octets : Option (List ℕ)) (told : List Breach) (fault : Option FaultData) (inside : Option Items) →
+    (text_member (codes ",\"name\":") name ++ (text_member (codes ",\"shown\":") shown
+    ++ (text_member (codes ",\"octets\":") octets
     ++ (rules_text told ++ fault_text fault)))) ++ (blocks_text inside ++ 125 ∷ [])
     ≡ members_text true (member_if (codes "name") name (member_if (codes "shown") shown
     (member_if (codes "octets") octets (rules_if told (fault_if fault (blocks_if inside))))))
@@ -105,9 +105,9 @@ others_end name shown octets told fault inside =
     let marked = not_der_end told (fault_if fault (blocks_if inside)) _ last in
     let digits = octets_end octets rules _ marked in
     let beside = shown_end shown (member_if (codes "octets") octets rules) _ digits in
-    let n = told_text (codes ",\"name\":") name in
-    let s = told_text (codes ",\"shown\":") shown in
-    let o = told_text (codes ",\"octets\":") octets in
+    let n = text_member (codes ",\"name\":") name in
+    let s = text_member (codes ",\"shown\":") shown in
+    let o = text_member (codes ",\"octets\":") octets in
     let d = rules_text told in
     let f = fault_text fault in
     joined_front n (s ++ (o ++ (d ++ f))) end (s ++ (o ++ (d ++ (f ++ end))))
@@ -117,22 +117,22 @@ others_end name shown octets told fault inside =
 
 -- so with the names of its field
 named_end :
-    (field of name shown octets : Option (List ℕ)) (told : List Told) (fault : Option ToldFault)
+    (field of name shown octets : Option (List ℕ)) (told : List Breach) (fault : Option FaultData)
     (inside : Option Items) →
-    (told_text (codes ",\"field\":") field ++ (told_text (codes ",\"of\":") of
-    ++ (told_text (codes ",\"name\":") name ++ (told_text (codes ",\"shown\":") shown
-    ++ (told_text (codes ",\"octets\":") octets
+    (text_member (codes ",\"field\":") field ++ (text_member (codes ",\"of\":") of
+    ++ (text_member (codes ",\"name\":") name ++ (text_member (codes ",\"shown\":") shown
+    ++ (text_member (codes ",\"octets\":") octets
     ++ (rules_text told ++ fault_text fault)))))) ++ (blocks_text inside ++ 125 ∷ [])
     ≡ members_text true (member_if (codes "field") field (member_if (codes "of") of
     (member_if (codes "name") name (member_if (codes "shown") shown
     (member_if (codes "octets") octets (rules_if told (fault_if fault (blocks_if inside))))))))
 named_end field of name shown octets told fault inside =
     let end = blocks_text inside ++ 125 ∷ [] in
-    let f = told_text (codes ",\"field\":") field in
-    let t = told_text (codes ",\"of\":") of in
+    let f = text_member (codes ",\"field\":") field in
+    let t = text_member (codes ",\"of\":") of in
     let o =
-    told_text (codes ",\"name\":") name ++ (told_text (codes ",\"shown\":") shown
-    ++ (told_text (codes ",\"octets\":") octets ++ (rules_text told ++ fault_text fault))) in
+    text_member (codes ",\"name\":") name ++ (text_member (codes ",\"shown\":") shown
+    ++ (text_member (codes ",\"octets\":") octets ++ (rules_text told ++ fault_text fault))) in
     let others =
     member_if (codes "name") name (member_if (codes "shown") shown
     (member_if (codes "octets") octets (rules_if told (fault_if fault (blocks_if inside))))) in
@@ -167,7 +167,7 @@ object_text object inside marks =
     let row = row_of object inside marks in
     nine_front m0 m1 m2 m3 m4 m5 m6 m7 m8 (last_members object ++ (blocks_text inside ++ 125 ∷ []))
     ∙ ap (λ z. m0 ++ (m1 ++ (m2 ++ (m3 ++ (m4 ++ (m5 ++ (m6 ++ (m7 ++ (m8 ++ z)))))))))
-    (named_end row.field row.of_type row.name row.beside row.octets row.not_der row.fault inside)
+    (named_end row.field row.of_type row.name row.shown row.octets row.not_der row.fault inside)
 
 -- the member of blocks
 pub blocks_put :
@@ -178,13 +178,13 @@ blocks_put out a b items d e = put_after out (codes ",\"blocks\":[") (items_text
 
 -- the member of the rules that are broken
 pub rules_put :
-    (out a b : List ℕ) (told : List Told) → 0 < length told → a ≡ out ++ codes ",\"not_der\":[" →
+    (out a b : List ℕ) (told : List Breach) → 0 < length told → a ≡ out ++ codes ",\"not_der\":[" →
     b ≡ a ++ items_text false (items_of rule_json told) → b ≡ out ++ rules_text told
 unfolding serde_json_on_literals
 rules_put out a b [] some d e = absurd (omega (arith, some))
 rules_put out a b (t ∷ more) some d e =
     put_after out (codes ",\"not_der\":[") (items_text false (items_of rule_json (t ∷ more))) a b d e
 
-pub no_rules : (told : List Told) → length told ≡ 0 → rules_text told ≡ []
+pub no_rules : (told : List Breach) → length told ≡ 0 → rules_text told ≡ []
 no_rules [] e = refl
 no_rules (x ∷ told) e = absurd (omega (arith, e))

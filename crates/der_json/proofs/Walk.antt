@@ -13,17 +13,17 @@ use Rattle.serde_json.specs.Written.{comma_if, compact_text, items_text}
 use Rattle.der_pieces.specs.Fronts.{AreFrontsOf, Front, StandAt}
 use Rattle.der_pieces.specs.Pieces.{Passes, fault_offset, front_of, kind_contents, kind_header}
 use Rattle.der_pieces.specs.Steps.{IsAhead}
-use Rattle.der_pieces.specs.declared.faults.Fault.{Fault as PieceFault}
+use Rattle.der_contents.specs.declared.faults.Fault.{Fault as PieceFault}
 use Rattle.der_pieces.specs.declared.nested.Nested.{Nested}
 use Rattle.der_pieces.specs.declared.piece.Piece.{Piece}
 use Rattle.der_pieces.specs.declared.place.Place.{Place}
 use Rattle.der_pieces.specs.declared.walk.Walk.{Walk}
-use Rattle.der_json.specs.Json.{AreInside, AreRows, Departed, IsInside, IsRow, Row, ToldFault, earlier_of, fault_offsets, fault_told}
-use Rattle.der_json.specs.Json.{first_fault, items_of, mark_of, marks_at, marks_of, row_json, told_offset}
-use Rattle.der_json.specs.Rows.{AreRowsAt, IsArray, IsNestedJson, IsObject, found_marks, row_of, texts, told_at}
-use Rattle.der_pieces.specs.Marks.{are_some, told_of}
+use Rattle.der_json.specs.Json.{AreInside, AreRows, Departed, IsInside, IsRow, Row, FaultData, earlier_of, fault_offsets, fault_data}
+use Rattle.der_json.specs.Json.{first_fault, items_of, mark_of, marks_at, marks_of, row_json, data_offset}
+use Rattle.der_json.specs.Rows.{AreRowsAt, IsArray, IsNestedJson, IsObject, found_departures, row_of, texts, placed_data}
+use Rattle.der_pieces.specs.Marks.{are_some, breach_of}
 use Rattle.der_json.specs.declared.object.Object.{Object}
-use Rattle.der_json.specs.declared.rows.Found.{Found}
+use Rattle.der_json.specs.declared.rows.Problems.{Problems}
 use Rattle.der_json.proofs.Arrays.{all_texts, one_text, some_more}
 use Rattle.der_json.proofs.Pieces.{fault_there}
 
@@ -49,7 +49,7 @@ abbrev IsRowAt : Place → List ℕ → Front → Row → Type 0
 IsRowAt place octets = IsRow (AreInside place.documents) place.is_inside octets place.base place.depth
 
 -- what was put up to where the walk is
-pub record RowsTo (place : Place) (octets : List ℕ) (walk : Walk) (later : Bool) (found : Found)
+pub record RowsTo (place : Place) (octets : List ℕ) (walk : Walk) (later : Bool) (found : Problems)
     (a b : Option (List ℕ)) : Type 0 where
   pub fronts : List Front
   pub faults : List ℕ
@@ -61,16 +61,16 @@ pub record RowsTo (place : Place) (octets : List ℕ) (walk : Walk) (later : Boo
   pub told : AllZip (IsRowAt place octets) fronts rows
   pub faults_are : fault_offsets rows ≡ map (λ z. place.base + z) faults
   pub some : later ≡ are_some rows
-  pub marks_are : found_marks found ≡ marks_of rows
-  pub first_is : option_map fault_told found.first ≡ first_fault rows
+  pub marks_are : found_departures found ≡ marks_of rows
+  pub first_is : option_map fault_data found.first ≡ first_fault rows
   pub text_is : Appends a b (texts row_json false rows)
 
 pub rows_none :
-    (place : Place) (octets : List ℕ) (walk : Walk) (found : Found) (a : Option (List ℕ)) →
+    (place : Place) (octets : List ℕ) (walk : Walk) (found : Problems) (a : Option (List ℕ)) →
     walk.cursor.octets.now ≡ octets →
     walk.place ≡ place →
     ((fronts : List Front) (faults : List ℕ) → IsAhead walk.cursor fronts faults → AreFrontsOf octets fronts faults) →
-    found_marks found ≡ [] → option_map fault_told found.first ≡ None → RowsTo place octets walk false found a a
+    found_departures found ≡ [] → option_map fault_data found.first ≡ None → RowsTo place octets walk false found a a
 rows_none place octets walk found a o p ahead none no_fault = record {
   fronts = [];
   faults = [];
@@ -91,17 +91,17 @@ marks_more [] r = append-nil (mark_of r)
 marks_more (x ∷ xs) r =
     ap (λ z. mark_of x ++ z) (marks_more xs r) ∙ sym (append_assoc (mark_of x) (marks_of xs) (mark_of r))
 
-offsets_more : (rs : List Row) (r : Row) → fault_offsets (rs ++ r ∷ []) ≡ fault_offsets rs ++ told_offset r.fault
-offsets_more [] r = append-nil (told_offset r.fault)
+offsets_more : (rs : List Row) (r : Row) → fault_offsets (rs ++ r ∷ []) ≡ fault_offsets rs ++ data_offset r.fault
+offsets_more [] r = append-nil (data_offset r.fault)
 offsets_more (x ∷ xs) r =
-    ap (λ z. told_offset x.fault ++ z) (offsets_more xs r)
-    ∙ sym (append_assoc (told_offset x.fault) (fault_offsets xs) (told_offset r.fault))
+    ap (λ z. data_offset x.fault ++ z) (offsets_more xs r)
+    ∙ sym (append_assoc (data_offset x.fault) (fault_offsets xs) (data_offset r.fault))
 
-earlier_after : (a b c : Option ToldFault) → earlier_of (earlier_of a b) c ≡ earlier_of a (earlier_of b c)
+earlier_after : (a b c : Option FaultData) → earlier_of (earlier_of a b) c ≡ earlier_of a (earlier_of b c)
 earlier_after None b c = refl
 earlier_after (Some x) b c = refl
 
-earlier_none : (a : Option ToldFault) → a ≡ earlier_of a None
+earlier_none : (a : Option FaultData) → a ≡ earlier_of a None
 earlier_none None = refl
 earlier_none (Some x) = refl
 
@@ -110,24 +110,26 @@ first_more [] r = earlier_none r.fault
 first_more (x ∷ xs) r = earlier_after x.fault (first_fault xs) r.fault ∙ ap (earlier_of x.fault) (first_more xs r)
 
 told_offsets :
-    (base offset at : ℕ) (fault : Option PieceFault) (told : Option ToldFault) → told ≡ option_map (told_at at) fault →
+    (base offset at : ℕ) (fault : Option PieceFault) (told : Option FaultData) →
+    told ≡ option_map (placed_data at) fault →
     at ≡ base + offset → IfSome fault (λ f. f.offset ≡ offset) →
-    told_offset told ≡ map (λ z. base + z) (fault_offset fault)
-told_offsets base offset at None told e o there = ap told_offset e
+    data_offset told ≡ map (λ z. base + z) (fault_offset fault)
+told_offsets base offset at None told e o there = ap data_offset e
 told_offsets base offset at (Some f) told e o there =
-    ap told_offset e ∙ ap (λ z. z ∷ []) (o ∙ ap (λ z. base + z) (sym there))
+    ap data_offset e ∙ ap (λ z. z ∷ []) (o ∙ ap (λ z. base + z) (sym there))
 
 -- one more
 pub rows_more :
     (place : Place) (octets : List ℕ) (old new : Walk) (piece : Piece) (object : Object) (inside : Option Items)
-    (marks : List Departed) (later : Bool) (found next : Found) (a b comma c : Option (List ℕ))
+    (marks : List Departed) (later : Bool) (found next : Problems) (a b comma c : Option (List ℕ))
     (p : Passes old new piece) →
     RowsTo place octets old later found a b → IsObject p.left piece object →
     IsNestedJson piece.place (object.offset + object.header) piece.nested inside marks →
     Appends b comma (comma_if later) → Appends comma c (compact_text (row_json (row_of object inside marks))) →
-    found_marks next ≡ found_marks found ++ (marks_at object.offset (map told_of object.not_der.items) ++ marks) →
-    option_map fault_told next.first
-    ≡ earlier_of (option_map fault_told found.first) (option_map fault_told object.fault) →
+    found_departures next
+    ≡ found_departures found ++ (marks_at object.offset (map breach_of object.not_der.items) ++ marks) →
+    option_map fault_data next.first
+    ≡ earlier_of (option_map fault_data found.first) (option_map fault_data object.fault) →
     RowsTo place octets new true next a c
 rows_more place octets old new piece object inside marks later found next a b comma c p s o nested put_comma put mm nn =
     let g = front_of p.levels piece in
@@ -164,7 +166,7 @@ rows_more place octets old new piece object inside marks later found next a b co
           (s.goes_on (g ∷ more) (own ++ others) (p.ahead more others ahead)));
       told = all_zipped_more (IsRowAt place octets) s.fronts s.rows g row s.told is;
       faults_are = offsets_more s.rows row
-          ∙ (ap (λ z. z ++ told_offset row.fault) s.faults_are
+          ∙ (ap (λ z. z ++ data_offset row.fault) s.faults_are
           ∙ (ap (λ z. map (λ y. place.base + y) s.faults ++ z)
           (told_offsets place.base piece.offset object.offset piece.fault row.fault o.fault_is offset
           (fault_there p.left piece.offset piece.kind piece.fault p.kind))
@@ -180,7 +182,7 @@ rows_more place octets old new piece object inside marks later found next a b co
 
 -- all
 pub rows_all :
-    (place : Place) (octets : List ℕ) (walk : Walk) (later : Bool) (found : Found)
+    (place : Place) (octets : List ℕ) (walk : Walk) (later : Bool) (found : Problems)
     (a b c : Option (List ℕ)) → RowsTo place octets walk later found a b → IsAhead walk.cursor [] [] →
     Appends b c (93 ∷ []) → IsWritten (IsArray place octets found) a c
 rows_all place octets walk later found a b c s ended e =

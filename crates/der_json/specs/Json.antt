@@ -19,18 +19,18 @@ use Rattle.asn1_headers.specs.Header.{Encoding}
 use Rattle.asn1_headers.specs.declared.header.ASN1Class.{ASN1Class}
 use Rattle.asn1_headers.specs.Names.{class_name, fault_name, type_name}
 use Rattle.asn1_headers.specs.declared.header.ASN1Class.TheVariants.{Universal}
-use Rattle.asn1_leaves.specs.Contents.ObjectIdentifier.{object_identifier_contents}
 use Rattle.asn1_leaves.specs.DottedDecimal.{dotted_decimal}
 use Rattle.asn1_blocks.specs.Contents.{LeafFault}
 use Rattle.asn1_blocks.specs.Grammar.{Encodes}
 use Rattle.asn1_blocks.specs.Tree.{Leaf, Tree, leaf, group, explicit, unknown, boolean, integer, bit_string}
 use Rattle.asn1_blocks.specs.Tree.{octet_string, null as null_leaf, object_identifier, text as text_leaf}
 use Rattle.asn1_blocks.specs.Tree.{utc_time, generalized_time}
-use Rattle.der_pieces.specs.Fronts.{AreFrontsOf, Front, IsBerTime, StandAt, has_wide_characters, is_wide, size_in}
+use Rattle.der_pieces.specs.Fronts.{AreFrontsOf, Front, StandAt, size_in}
 use Rattle.der_elements.specs.Headers.{is_stray_form}
 use Rattle.der_elements.specs.Headers.{is_gone_into}
-use Rattle.der_pieces.specs.Marks.{Told, told_rules}
+use Rattle.der_pieces.specs.Marks.{Breach, breaches_of}
 use Rattle.der_elements.specs.Segments.{AreSegmentsOf}
+use Rattle.der_contents.specs.Values.{HasShortFront, IsBerTime, has_wide_characters, is_wide}
 use Rattle.der_values.specs.Strings.{has_text, has_words, is_string}
 use Rattle.der_values.specs.Times.{AreFractionOf, IsMomentText}
 use Rattle.der_json.specs.declared.fault.Fault.{Fault}
@@ -69,18 +69,14 @@ bits_json bits octets =
     object (member (codes "bits") (number (unsigned bits))
     (member (codes "octets") (string (encode_lower octets)) no_members))
 
--- one contents octet has the first two components (X.690 8.19.4)
-abbrev pub HasShortFront : List ℕ → Type 0
-HasShortFront components =
-    (octet : ℕ) × (rest : List ℕ) × (object_identifier_contents components ≡ octet ∷ rest) × (octet < 128)
-
 -- the value of an object identifier of these contents octets, which the library reads so: null where they are more than
 -- 1,024. Where its first subidentifier has more octets, its components are others
 abbrev pub IsIdentifierValue : List ℕ → List ℕ → Data → Type 0
 IsIdentifierValue contents components value =
     ((1024 < length contents) × (value ≡ null))
     ⊎ ((length contents ≤ 1024)
-    × ((text : List ℕ) × (value ≡ string text) × (HasShortFront components → text ≡ dotted_decimal components)))
+    × ((text : List ℕ) × (value ≡ string text)
+    × (HasShortFront components → text ≡ dotted_decimal components)))
 
 -- the value of a leaf of these contents octets
 abbrev pub IsLeafValue : List ℕ → Leaf → Data → Type 0
@@ -95,7 +91,8 @@ IsLeafValue contents (text_leaf kind characters) value =
 IsLeafValue contents (utc_time moment) value =
     (text : List ℕ) × IsMomentText moment [] text × (value ≡ string text)
 IsLeafValue contents (generalized_time moment) value =
-    (digits text : List ℕ) × AreFractionOf contents digits × IsMomentText moment digits text × (value ≡ string text)
+    (digits text : List ℕ) × AreFractionOf contents digits × IsMomentText moment digits text
+    × (value ≡ string text)
 
 -- the value of a block of these contents octets, in which none stand
 abbrev pub IsValue : List ℕ → Tree ℕ → Data → Type 0
@@ -115,29 +112,29 @@ is_text_type Universal tag = has_text tag
 is_text_type class tag = false
 
 -- what is wrong, in words, with its name and its offset, where it has these
-pub record ToldFault : Type 0 where
+pub record FaultData : Type 0 where
   pub code : Option (List ℕ)
   pub offset : Option ℕ
-  pub words : List ℕ
+  pub message : List ℕ
 
-abbrev pub fault_told : Fault → ToldFault
-fault_told fault = record {
+abbrev pub fault_data : Fault → FaultData
+fault_data fault = record {
   code = option_map (λ t. t.now) fault.code;
   offset = fault.offset;
-  words = string_bytes fault.words;
+  message = string_bytes fault.message;
 }
 
 -- a fault of reading, at the offset
-abbrev pub named_fault : ℕ → DecodeFault → List ℕ → ToldFault
-named_fault offset fault words = record {
+abbrev pub named_fault : ℕ → DecodeFault → List ℕ → FaultData
+named_fault offset fault message = record {
   code = Some (fault_name fault);
   offset = Some offset;
-  words = words;
+  message = message;
 }
 
--- one in words alone
-abbrev pub words_fault : ℕ → List ℕ → ToldFault
-words_fault offset words = record { code = None; offset = Some offset; words = words }
+-- a fault without a name, at the offset
+abbrev pub words_fault : ℕ → List ℕ → FaultData
+words_fault offset message = record { code = None; offset = Some offset; message = message }
 
 -- the value of contents octets that mean the tree: by their type, or of the block
 pub data IsValueOf (class : ASN1Class) (tag : ℕ) (contents : List ℕ) (tree : Tree ℕ) (value : Data) : Type 0 where
@@ -164,15 +161,17 @@ pub data IsTextValue (tag : ℕ) (contents : List ℕ) (value : Data) (octets : 
 -- type that it does not read; their value; or null, where they have none, these octets in hex digits, and what is wrong
 -- with them
 pub data AreShown (offset : ℕ) (class : ASN1Class) (tag : ℕ) (contents : List ℕ) (value : Data)
-    (octets : Option (List ℕ)) (fault : Option ToldFault) : Type 0 where
+    (octets : Option (List ℕ)) (fault : Option FaultData) : Type 0 where
   in_their_form :
-      is_wide class tag ≡ true → (text : List ℕ) → value ≡ string text → octets ≡ None → fault ≡ None →
+      is_wide class tag ≡ true → (text : List ℕ) → value ≡ string text → octets ≡ None →
+      fault ≡ None →
       AreShown offset class tag contents value octets fault
   without_characters :
       has_wide_characters class tag contents ≡ true → value ≡ null → octets ≡ Some (encode_lower contents) →
       fault ≡ None → AreShown offset class tag contents value octets fault
   as_time :
-      IsBerTime class tag contents → (text : List ℕ) → value ≡ string text → octets ≡ None → fault ≡ None →
+      IsBerTime class tag contents → (text : List ℕ) → value ≡ string text → octets ≡ None →
+      fault ≡ None →
       AreShown offset class tag contents value octets fault
   as_text :
       class ≡ Universal → has_text tag ≡ true → IsTextValue tag contents value octets → fault ≡ None →
@@ -199,7 +198,7 @@ pub data IsOpenedValue (class : ASN1Class) (tag : ℕ) (contents : List ℕ) (in
 
 -- what is shown of an encoding with these fields that begins the octets, and what is wrong with it, at the offset
 pub data IsJudged (octets : List ℕ) (front : Front) (offset : ℕ) (class : ASN1Class) (constructed : Bool)
-    (tag : ℕ) (stray : Bool) (value : Data) (digits : Option (List ℕ)) (fault : Option ToldFault) : Type 0 where
+    (tag : ℕ) (stray : Bool) (value : Data) (digits : Option (List ℕ)) (fault : Option FaultData) : Type 0 where
   cut_short :
       length octets < front.header + front.contents →
       value ≡ (if is_gone_into class constructed tag then null
@@ -222,7 +221,7 @@ pub data IsJudged (octets : List ℕ) (front : Front) (offset : ℕ) (class : AS
 -- a rule that is broken, by an encoding at the offset
 pub record Departed : Type 0 where
   pub offset : ℕ
-  pub told : Told
+  pub told : Breach
 
 -- what the object of a block tells: how many octets stand before it, how many its identifier and length octets are, how
 -- many it has as far as they are there, and how many blocks are around it; its class, its constructed bit, its tag and
@@ -242,10 +241,10 @@ pub record Row : Type 0 where
   pub field : Option (List ℕ)
   pub of_type : Option (List ℕ)
   pub name : Option (List ℕ)
-  pub beside : Option (List ℕ)
+  pub shown : Option (List ℕ)
   pub octets : Option (List ℕ)
-  pub not_der : List Told
-  pub fault : Option ToldFault
+  pub not_der : List Breach
+  pub fault : Option FaultData
   pub inside : Option Items
   pub marks_inside : List Departed
 
@@ -309,27 +308,27 @@ number_if name None others = others
 number_if name (Some n) others = member name (number (unsigned n)) others
 
 -- the object of a fault
-abbrev pub fault_json : ToldFault → Data
+abbrev pub fault_json : FaultData → Data
 fault_json fault =
     object (member_if (codes "code") fault.code
     (number_if (codes "offset") fault.offset
-    (member (codes "text") (string fault.words) no_members)))
+    (member (codes "text") (string fault.message) no_members)))
 
-abbrev pub fault_if : Option ToldFault → Members → Members
+abbrev pub fault_if : Option FaultData → Members → Members
 fault_if None others = others
 fault_if (Some fault) others = member (codes "fault") (fault_json fault) others
 
 -- the object of a rule that is broken
-abbrev pub rule_members : Told → Members
+abbrev pub rule_members : Breach → Members
 rule_members told =
     member (codes "rule") (string told.name)
     (member (codes "section") (string told.section)
     (member (codes "text") (string told.words) no_members))
 
-abbrev pub rule_json : Told → Data
+abbrev pub rule_json : Breach → Data
 rule_json told = object (rule_members told)
 
--- so with the offset of the encoding
+-- the object of a rule that is broken, with the offset of the encoding
 abbrev pub departed_json : Departed → Data
 departed_json departed =
     object (member (codes "offset") (number (unsigned departed.offset)) (rule_members departed.told))
@@ -343,7 +342,7 @@ abbrev pub items_of : {A : Type 0} → (A → Data) → List A → Items
 items_of json [] = no_items
 items_of json (x ∷ xs) = item (json x) (items_of json xs)
 
-abbrev pub rules_if : List Told → Members → Members
+abbrev pub rules_if : List Breach → Members → Members
 rules_if [] others = others
 rules_if (told ∷ more) others = member (codes "not_der") (array (items_of rule_json (told ∷ more))) others
 
@@ -353,7 +352,7 @@ rest_members row =
     member_if (codes "field") row.field
     (member_if (codes "of") row.of_type
     (member_if (codes "name") row.name
-    (member_if (codes "shown") row.beside
+    (member_if (codes "shown") row.shown
     (member_if (codes "octets") row.octets
     (rules_if row.not_der
     (fault_if row.fault (blocks_if row.inside)))))))
@@ -373,14 +372,15 @@ row_json row =
 -- objects of what stands inside contents octets that stand so many octets later, inside so many blocks, and the rules
 -- that are broken there: if there are any, something holds of them
 abbrev pub IsInside :
-    (List ℕ → ℕ → ℕ → Items → List Departed → Type 0) → List ℕ → ℕ → ℕ → Option Items → List Departed → Type 0
+    (List ℕ → ℕ → ℕ → Items → List Departed → Type 0) → List ℕ → ℕ → ℕ → Option Items →
+    List Departed → Type 0
 IsInside Inside contents base deep None marks = marks ≡ []
 IsInside Inside contents base deep (Some items) marks = Inside contents base deep items marks
 
 -- the object of what has a line in a dump of the octets, which stand so many octets later, inside so many blocks, and
 -- inside octets of a string or not. Around octets of a string may stand what tells that they are a list of named bits
-pub record IsRow (Inside : List ℕ → ℕ → ℕ → Items → List Departed → Type 0) (in_string : Bool) (octets : List ℕ)
-    (base deep : ℕ) (front : Front) (row : Row) : Type 0 where
+pub record IsRow (Inside : List ℕ → ℕ → ℕ → Items → List Departed → Type 0) (in_string : Bool)
+    (octets : List ℕ) (base deep : ℕ) (front : Front) (row : Row) : Type 0 where
   pub left : List ℕ
   pub position : StandAt octets front.offset left
   pub row_of : IsRowOf left front row
@@ -388,33 +388,33 @@ pub record IsRow (Inside : List ℕ → ℕ → ℕ → Items → List Departed 
   pub header : row.header ≡ front.header
   pub depth : row.depth ≡ deep + front.depth
   pub has_spare_bits : Bool
-  pub told : row.not_der ≡ told_rules front.rules has_spare_bits
+  pub told : row.not_der ≡ breaches_of front.rules has_spare_bits
   pub no_list : in_string ≡ false → has_spare_bits ≡ false
   pub inside :
       IsInside Inside (slice_range left front.header (front.header + front.contents)) (row.offset + row.header)
       (suc row.depth) row.inside row.marks_inside
 
 -- the first of two faults, and of those of rows
-abbrev pub earlier_of : Option ToldFault → Option ToldFault → Option ToldFault
+abbrev pub earlier_of : Option FaultData → Option FaultData → Option FaultData
 earlier_of (Some fault) next = Some fault
 earlier_of None next = next
 
-abbrev pub first_fault : List Row → Option ToldFault
+abbrev pub first_fault : List Row → Option FaultData
 first_fault [] = None
 first_fault (row ∷ later) = earlier_of row.fault (first_fault later)
 
 -- the offset of a fault, and those of rows
-abbrev pub told_offset : Option ToldFault → List ℕ
-told_offset None = []
-told_offset (Some fault) = option_to_list fault.offset
+abbrev pub data_offset : Option FaultData → List ℕ
+data_offset None = []
+data_offset (Some fault) = option_to_list fault.offset
 
 abbrev pub fault_offsets : List Row → List ℕ
 fault_offsets [] = []
-fault_offsets (row ∷ later) = told_offset row.fault ++ fault_offsets later
+fault_offsets (row ∷ later) = data_offset row.fault ++ fault_offsets later
 
 -- rows of octets, one for each line of a dump of them, whose faults they have
-pub record AreRows (Inside : List ℕ → ℕ → ℕ → Items → List Departed → Type 0) (in_string : Bool) (octets : List ℕ)
-    (base deep : ℕ) (rows : List Row) : Type 0 where
+pub record AreRows (Inside : List ℕ → ℕ → ℕ → Items → List Departed → Type 0) (in_string : Bool)
+    (octets : List ℕ) (base deep : ℕ) (rows : List Row) : Type 0 where
   pub fronts : List Front
   pub faults : List ℕ
   pub read : AreFrontsOf octets fronts faults
@@ -422,7 +422,7 @@ pub record AreRows (Inside : List ℕ → ℕ → ℕ → Items → List Departe
   pub faults_are : fault_offsets rows ≡ map (λ offset. base + offset) faults
 
 -- the rules that are broken, by a block at the offset, and by those of rows and inside them
-abbrev pub marks_at : ℕ → List Told → List Departed
+abbrev pub marks_at : ℕ → List Breach → List Departed
 marks_at offset told = map (λ t. record { offset = offset; told = t }) told
 
 abbrev pub mark_of : Row → List Departed
@@ -454,15 +454,15 @@ abbrev pub origin_members : Option (List ℕ) → Option (List ℕ) → Members
 origin_members file label = member_if (codes "file") file (member_if (codes "label") label no_members)
 
 -- what an origin tells
-abbrev pub told_of : Origin → Members
-told_of origin = origin_members (option_map (λ t. t.now) origin.file) (option_map (λ t. t.now) origin.label)
+abbrev pub origin_data : Origin → Members
+origin_data origin = origin_members (option_map (λ t. t.now) origin.file) (option_map (λ t. t.now) origin.label)
 
 -- the text of JSON, and the end of a line
 abbrev pub line_text : Data → List ℕ
 line_text json = compact_text json ++ 10 ∷ []
 
 -- an object with a fault
-abbrev pub refusal_json : ToldFault → Members → Data
+abbrev pub refusal_json : FaultData → Members → Data
 refusal_json fault origin = object (member (codes "fault") (fault_json fault) origin)
 
 -- the line of the rows
@@ -470,7 +470,7 @@ abbrev pub rows_text : List Row → Members → List ℕ
 rows_text rows origin = line_text (object (member (codes "blocks") (array (items_of row_json rows)) origin))
 
 -- the line of the first fault, where there is one
-abbrev pub first_text : Option ToldFault → Members → List ℕ
+abbrev pub first_text : Option FaultData → Members → List ℕ
 first_text None origin = []
 first_text (Some fault) origin = line_text (refusal_json fault origin)
 

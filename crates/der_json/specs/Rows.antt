@@ -1,39 +1,34 @@
 -- The text of an array, as far as it is put, and what is read for a row. Private contracts alone name these.
-use Rattle.std.specs.Prelude.{◌≡◌, ◌⊎◌, ℕ, suc, ◌+◌, ◌-◌, Bool, true, false, List, [], ◌∷◌, ◌++◌, codes, length, map}
-use Rattle.std.specs.Prelude.{MatchOption, Option, None, Some, option_map, string_bytes, if◌then◌else◌}
+use Rattle.std.specs.Prelude.{◌≡◌, ℕ, suc, ◌+◌, ◌-◌, Bool, true, false, List, [], ◌∷◌, ◌++◌, codes, length, map}
+use Rattle.std.specs.Prelude.{Option, None, Some, nat_lt, option_map, string_bytes, unwrap_or, if◌then◌else◌}
 use Rattle.std.specs.Option.{is_some}
 use Rattle.hex.specs.Hex.{encode_lower}
-use Rattle.asn1_headers.specs.Fault.{DecodeFault}
-use Rattle.asn1_headers.specs.Header.{Encoding}
 use Rattle.asn1_headers.specs.Names.{class_name, type_name}
 use Rattle.asn1_headers.specs.declared.front.Header.{Header}
-use Rattle.asn1_headers.specs.declared.header.ASN1Class.{ASN1Class}
-use Rattle.asn1_headers.specs.declared.header.ASN1Class.TheVariants.{Universal}
-use Rattle.asn1_blocks.specs.Contents.{LeafFault}
-use Rattle.asn1_blocks.specs.Grammar.{Encodes}
-use Rattle.asn1_blocks.specs.Tree.{Tree}
-use Rattle.serde_json.specs.Data.{Data, Items, Members, array, null, number, string, unsigned}
+use Rattle.asn1_leaves.specs.DottedDecimal.{dotted_decimal}
+use Rattle.serde_json.specs.Data.{Data, Items, Members, array, boolean as boolean_json, null, number, string, unsigned}
 use Rattle.serde_json.specs.View.{view}
 use Rattle.serde_json.specs.Written.{comma_if, compact_text, has_float, items_text, members_text}
 use Rattle.der_elements.specs.Headers.{is_gone_into}
-use Rattle.der_pieces.specs.Marks.{Told, told_of, told_rules}
-use Rattle.der_pieces.specs.Pieces.{IsKind, front_of, kind_header}
-use Rattle.der_pieces.specs.declared.faults.Fault.{Fault as PieceFault}
-use Rattle.der_pieces.specs.declared.leaf.Meaning.{Meaning}
-use Rattle.der_pieces.specs.declared.leaf.Meaning.TheVariants.{NoCharacters, Nothing, Text, Time, Value}
+use Rattle.der_pieces.specs.Marks.{Breach, breach_of, breaches_of}
+use Rattle.der_pieces.specs.Pieces.{front_of, kind_header}
+use Rattle.der_contents.specs.declared.faults.Fault.{Fault as PieceFault}
 use Rattle.der_pieces.specs.declared.nested.Nested.{Nested}
 use Rattle.der_pieces.specs.declared.piece.Kind.{Kind}
 use Rattle.der_pieces.specs.declared.piece.Kind.TheVariants.{Cut, EndOfContents, Leaf, Opened, Unreadable}
 use Rattle.der_pieces.specs.declared.piece.Piece.{Piece}
 use Rattle.der_pieces.specs.declared.place.Place.{Place}
-use Rattle.der_values.specs.Strings.{has_text}
-use Rattle.der_json.specs.Json.{AreInside, AreRows, AreRowsOf, Departed, IsOpenedValue, IsRowOf, IsTextValue, IsValueOf, Row, ToldFault}
-use Rattle.der_json.specs.Json.{boolean_or_null, fault_json, fault_told, first_fault, items_of, marks_of, natural_json}
-use Rattle.der_json.specs.Json.{is_text_type, number_or_null, row_json, rows_text, rule_json, text_or_null}
+use Rattle.der_pieces.specs.declared.strings.Joined.{Joined}
+use Rattle.der_contents.specs.declared.value.Identifier.{Identifier}
+use Rattle.der_contents.specs.declared.value.LeafValue.{LeafValue}
+use Rattle.der_contents.specs.declared.value.LeafValue.TheVariants.{BerTime, Bits, Boolean, Identifier as OfIdentifier, Integer, Moment, NoText, Notation, Null, Octets, Other, OtherText, Tagged, Text, WideText}
+use Rattle.der_json.specs.Json.{AreInside, AreRows, AreRowsOf, Departed, IsRowOf, Row, FaultData}
+use Rattle.der_json.specs.Json.{bits_json, boolean_or_null, fault_json, fault_data, first_fault, items_of, marks_of, natural_json}
+use Rattle.der_json.specs.Json.{number_or_null, row_json, rows_text, rule_json, text_or_null, whole_json}
 use Rattle.der_json.specs.declared.object.Object.{Object}
 use Rattle.der_json.specs.declared.object.Tag.{Tag}
 use Rattle.der_json.specs.declared.rows.Departure.{Departure}
-use Rattle.der_json.specs.declared.rows.Found.{Found}
+use Rattle.der_json.specs.declared.rows.Problems.{Problems}
 
 -- what an object tells, and what stands inside
 abbrev pub row_of : Object → Option Items → List Departed → Row
@@ -50,10 +45,10 @@ row_of object inside marks = record {
   field = option_map (λ t. t.now) object.field;
   of_type = option_map (λ t. t.now) object.of;
   name = option_map string_bytes object.name;
-  beside = option_map string_bytes object.shown;
+  shown = option_map string_bytes object.shown;
   octets = option_map string_bytes object.octets;
-  not_der = map told_of object.not_der.items;
-  fault = option_map fault_told object.fault;
+  not_der = map breach_of object.not_der.items;
+  fault = option_map fault_data object.fault;
   inside = inside;
   marks_inside = marks;
 }
@@ -62,36 +57,41 @@ row_of object inside marks = record {
 abbrev pub IsExact : Object → Type 0
 IsExact object = (has_float (view object.tag.number) ≡ false) × (has_float (view object.value) ≡ false)
 
--- the value of contents octets that mean a block, or null where something is wrong with them
-abbrev pub IsBlockValue : ASN1Class → ℕ → List ℕ → Data → Type 0
-IsBlockValue class tag contents value =
-    ((value ≡ null) × ((class ≡ Universal) × ((found : DecodeFault) × LeafFault tag contents found)))
-    ⊎ ((tree : Tree ℕ)
-    × ((octets : List ℕ) (header : ℕ) → Encoding octets class false tag contents header → Encodes 0 octets tree)
-    × IsValueOf class tag contents tree value)
+-- an object identifier of contents octets; null where they are more than 1,024
+abbrev pub identifier_json : List ℕ → Identifier → Data
+identifier_json contents identifier =
+    if nat_lt 1024 (length contents) then null
+    else string (unwrap_or (option_map string_bytes identifier.dotted) (dotted_decimal identifier.components))
 
--- the value of contents octets in which nothing is wrong, and these in hex digits
-abbrev pub IsRightValue : ASN1Class → ℕ → List ℕ → Data → Option (List ℕ) → Type 0
-IsRightValue class tag contents value octets =
-    ((class ≡ Universal) × (has_text tag ≡ true) × IsTextValue tag contents value octets)
-    ⊎ ((is_text_type class tag ≡ false) × IsBlockValue class tag contents value × (octets ≡ None))
+-- the value of contents octets
+abbrev pub value_json : List ℕ → LeafValue → Data
+value_json contents (Boolean is_true) = boolean_json is_true
+value_json contents (Integer n) = whole_json n
+value_json contents (Bits bits) = bits_json bits.count bits.octets.items
+value_json contents (Octets shown) = string (encode_lower contents)
+value_json contents Null = null
+value_json contents (OfIdentifier identifier) = identifier_json contents identifier
+value_json contents (Text characters) = string (string_bytes characters)
+value_json contents (WideText form characters) = string (string_bytes characters)
+value_json contents (OtherText characters) = string (string_bytes characters)
+value_json contents (Notation text) = string (string_bytes text)
+value_json contents (Moment text) = string (string_bytes text)
+value_json contents (BerTime text) = string (string_bytes text)
+value_json contents (Other shown) = string (encode_lower contents)
+value_json contents (Tagged value) = string (encode_lower contents)
+value_json contents (NoText shown) = null
 
--- that of those that mean something
-abbrev pub IsMeantValue : ASN1Class → ℕ → List ℕ → Meaning → Data → Option (List ℕ) → Type 0
-IsMeantValue class tag contents (Text form text) value octets =
-    (words : List ℕ) × (value ≡ string words) × (octets ≡ None)
-IsMeantValue class tag contents (Time text) value octets =
-    (words : List ℕ) × (value ≡ string words) × (octets ≡ None)
-IsMeantValue class tag contents Value value octets = IsRightValue class tag contents value octets
-IsMeantValue class tag contents NoCharacters value octets = (value ≡ null) × (octets ≡ Some (encode_lower contents))
-IsMeantValue class tag contents Nothing value octets = ⊥
+-- contents octets that are no text of their type, in hex digits
+abbrev pub value_octets : List ℕ → LeafValue → Option (List ℕ)
+value_octets contents (NoText shown) = Some (encode_lower contents)
+value_octets contents value = None
 
 -- what a fault of a piece tells, which stands at the offset of the document
-abbrev pub told_at : ℕ → PieceFault → ToldFault
-told_at offset fault = record {
+abbrev pub placed_data : ℕ → PieceFault → FaultData
+placed_data offset fault = record {
   code = option_map (λ t. t.now) fault.code;
   offset = Some offset;
-  words = string_bytes fault.words;
+  message = string_bytes fault.message;
 }
 
 -- how many octets an encoding with the header has, as far as its contents octets are there, and a piece
@@ -102,8 +102,8 @@ abbrev pub kind_size : Kind → Option ℕ
 kind_size (EndOfContents size) = Some size
 kind_size (Unreadable octets) = Some (length octets.now)
 kind_size (Cut header contents) = encoding_size header contents.now
-kind_size (Opened header contents) = encoding_size header contents.now
-kind_size (Leaf header contents meaning) = encoding_size header contents.now
+kind_size (Opened header contents joined) = encoding_size header contents.now
+kind_size (Leaf header contents value) = encoding_size header contents.now
 
 -- what is told of a tag
 abbrev pub IsTagWith : Option (List ℕ) → Option Bool → Data → Option (List ℕ) → Tag → Type 0
@@ -121,44 +121,49 @@ IsTagOf (EndOfContents size) =
     IsTagWith (Some (codes "universal")) (Some false) (number (unsigned 0)) (Some (codes "end-of-contents"))
 IsTagOf (Unreadable octets) = IsTagWith None None null None
 IsTagOf (Cut header contents) = IsHeaderTag header
-IsTagOf (Opened header contents) = IsHeaderTag header
-IsTagOf (Leaf header contents meaning) = IsHeaderTag header
+IsTagOf (Opened header contents joined) = IsHeaderTag header
+IsTagOf (Leaf header contents value) = IsHeaderTag header
 
 -- contents octets that mean nothing are told, if they could be read
 abbrev pub wrong_octets : Option PieceFault → List ℕ → Option (List ℕ)
 wrong_octets None contents = None
 wrong_octets (Some fault) contents = if is_some fault.code then Some (encode_lower contents) else None
 
--- the value of a primitive encoding
-abbrev pub IsLeafValueOf : Header → List ℕ → Meaning → Option PieceFault → Data → Option (List ℕ) → Type 0
-IsLeafValueOf header contents (Text form text) fault value octets =
-    (words : List ℕ) × (value ≡ string words) × (octets ≡ None)
-IsLeafValueOf header contents (Time text) fault value octets =
-    (words : List ℕ) × (value ≡ string words) × (octets ≡ None)
-IsLeafValueOf header contents Value fault value octets = IsRightValue header.class header.tag contents value octets
-IsLeafValueOf header contents NoCharacters fault value octets =
-    (value ≡ null) × (octets ≡ Some (encode_lower contents))
-IsLeafValueOf header contents Nothing fault value octets = (value ≡ null) × (octets ≡ wrong_octets fault contents)
+-- the value of the segments of a string, joined
+abbrev pub joined_json : Option Joined → Data
+joined_json None = null
+joined_json (Some joined) = value_json joined.contents.items joined.value
 
--- and of a piece, with its contents octets where they have no value
-abbrev pub IsPieceValue : Kind → Option PieceFault → Data → Option (List ℕ) → Type 0
-IsPieceValue (EndOfContents size) fault value octets = (value ≡ null) × (octets ≡ None)
-IsPieceValue (Unreadable all) fault value octets = (value ≡ string (encode_lower all.now)) × (octets ≡ None)
-IsPieceValue (Cut header contents) fault value octets =
-    (value ≡ (if is_gone_into header.class header.constructed header.tag then null
-    else string (encode_lower contents.now)))
-    × (octets ≡ None)
-IsPieceValue (Opened header contents) fault value octets =
-    MatchOption fault
-    (IsOpenedValue header.class header.tag contents.now header.is_indefinite value)
-    (λ _. value ≡ null)
-    × (octets ≡ None)
-IsPieceValue (Leaf header contents meaning) fault value octets =
-    IsLeafValueOf header contents.now meaning fault value octets
+-- the value of an encoding that is gone into, where nothing is wrong with it
+abbrev pub opened_json : Option PieceFault → Option Joined → Data
+opened_json None joined = joined_json joined
+opened_json (Some fault) joined = null
 
--- a piece begins some octets
-abbrev pub IsRead : Piece → Type 0
-IsRead piece = (left : List ℕ) × IsKind left piece.offset piece.kind piece.fault
+-- the value of contents octets, or null where something is wrong with them; and in hex digits those that were read and
+-- have no value of their type
+abbrev pub leaf_json : List ℕ → Option LeafValue → Data
+leaf_json contents None = null
+leaf_json contents (Some value) = value_json contents value
+
+abbrev pub leaf_octets : Option PieceFault → List ℕ → Option LeafValue → Option (List ℕ)
+leaf_octets fault contents None = wrong_octets fault contents
+leaf_octets fault contents (Some value) = value_octets contents value
+
+-- the value of a piece, and its contents octets
+abbrev pub kind_json : Option PieceFault → Kind → Data
+kind_json fault (EndOfContents size) = null
+kind_json fault (Unreadable all) = string (encode_lower all.now)
+kind_json fault (Cut header contents) =
+    if is_gone_into header.class header.constructed header.tag then null else string (encode_lower contents.now)
+kind_json fault (Opened header contents joined) = opened_json fault joined
+kind_json fault (Leaf header contents value) = leaf_json contents.now value
+
+abbrev pub kind_octets : Option PieceFault → Kind → Option (List ℕ)
+kind_octets fault (EndOfContents size) = None
+kind_octets fault (Unreadable all) = None
+kind_octets fault (Cut header contents) = None
+kind_octets fault (Opened header contents joined) = None
+kind_octets fault (Leaf header contents value) = leaf_octets fault contents.now value
 
 -- the object is of the piece, which begins the octets
 pub record IsObject (left : List ℕ) (piece : Piece) (object : Object) : Type 0 where
@@ -167,8 +172,8 @@ pub record IsObject (left : List ℕ) (piece : Piece) (object : Object) : Type 0
   pub depth_is : object.depth ≡ piece.place.depth
   pub row : (depth : ℕ) (inside : Option Items) (marks : List Departed)
       → IsRowOf left (front_of depth piece) (row_of object inside marks)
-  pub told : map told_of object.not_der.items ≡ told_rules piece.breaches.rules.items piece.breaches.has_spare_bits
-  pub fault_is : option_map fault_told object.fault ≡ option_map (told_at object.offset) piece.fault
+  pub told : map breach_of object.not_der.items ≡ breaches_of piece.breaches.rules.items piece.breaches.has_spare_bits
+  pub fault_is : option_map fault_data object.fault ≡ option_map (placed_data object.offset) piece.fault
   pub exact : IsExact object
 
 -- the members that every object has, and its beginning
@@ -185,30 +190,30 @@ first_members object =
     ++ (codes ",\"value\":" ++ compact_text (view object.value)))))))))
 
 -- a text behind its name, where there is one
-abbrev pub told_text : List ℕ → Option (List ℕ) → List ℕ
-told_text name None = []
-told_text name (Some told) = name ++ compact_text (string told)
+abbrev pub text_member : List ℕ → Option (List ℕ) → List ℕ
+text_member name None = []
+text_member name (Some told) = name ++ compact_text (string told)
 
 -- the member of a fault, behind others, where there is one
-abbrev pub fault_text : Option ToldFault → List ℕ
+abbrev pub fault_text : Option FaultData → List ℕ
 fault_text None = []
 fault_text (Some fault) = codes ",\"fault\":" ++ compact_text (fault_json fault)
 
 -- the member of the rules that are broken, where some are
-abbrev pub rules_text : List Told → List ℕ
+abbrev pub rules_text : List Breach → List ℕ
 rules_text [] = []
 rules_text (told ∷ more) = codes ",\"not_der\":" ++ compact_text (array (items_of rule_json (told ∷ more)))
 
 -- those that not every object has, but for blocks
 abbrev pub last_members : Object → List ℕ
 last_members object =
-    told_text (codes ",\"field\":") (option_map (λ t. t.now) object.field)
-    ++ (told_text (codes ",\"of\":") (option_map (λ t. t.now) object.of)
-    ++ (told_text (codes ",\"name\":") (option_map string_bytes object.name)
-    ++ (told_text (codes ",\"shown\":") (option_map string_bytes object.shown)
-    ++ (told_text (codes ",\"octets\":") (option_map string_bytes object.octets)
-    ++ (rules_text (map told_of object.not_der.items)
-    ++ fault_text (option_map fault_told object.fault))))))
+    text_member (codes ",\"field\":") (option_map (λ t. t.now) object.field)
+    ++ (text_member (codes ",\"of\":") (option_map (λ t. t.now) object.of)
+    ++ (text_member (codes ",\"name\":") (option_map string_bytes object.name)
+    ++ (text_member (codes ",\"shown\":") (option_map string_bytes object.shown)
+    ++ (text_member (codes ",\"octets\":") (option_map string_bytes object.octets)
+    ++ (rules_text (map breach_of object.not_der.items)
+    ++ fault_text (option_map fault_data object.fault))))))
 
 -- the member of blocks inside octets, where there are some
 abbrev pub blocks_text : Option Items → List ℕ
@@ -222,30 +227,30 @@ texts json later (x ∷ xs) = comma_if later ++ (compact_text (json x) ++ texts 
 
 -- what was found in encodings
 abbrev pub departed_of : Departure → Departed
-departed_of departure = record { offset = departure.offset; told = told_of departure.told }
+departed_of departure = record { offset = departure.offset; told = breach_of departure.told }
 
-abbrev pub told_marks : List Departure → List Departed
-told_marks marks = map departed_of marks
+abbrev pub departures_of : List Departure → List Departed
+departures_of marks = map departed_of marks
 
-abbrev pub found_marks : Found → List Departed
-found_marks found = told_marks found.marks.items
+abbrev pub found_departures : Problems → List Departed
+found_departures found = departures_of found.marks.items
 
 -- rows of octets at the place
 abbrev pub AreRowsAt : Place → List ℕ → List Row → Type 0
 AreRowsAt place octets = AreRows (AreInside place.documents) place.is_inside octets place.base place.depth
 
 -- the objects of octets at the place, and the end of their array; and what was found in them
-abbrev pub IsArray : Place → List ℕ → Found → List ℕ → Type 0
+abbrev pub IsArray : Place → List ℕ → Problems → List ℕ → Type 0
 IsArray place octets found text =
-    (rows : List Row) × AreRowsAt place octets rows × (found_marks found ≡ marks_of rows)
-    × (option_map fault_told found.first ≡ first_fault rows)
+    (rows : List Row) × AreRowsAt place octets rows × (found_departures found ≡ marks_of rows)
+    × (option_map fault_data found.first ≡ first_fault rows)
     × (text ≡ items_text false (items_of row_json rows))
 
 -- the line of the rows of a document, and what was found in them
-abbrev pub IsRowsLine : List ℕ → Members → Found → List ℕ → Type 0
+abbrev pub IsRowsLine : List ℕ → Members → Problems → List ℕ → Type 0
 IsRowsLine octets origin found text =
-    (rows : List Row) × AreRowsOf octets rows × (found_marks found ≡ marks_of rows)
-    × (option_map fault_told found.first ≡ first_fault rows) × (text ≡ rows_text rows origin)
+    (rows : List Row) × AreRowsOf octets rows × (found_departures found ≡ marks_of rows)
+    × (option_map fault_data found.first ≡ first_fault rows) × (text ≡ rows_text rows origin)
 
 -- objects of the octets, if there are any, in contents octets that stand at the offset of the document, and the rules
 -- that are broken there

@@ -2,11 +2,11 @@
 ghost use Rattle.std.specs.Prelude.{◌≡◌, ℕ, List, IfOk};
 ghost use Rattle.serde_json.specs.View.{view};
 ghost use Rattle.asn1_headers.specs.Fault.{fault_of};
-ghost use Rattle.der_json.specs.Json.{fault_json, fault_told, named_fault};
-ghost use Rattle.der_json.specs.Rows.{told_at};
+ghost use Rattle.der_json.specs.Json.{fault_json, fault_data, named_fault};
+ghost use Rattle.der_json.specs.Rows.{placed_data};
 
 use asn1_headers::error::ASN1DecodeErr;
-use der_pieces::faults;
+use der_contents::faults;
 use serde_json::{Value, json};
 use std::alloc::{AllocError, Global};
 
@@ -17,7 +17,7 @@ pub struct Fault {
     pub code: Option<&'static str>,
     /// Counted in octets from the first of the document.
     pub offset: Option<usize>,
-    pub words: String,
+    pub message: String,
 }
 
 /// The fault at the offset.
@@ -26,7 +26,7 @@ pub struct Fault {
 /// Memory ran out, which is also said of that error.
 pub fn fault_at(alloc: Global, offset: usize, error: &ASN1DecodeErr) -> Result<Fault, AllocError>
     ensures { IfOk result (λ fault. (words : List ℕ)
-        × (fault_told fault ≡ named_fault offset (fault_of error.now) words)) }
+        × (fault_data fault ≡ named_fault offset (fault_of error.now) words)) }
 {
     let fault = faults::fault_at(alloc, offset, error)?;
     Ok(placed(fault, offset))
@@ -34,26 +34,26 @@ pub fn fault_at(alloc: Global, offset: usize, error: &ASN1DecodeErr) -> Result<F
 
 // A fault of a piece that stands at the offset of the document.
 pub fn placed(fault: faults::Fault, offset: usize) -> Fault
-    ensures { fault_told result ≡ told_at offset fault }
+    ensures { fault_data result ≡ placed_data offset fault }
 {
     Fault {
         code: fault.code,
         offset: Some(offset),
-        words: fault.words,
+        message: fault.message,
     }
 }
 
 // A fault as an object.
 pub fn fault_value(alloc: Global, fault: &Fault) -> Result<Value, AllocError>
-    ensures { IfOk result (λ v. view v ≡ fault_json (fault_told fault.now)) }
+    ensures { IfOk result (λ v. view v ≡ fault_json (fault_data fault.now)) }
 {
-    let words = fault.words.as_str();
+    let message = fault.message.as_str();
     match (fault.code, fault.offset) {
         (Some(code), Some(offset)) => {
-            json!(in alloc; {"code": code, "offset": offset, "text": words})
+            json!(in alloc; {"code": code, "offset": offset, "text": message})
         }
-        (Some(code), None) => json!(in alloc; {"code": code, "text": words}),
-        (None, Some(offset)) => json!(in alloc; {"offset": offset, "text": words}),
-        (None, None) => json!(in alloc; {"text": words}),
+        (Some(code), None) => json!(in alloc; {"code": code, "text": message}),
+        (None, Some(offset)) => json!(in alloc; {"offset": offset, "text": message}),
+        (None, None) => json!(in alloc; {"text": message}),
     }
 }

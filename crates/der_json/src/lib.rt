@@ -57,8 +57,8 @@
 //! Numbers beyond 2^53 - 1 are texts since `jq` and JavaScript round them, as RFC 7493 (section 2.2) lets readers do.
 #![tactic(auto)]
 
-mod beside;
 mod fault;
+mod labels;
 mod line;
 mod member;
 mod object;

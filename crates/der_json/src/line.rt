@@ -4,14 +4,14 @@ ghost use Rattle.std.specs.Option.{is_none};
 ghost use Rattle.std.specs.Io.KnownBytes.{Appends};
 ghost use Rattle.der_io.specs.Output.{IsWritten};
 ghost use Rattle.der_pieces.specs.Texts.{Adds};
-ghost use Rattle.der_json.specs.Json.{IsEmptyLine, IsJsonOf, fault_told, first_text, line_text, refusal_json};
-ghost use Rattle.der_json.specs.Json.{told_of};
+ghost use Rattle.der_json.specs.Json.{IsEmptyLine, IsJsonOf, fault_data, first_text, line_text, refusal_json};
+ghost use Rattle.der_json.specs.Json.{origin_data};
 ghost use Rattle.der_json.specs.Rows.{IsRowsLine, end_text};
 
 use crate::fault::{Fault, fault_at};
-use crate::member::push_told;
+use crate::member::push_text_if;
 use crate::object::push_fault_object;
-use crate::rows::{Found, push_rows};
+use crate::rows::{Problems, push_rows};
 use asn1_headers::error::ASN1DecodeErr;
 use der_io::{StreamFault, write_part};
 use der_names::Names;
@@ -49,7 +49,7 @@ pub fn push_json<W: Write>(
     octets: &[u8],
     out: &mut W,
 ) -> Result<bool, StreamFault>
-    ensures { IfOk result (λ is_right. IsWritten (IsJsonOf octets.now (told_of origin.entry) is_right)
+    ensures { IfOk result (λ is_right. IsWritten (IsJsonOf octets.now (origin_data origin.entry) is_right)
         (W.contents out.old) (W.contents out.new)) }
 {
     let mut line = Vec::new(alloc);
@@ -66,7 +66,7 @@ pub fn push_json<W: Write>(
 
 // Puts the line that there are no octets.
 pub fn push_empty(alloc: Global, origin: Origin<'_>, out: &mut Vec<u8>) -> Result<(), AllocError>
-    ensures { OnOk result (Adds (IsEmptyLine (told_of origin.entry)) out.old.items out.new.items) }
+    ensures { OnOk result (Adds (IsEmptyLine (origin_data origin.entry)) out.old.items out.new.items) }
 {
     let fault = fault_at(alloc, 0, &ASN1DecodeErr::EmptyBuffer)?;
     push_refusal(alloc, origin, &fault, out)
@@ -93,8 +93,8 @@ pub fn push_blocks<W: Write>(
     origin: Origin<'_>,
     octets: &[u8],
     out: &mut W,
-) -> Result<Found, StreamFault>
-    ensures { IfOk result (λ found. IsWritten (IsRowsLine octets.now (told_of origin.entry) found)
+) -> Result<Problems, StreamFault>
+    ensures { IfOk result (λ found. IsWritten (IsRowsLine octets.now (origin_data origin.entry) found)
         (W.contents out.old) (W.contents out.new)) }
 {
     write_part(out, b"{\"blocks\":[")?;
@@ -106,7 +106,7 @@ pub fn push_blocks<W: Write>(
 // Writes the end of an object and of its line, with where the octets are from.
 fn write_end<W: Write>(alloc: Global, origin: Origin<'_>, out: &mut W) -> Result<(), StreamFault>
     ensures { OnOk result (Appends (W.contents out.old) (W.contents out.new)
-        (end_text (told_of origin.entry) ++ 10 ∷ [])) }
+        (end_text (origin_data origin.entry) ++ 10 ∷ [])) }
 {
     let mut end = Vec::new(alloc);
     push_end(alloc, origin, &mut end)?;
@@ -121,9 +121,9 @@ pub fn push_first(
     first: &Option<Fault>,
     out: &mut Vec<u8>,
 ) -> Result<bool, AllocError>
-    ensures right { IfOk result (λ is_right. is_right ≡ is_none (option_map fault_told first.now)) }
+    ensures right { IfOk result (λ is_right. is_right ≡ is_none (option_map fault_data first.now)) }
     ensures text { OnOk result (out.new.items
-        ≡ out.old.items ++ first_text (option_map fault_told first.now) (told_of origin.entry)) }
+        ≡ out.old.items ++ first_text (option_map fault_data first.now) (origin_data origin.entry)) }
 {
     match first {
         Some(fault) => {
@@ -146,7 +146,7 @@ pub fn push_refusal(
     out: &mut Vec<u8>,
 ) -> Result<(), AllocError>
     ensures { OnOk result (out.new.items ≡ out.old.items
-        ++ line_text (refusal_json (fault_told fault.now) (told_of origin.entry))) }
+        ++ line_text (refusal_json (fault_data fault.now) (origin_data origin.entry))) }
 {
     push_fault_object(alloc, b"{\"fault\":", fault, out)?;
     push_end(alloc, origin, out)?;
@@ -155,10 +155,10 @@ pub fn push_refusal(
 
 // Puts the end of an object and of its line, with where the octets are from.
 pub fn push_end(alloc: Global, origin: Origin<'_>, out: &mut Vec<u8>) -> Result<(), AllocError>
-    ensures { OnOk result (out.new.items ≡ out.old.items ++ (end_text (told_of origin.entry) ++ 10 ∷ [])) }
+    ensures { OnOk result (out.new.items ≡ out.old.items ++ (end_text (origin_data origin.entry) ++ 10 ∷ [])) }
 {
-    push_told(alloc, b",\"file\":", origin.file, out)?;
-    push_told(alloc, b",\"label\":", origin.label, out)?;
+    push_text_if(alloc, b",\"file\":", origin.file, out)?;
+    push_text_if(alloc, b",\"label\":", origin.label, out)?;
     out.extend_from_slice(b"}\n")?;
     Ok(())
 }

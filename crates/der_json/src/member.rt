@@ -5,7 +5,7 @@ ghost use Rattle.json.specs.Reads.{token_of};
 ghost use Rattle.serde_json.specs.Data.{string};
 ghost use Rattle.serde_json.specs.View.{view};
 ghost use Rattle.serde_json.specs.Written.{compact_text, has_float};
-ghost use Rattle.der_json.specs.Rows.{told_text};
+ghost use Rattle.der_json.specs.Rows.{text_member};
 
 use json::{Token, Writer};
 use serde_json::Value;
@@ -40,14 +40,14 @@ pub fn push_text(
 }
 
 // Puts a text behind its name, if there is one.
-pub fn push_told(
+pub fn push_text_if(
     alloc: Global,
     name: &[u8],
     told: Option<&str>,
     out: &mut Vec<u8>,
 ) -> Result<(), AllocError>
     ensures { OnOk result (out.new.items
-        ≡ out.old.items ++ told_text name.now (option_map (λ t. t.now) told.entry)) }
+        ≡ out.old.items ++ text_member name.now (option_map (λ t. t.now) told.entry)) }
 {
     match told {
         Some(told) => push_text(alloc, name, told, out),

@@ -2,14 +2,14 @@
 ghost use Rattle.std.specs.Prelude.{◌≡◌, ◌++◌, false, IfOk, OnOk, map, option_map, string_bytes};
 ghost use Rattle.serde_json.specs.View.{view};
 ghost use Rattle.serde_json.specs.Written.{comma_if, compact_text, has_float, items_text};
-ghost use Rattle.der_pieces.specs.Marks.{told_of};
-ghost use Rattle.der_json.specs.Json.{boolean_or_null as boolean_or_null_is, fault_json, fault_told, items_of, rule_json};
+ghost use Rattle.der_pieces.specs.Marks.{breach_of};
+ghost use Rattle.der_json.specs.Json.{boolean_or_null as boolean_or_null_is, fault_json, fault_data, items_of, rule_json};
 ghost use Rattle.der_json.specs.Json.{number_or_null as number_or_null_is, text_or_null as text_or_null_is};
-ghost use Rattle.der_json.specs.Rows.{IsExact, fault_text, first_members, last_members, rules_text, told_text};
+ghost use Rattle.der_json.specs.Rows.{IsExact, fault_text, first_members, last_members, rules_text, text_member};
 
 use crate::fault::{Fault, fault_value};
-use crate::member::{push_member, push_text, push_told};
-use der_pieces::marks::ToldRule;
+use crate::member::{push_member, push_text, push_text_if};
+use der_pieces::marks::BrokenRule;
 use serde_json::{Value, json};
 use std::alloc::{AllocError, Global};
 
@@ -39,7 +39,7 @@ pub struct Object {
     pub shown: Option<String>,
     // its contents octets in hex digits, where they have no value
     pub octets: Option<String>,
-    pub not_der: Vec<ToldRule>,
+    pub not_der: Vec<BrokenRule>,
     pub fault: Option<Fault>,
 }
 
@@ -79,8 +79,8 @@ impl Object {
     fn push_others(&self, alloc: Global, out: &mut Vec<u8>) -> Result<(), AllocError>
         ensures { OnOk result (out.new.items ≡ out.old.items ++ last_members self.now) }
     {
-        push_told(alloc, b",\"field\":", self.field, out)?;
-        push_told(alloc, b",\"of\":", self.of, out)?;
+        push_text_if(alloc, b",\"field\":", self.field, out)?;
+        push_text_if(alloc, b",\"of\":", self.of, out)?;
         push_words(alloc, b",\"name\":", &self.name, out)?;
         push_words(alloc, b",\"shown\":", &self.shown, out)?;
         push_words(alloc, b",\"octets\":", &self.octets, out)?;
@@ -128,7 +128,7 @@ fn push_words(
     out: &mut Vec<u8>,
 ) -> Result<(), AllocError>
     ensures { OnOk result (out.new.items
-        ≡ out.old.items ++ told_text name.now (option_map string_bytes words.now)) }
+        ≡ out.old.items ++ text_member name.now (option_map string_bytes words.now)) }
 {
     match words {
         Some(words) => push_text(alloc, name, words, out),
@@ -137,8 +137,8 @@ fn push_words(
 }
 
 // Puts the member of the rules that are broken, if some are.
-fn push_rules(alloc: Global, told: &[ToldRule], out: &mut Vec<u8>) -> Result<(), AllocError>
-    ensures { OnOk result (out.new.items ≡ out.old.items ++ rules_text (map told_of told.now)) }
+fn push_rules(alloc: Global, told: &[BrokenRule], out: &mut Vec<u8>) -> Result<(), AllocError>
+    ensures { OnOk result (out.new.items ≡ out.old.items ++ rules_text (map breach_of told.now)) }
 {
     if told.is_empty() {
         return Ok(());
@@ -149,9 +149,9 @@ fn push_rules(alloc: Global, told: &[ToldRule], out: &mut Vec<u8>) -> Result<(),
 }
 
 // Puts the objects of these, and the end of an array.
-fn push_list(alloc: Global, told: &[ToldRule], out: &mut Vec<u8>) -> Result<(), AllocError>
+fn push_list(alloc: Global, told: &[BrokenRule], out: &mut Vec<u8>) -> Result<(), AllocError>
     ensures { OnOk result (out.new.items
-        ≡ out.old.items ++ items_text false (items_of rule_json (map told_of told.now))) }
+        ≡ out.old.items ++ items_text false (items_of rule_json (map breach_of told.now))) }
 {
     let mut is_later = false;
     for rule in told {
@@ -165,8 +165,8 @@ fn push_list(alloc: Global, told: &[ToldRule], out: &mut Vec<u8>) -> Result<(), 
 }
 
 // A rule that is broken, as an object.
-fn rule_value(alloc: Global, rule: &ToldRule) -> Result<Value, AllocError>
-    ensures { IfOk result (λ v. view v ≡ rule_json (told_of rule.now)) }
+fn rule_value(alloc: Global, rule: &BrokenRule) -> Result<Value, AllocError>
+    ensures { IfOk result (λ v. view v ≡ rule_json (breach_of rule.now)) }
 {
     json!(in alloc; {"rule": rule.name, "section": rule.section, "text": rule.text})
 }
@@ -182,7 +182,7 @@ pub fn push_comma(is_later: bool, out: &mut Vec<u8>) -> Result<(), AllocError>
 
 // Puts the member of a fault, if there is one.
 fn push_fault(alloc: Global, fault: &Option<Fault>, out: &mut Vec<u8>) -> Result<(), AllocError>
-    ensures { OnOk result (out.new.items ≡ out.old.items ++ fault_text (option_map fault_told fault.now)) }
+    ensures { OnOk result (out.new.items ≡ out.old.items ++ fault_text (option_map fault_data fault.now)) }
 {
     match fault {
         Some(fault) => push_fault_object(alloc, b",\"fault\":", fault, out),
@@ -198,7 +198,7 @@ pub fn push_fault_object(
     out: &mut Vec<u8>,
 ) -> Result<(), AllocError>
     ensures { OnOk result (out.new.items
-        ≡ out.old.items ++ (name.now ++ compact_text (fault_json (fault_told fault.now)))) }
+        ≡ out.old.items ++ (name.now ++ compact_text (fault_json (fault_data fault.now)))) }
 {
     let object = fault_value(alloc, fault)?;
     push_member(alloc, name, &object, out)

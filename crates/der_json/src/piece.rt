@@ -6,38 +6,33 @@ ghost use Rattle.serde_json.specs.View.{view};
 ghost use Rattle.serde_json.specs.Written.{has_float};
 ghost use Rattle.der_elements.specs.Headers.{is_gone_into};
 ghost use Rattle.der_pieces.specs.Pieces.{IsKind};
-ghost use Rattle.der_json.specs.Json.{IsOpenedValue, fault_told};
-ghost use Rattle.der_json.specs.Rows.{IsLeafValueOf, IsObject, IsPieceValue, IsRead, IsTagOf, kind_size};
-ghost use Rattle.der_json.specs.Rows.{encoding_size as encoding_size_is, told_at};
+ghost use Rattle.der_json.specs.Json.{fault_data};
+ghost use Rattle.der_json.specs.Rows.{IsObject, IsTagOf, joined_json, kind_json, kind_octets, kind_size, opened_json, wrong_octets};
+ghost use Rattle.der_json.specs.Rows.{encoding_size as encoding_size_is, placed_data};
 
-use crate::beside::beside_of;
 use crate::fault::{Fault, placed};
+use crate::labels::{name_of, shown_of};
 use crate::object::{Object, Tag};
-use crate::value::{Shown, meant_value, natural_value, octets_value};
+use crate::value::{leaf_value, natural_value, octets_of_no_text, octets_value};
 use asn1_headers::front::Header;
+use der_contents::faults;
 use der_elements::header::holds_encodings;
 use der_elements::sum::sum_of;
 use der_names::Names;
-use der_pieces::faults;
-use der_pieces::leaf::{Meaning, Read, read_contents};
 use der_pieces::piece::{Kind, Piece};
-use der_pieces::place::Place;
-use der_pieces::strings::joined_string;
-use der_pieces::tag::name_of;
+use der_pieces::strings::Joined;
+use der_pieces::tag;
 use der_shapes::Named;
 use serde_json::Value;
 use std::alloc::{AllocError, Global};
 
 // What the object of the piece tells.
 pub fn object_of(alloc: Global, names: &Names, piece: Piece<'_>) -> Result<Object, AllocError>
-    requires { IsRead piece }
     ensures { IfOk result (λ object. (left : List ℕ)
         → IsKind left piece.entry.offset piece.entry.kind piece.entry.fault → IsObject left piece.entry object) }
 {
     let offset = piece.document_offset()?;
-    let Shown { value, octets } = shown_of(alloc, &piece)?;
-    let has_value = octets.is_none();
-    let said = beside_of(alloc, names, &piece.kind, piece.place, has_value)?;
+    let name = name_of(alloc, names, &piece)?;
     let named = piece.names(&names.shapes);
     Ok(Object {
         offset,
@@ -45,13 +40,13 @@ pub fn object_of(alloc: Global, names: &Names, piece: Piece<'_>) -> Result<Objec
         size: size_of(&piece.kind)?,
         depth: piece.place.depth,
         tag: tag_of(alloc, &piece.kind)?,
-        value,
+        value: value_of(alloc, &piece)?,
         field: named.and_then(|named| named.field),
         of: named.map(|named| named.of),
-        name: name_or(alloc, said.name, named)?,
-        shown: said.shown,
-        octets,
-        not_der: piece.breaches.told(alloc)?,
+        name: name_or(alloc, name, named)?,
+        shown: shown_of(alloc, &piece)?,
+        octets: octets_of(alloc, &piece)?,
+        not_der: piece.breaches.describe(alloc)?,
         fault: placed_if(piece.fault, offset),
     })
 }
@@ -68,9 +63,9 @@ fn name_or(
     }
 }
 
-// Its fault, if it has one, which stands at the offset of the document.
+// The fault of a piece that stands at the offset of the document, if it has one.
 fn placed_if(fault: Option<faults::Fault>, offset: usize) -> Option<Fault>
-    ensures { option_map fault_told result ≡ option_map (told_at offset) fault }
+    ensures { option_map fault_data result ≡ option_map (placed_data offset) fault }
 {
     match fault {
         Some(fault) => Some(placed(fault, offset)),
@@ -78,7 +73,7 @@ fn placed_if(fault: Option<faults::Fault>, offset: usize) -> Option<Fault>
     }
 }
 
-// How many octets it has, as far as they are there, where its length is of the definite form.
+// How many octets a piece has, as far as they are there, where its length is of the definite form.
 fn size_of(kind: &Kind<'_>) -> Result<Option<usize>, AllocError>
     ensures { IfOk result (λ size. size ≡ kind_size kind.now) }
 {
@@ -86,7 +81,7 @@ fn size_of(kind: &Kind<'_>) -> Result<Option<usize>, AllocError>
         Kind::EndOfContents(size) => Ok(Some(*size)),
         Kind::Unreadable(octets) => Ok(Some(octets.len())),
         Kind::Cut(header, contents)
-        | Kind::Opened(header, contents)
+        | Kind::Opened(header, contents, _)
         | Kind::Leaf(header, contents, _) => encoding_size(header, contents),
     }
 }
@@ -100,7 +95,7 @@ fn encoding_size(header: &Header, contents: &[u8]) -> Result<Option<usize>, Allo
     Ok(Some(sum_of(header.size, contents.len())?))
 }
 
-// Its tag. That of end-of-contents octets is 0, of class Universal (X.690 8.1.5).
+// The tag of a piece. End-of-contents octets have 0, of class Universal (X.690 8.1.5).
 fn tag_of(alloc: Global, kind: &Kind<'_>) -> Result<Tag, AllocError>
     ensures told { IfOk result (IsTagOf kind.now) }
     ensures exact { IfOk result (λ tag. has_float (view tag.number) ≡ false) }
@@ -118,41 +113,59 @@ fn tag_of(alloc: Global, kind: &Kind<'_>) -> Result<Tag, AllocError>
             number: Value::Null,
             kind: None,
         }),
-        Kind::Cut(header, _) | Kind::Opened(header, _) | Kind::Leaf(header, _, _) => Ok(Tag {
+        Kind::Cut(header, _) | Kind::Opened(header, _, _) | Kind::Leaf(header, _, _) => Ok(Tag {
             class: Some(header.class.name()),
             constructed: Some(header.constructed),
             number: natural_value(alloc, &header.tag)?,
-            kind: name_of(header.class, &header.tag),
+            kind: tag::name_of(header.class, &header.tag),
         }),
     }
 }
 
-// Its value, and its contents octets where they have none.
-fn shown_of(alloc: Global, piece: &Piece<'_>) -> Result<Shown, AllocError>
-    requires { IsRead piece.now }
-    ensures told { IfOk result (λ s. IsPieceValue piece.now.kind piece.now.fault (view s.value)
-        (option_map string_bytes s.octets)) }
-    ensures exact { IfOk result (λ s. has_float (view s.value) ≡ false) }
+// The value of a piece.
+fn value_of(alloc: Global, piece: &Piece<'_>) -> Result<Value, AllocError>
+    ensures json { IfOk result (λ v. view v ≡ kind_json piece.now.fault piece.now.kind) }
+    ensures exact { IfOk result (λ v. has_float (view v) ≡ false) }
 {
     match &piece.kind {
-        Kind::EndOfContents(_) => Ok(Shown::of(Value::Null)),
-        Kind::Unreadable(octets) => Ok(Shown::of(octets_value(alloc, octets)?)),
-        Kind::Cut(header, contents) => Ok(Shown::of(cut_value(alloc, header, contents)?)),
-        Kind::Opened(header, contents) => {
-            if piece.fault.is_some() {
-                return Ok(Shown::of(Value::Null));
-            }
-            Ok(Shown::of(joined_value(alloc, header, contents, piece.place)?))
-        }
-        Kind::Leaf(header, contents, meaning) => {
-            leaf_value(alloc, header, contents, meaning, &piece.fault)
-        }
+        Kind::EndOfContents(_) => Ok(Value::Null),
+        Kind::Unreadable(octets) => octets_value(alloc, octets),
+        Kind::Cut(header, contents) => cut_value(alloc, header, contents),
+        Kind::Opened(_, _, joined) => opened_value(alloc, joined, &piece.fault),
+        Kind::Leaf(_, contents, Some(value)) => leaf_value(alloc, contents, value),
+        Kind::Leaf(_, _, None) => Ok(Value::Null),
     }
 }
 
-// That of contents octets that are cut short.
+// The value of an encoding that is gone into: of its segments, joined, where nothing is wrong with it.
+fn opened_value(
+    alloc: Global,
+    joined: &Option<Joined>,
+    fault: &Option<faults::Fault>,
+) -> Result<Value, AllocError>
+    ensures json { IfOk result (λ v. view v ≡ opened_json fault.now joined.now) }
+    ensures exact { IfOk result (λ v. has_float (view v) ≡ false) }
+{
+    match fault {
+        Some(_) => Ok(Value::Null),
+        None => joined_value(alloc, joined),
+    }
+}
+
+// The value of the segments of a string, joined, if they have one.
+fn joined_value(alloc: Global, joined: &Option<Joined>) -> Result<Value, AllocError>
+    ensures json { IfOk result (λ v. view v ≡ joined_json joined.now) }
+    ensures exact { IfOk result (λ v. has_float (view v) ≡ false) }
+{
+    match joined {
+        Some(joined) => leaf_value(alloc, &joined.contents, &joined.value),
+        None => Ok(Value::Null),
+    }
+}
+
+// The value of contents octets that are cut short: these, unless they are encodings.
 fn cut_value(alloc: Global, header: &Header, contents: &[u8]) -> Result<Value, AllocError>
-    ensures told { IfOk result (λ value. view value
+    ensures json { IfOk result (λ value. view value
         ≡ (if is_gone_into header.now.class header.now.constructed header.now.tag then null
         else string (encode_lower contents.now))) }
     ensures exact { IfOk result (λ value. has_float (view value) ≡ false) }
@@ -163,45 +176,29 @@ fn cut_value(alloc: Global, header: &Header, contents: &[u8]) -> Result<Value, A
     octets_value(alloc, contents)
 }
 
-// That of an encoding that is gone into: of a string whose segments are joined that of these, if they have one.
-fn joined_value(
-    alloc: Global,
-    header: &Header,
-    contents: &[u8],
-    place: Place,
-) -> Result<Value, AllocError>
-    ensures told { IfOk result (λ value. IsOpenedValue header.now.class header.now.tag contents.now
-        header.now.is_indefinite (view value)) }
-    ensures exact { IfOk result (λ value. has_float (view value) ≡ false) }
+// The contents octets of a piece in hex digits, where they were read and have no value of their type.
+fn octets_of(alloc: Global, piece: &Piece<'_>) -> Result<Option<String>, AllocError>
+    ensures { IfOk result (λ octets.
+        option_map string_bytes octets ≡ kind_octets piece.now.fault piece.now.kind) }
 {
-    let Some((whole, joined)) = joined_string(alloc, header, contents, place)? else {
-        return Ok(Value::Null);
-    };
-    let Read { meaning, .. } = read_contents(alloc, &whole, &joined, 0)?;
-    match meant_value(alloc, &whole, &joined, &meaning)? {
-        Some(shown) => Ok(shown.value),
-        None => Ok(Value::Null),
+    match &piece.kind {
+        Kind::Leaf(_, contents, Some(value)) => octets_of_no_text(alloc, contents, value),
+        Kind::Leaf(_, contents, None) => octets_at_fault(alloc, contents, &piece.fault),
+        Kind::EndOfContents(_) | Kind::Unreadable(_) | Kind::Cut(_, _) | Kind::Opened(_, _, _) =>
+            Ok(None),
     }
 }
 
-// That of contents octets: these, if they have none, or nothing where there are none to be read.
-fn leaf_value(
+// Contents octets in hex digits, where the fault has a name: they were read.
+fn octets_at_fault(
     alloc: Global,
-    header: &Header,
     contents: &[u8],
-    meaning: &Meaning,
     fault: &Option<faults::Fault>,
-) -> Result<Shown, AllocError>
-    requires { is_gone_into header.now.class header.now.constructed header.now.tag ≡ false }
-    ensures told { IfOk result (λ s. IsLeafValueOf header.now contents.now meaning.now fault.now (view s.value)
-        (option_map string_bytes s.octets)) }
-    ensures exact { IfOk result (λ s. has_float (view s.value) ≡ false) }
+) -> Result<Option<String>, AllocError>
+    ensures { IfOk result (λ octets. option_map string_bytes octets ≡ wrong_octets fault.now contents.now) }
 {
-    if let Some(shown) = meant_value(alloc, header, contents, meaning)? {
-        return Ok(shown);
-    }
     match fault {
-        Some(fault) if fault.code.is_some() => Shown::of_octets(alloc, contents),
-        _ => Ok(Shown::of(Value::Null)),
+        Some(fault) if fault.code.is_some() => Ok(Some(hex::encode(alloc, contents)?)),
+        _ => Ok(None),
     }
 }

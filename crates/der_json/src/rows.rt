@@ -4,9 +4,9 @@ ghost use Rattle.std.specs.Io.KnownBytes.{Appends};
 ghost use Rattle.der_io.specs.Output.{IsWritten};
 ghost use Rattle.serde_json.specs.Data.{Items};
 ghost use Rattle.serde_json.specs.Written.{comma_if, compact_text};
-ghost use Rattle.der_pieces.specs.Marks.{told_of};
-ghost use Rattle.der_json.specs.Json.{earlier_of, fault_told, marks_at, row_json};
-ghost use Rattle.der_json.specs.Rows.{IsArray, IsExact, IsNestedJson, blocks_text, found_marks, row_of, told_marks};
+ghost use Rattle.der_pieces.specs.Marks.{breach_of};
+ghost use Rattle.der_json.specs.Json.{earlier_of, fault_data, marks_at, row_json};
+ghost use Rattle.der_json.specs.Rows.{IsArray, IsExact, IsNestedJson, blocks_text, found_departures, row_of, departures_of};
 
 use crate::fault::Fault;
 use crate::object::{Object, members_of};
@@ -14,7 +14,7 @@ use crate::piece::object_of;
 use der_elements::sum::sum_of;
 use der_io::{StreamFault, write_part};
 use der_names::Names;
-use der_pieces::marks::ToldRule;
+use der_pieces::marks::BrokenRule;
 use der_pieces::nested::Nested;
 use der_pieces::place::Place;
 use der_pieces::walk::Walk;
@@ -25,23 +25,23 @@ use std::io::Write;
 #[derive(Drop)]
 pub struct Departure {
     pub offset: usize,
-    pub told: ToldRule,
+    pub told: BrokenRule,
 }
 
 // What was found in a document: the rules that are broken, also inside octets of strings, and the first fault.
 #[derive(Drop)]
-pub struct Found {
+pub struct Problems {
     pub marks: Vec<Departure>,
     pub first: Option<Fault>,
 }
 
-impl Found {
+impl Problems {
     // Keeps what one more object tells, and the rules that are broken inside it.
     fn keep(&mut self, object: Object, mut inside: Vec<Departure>) -> Result<(), AllocError>
-        ensures marks { OnOk result (found_marks self.new ≡ found_marks self.old
-            ++ (marks_at object.offset (map told_of object.not_der.items) ++ told_marks inside.items)) }
-        ensures first { OnOk result (option_map fault_told self.new.first
-            ≡ earlier_of (option_map fault_told self.old.first) (option_map fault_told object.fault)) }
+        ensures marks { OnOk result (found_departures self.new ≡ found_departures self.old
+            ++ (marks_at object.offset (map breach_of object.not_der.items) ++ departures_of inside.items)) }
+        ensures first { OnOk result (option_map fault_data self.new.first
+            ≡ earlier_of (option_map fault_data self.old.first) (option_map fault_data object.fault)) }
     {
         let Object {
             offset,
@@ -61,11 +61,11 @@ impl Found {
 // Keeps the rules that an encoding at the offset breaks.
 fn push_marks(
     offset: usize,
-    told: &[ToldRule],
+    told: &[BrokenRule],
     marks: &mut Vec<Departure>,
 ) -> Result<(), AllocError>
-    ensures { OnOk result (told_marks marks.new.items
-        ≡ told_marks marks.old.items ++ marks_at offset (map told_of told.now)) }
+    ensures { OnOk result (departures_of marks.new.items
+        ≡ departures_of marks.old.items ++ marks_at offset (map breach_of told.now)) }
 {
     for rule in told {
         marks.push(Departure {
@@ -84,11 +84,11 @@ pub fn push_rows<W: Write>(
     octets: &[u8],
     place: Place,
     out: &mut W,
-) -> Result<Found, StreamFault>
+) -> Result<Problems, StreamFault>
     ensures { IfOk result (λ found. IsWritten (IsArray place octets.now found)
         (W.contents out.old) (W.contents out.new)) }
 {
-    let mut found = Found {
+    let mut found = Problems {
         marks: Vec::new(alloc),
         first: None,
     };
@@ -126,9 +126,9 @@ fn push_object<W: Write>(
     requires exact { IsExact object.now }
     requires more { IfSome nested (λ _. 0 < place.documents) }
     ensures { IfOk result (λ marks. (inside : Option Items)
-        × IsNestedJson place (object.now.offset + object.now.header) nested.entry inside (told_marks marks.items)
+        × IsNestedJson place (object.now.offset + object.now.header) nested.entry inside (departures_of marks.items)
         × Appends (W.contents out.old) (W.contents out.new)
-        (compact_text (row_json (row_of object.now inside (told_marks marks.items))))) }
+        (compact_text (row_json (row_of object.now inside (departures_of marks.items))))) }
 {
     let members = members_of(alloc, object)?;
     write_part(out, &members)?;
@@ -151,7 +151,7 @@ fn push_nested<W: Write>(
 ) -> Result<Vec<Departure>, StreamFault>
     requires { IfSome nested (λ _. 0 < place.documents) }
     ensures { IfOk result (λ marks. (inside : Option Items)
-        × IsNestedJson place offset nested.entry inside (told_marks marks.items)
+        × IsNestedJson place offset nested.entry inside (departures_of marks.items)
         × Appends (W.contents out.old) (W.contents out.new) (blocks_text inside)) }
 {
     let Some(nested) = nested else {

@@ -4,8 +4,8 @@ ghost use Rattle.serde_json.specs.View.{view};
 ghost use Rattle.serde_json.specs.Written.{items_text};
 ghost use Rattle.der_io.specs.Output.{IsWritten};
 ghost use Rattle.der_json.specs.Json.{IsStrictJsonOf, departed_json, is_der, items_of, marks_text};
-ghost use Rattle.der_json.specs.Json.{told_of};
-ghost use Rattle.der_json.specs.Rows.{departed_of, told_marks};
+ghost use Rattle.der_json.specs.Json.{origin_data};
+ghost use Rattle.der_json.specs.Rows.{departed_of, departures_of};
 
 use crate::line::{Origin, push_blocks, push_empty, push_end, push_first};
 use crate::member::push_member;
@@ -35,7 +35,7 @@ pub fn push_strict_json<W: Write>(
     octets: &[u8],
     out: &mut W,
 ) -> Result<bool, StreamFault>
-    ensures { IfOk result (λ is_right. IsWritten (IsStrictJsonOf octets.now (told_of origin.entry) is_right)
+    ensures { IfOk result (λ is_right. IsWritten (IsStrictJsonOf octets.now (origin_data origin.entry) is_right)
         (W.contents out.old) (W.contents out.new)) }
 {
     let mut lines = Vec::new(alloc);
@@ -64,9 +64,9 @@ fn push_marks(
     marks: &[Departure],
     out: &mut Vec<u8>,
 ) -> Result<bool, AllocError>
-    ensures right { IfOk result (λ right. right ≡ is_der (told_marks marks.now)) }
+    ensures right { IfOk result (λ right. right ≡ is_der (departures_of marks.now)) }
     ensures text { OnOk result (out.new.items
-        ≡ out.old.items ++ marks_text (told_marks marks.now) (told_of origin.entry)) }
+        ≡ out.old.items ++ marks_text (departures_of marks.now) (origin_data origin.entry)) }
 {
     if marks.is_empty() {
         return Ok(true);
@@ -80,7 +80,7 @@ fn push_marks(
 // Puts the objects of these, and the end of an array.
 fn push_list(alloc: Global, marks: &[Departure], out: &mut Vec<u8>) -> Result<(), AllocError>
     ensures { OnOk result (out.new.items
-        ≡ out.old.items ++ items_text false (items_of departed_json (told_marks marks.now))) }
+        ≡ out.old.items ++ items_text false (items_of departed_json (departures_of marks.now))) }
 {
     let mut is_later = false;
     for mark in marks {

@@ -8,9 +8,9 @@ use Rattle.der_lines.specs.Dump.{verdict_of, wrong_offsets}
 use Rattle.der_lines.specs.Steps.{IsFirstFault, IsLast, IsWholeDump, counted, mark_offsets, marks_by, outer}
 use Rattle.der_lines.specs.declared.document.Verdict.{Verdict}
 use Rattle.der_lines.specs.declared.document.Verdict.TheVariants.{AllRead, Refused}
-use Rattle.der_lines.specs.declared.encodings.Found.{Found}
+use Rattle.der_lines.specs.declared.encodings.Problems.{Problems}
 use Rattle.der_lines.specs.declared.encodings.Marked.{Marked}
-use Rattle.der_pieces.specs.declared.faults.Fault.{Fault}
+use Rattle.der_contents.specs.declared.faults.Fault.{Fault}
 use Rattle.der_pieces.specs.declared.place.Place.{Place}
 use Rattle.der_rows.proofs.Printed.{IsPrinted-append}
 use Rattle.der_rows.specs.Printing.{IsPrinted}
@@ -64,7 +64,7 @@ outermost_marked place octets fronts marks i z marked =
     (subst (λ y. AreMarked (StandsInside y octets) (counted place.is_inside fronts) marks) z marked)
 
 some_text :
-    (place : Place) (strict : Bool) (octets : List ℕ) (most : Option ℕ) (found : Found) (marks : List Marked)
+    (place : Place) (strict : Bool) (octets : List ℕ) (most : Option ℕ) (found : Problems) (marks : List Marked)
     (x y w rest : List ℕ) (v : Verdict) → place.is_inside ≡ false → place.base ≡ 0 → place.most_depth ≡ most →
     marks ≡ marks_by strict found.marks.items → IsWholeDump place octets found x → rest ≡ y ++ w →
     AreFaultLines (mark_offsets marks) y → IsLast found.fault (mark_offsets marks) v w →
@@ -89,7 +89,7 @@ some_text place strict octets most found marks x y w rest v i z m these put same
 
 pub some_put :
     {W : Type 0} (contents : W → Option (List ℕ)) (place : Place) (strict : Bool) (octets : List ℕ) (most : Option ℕ)
-    (found : Found) (marks : List Marked)
+    (found : Problems) (marks : List Marked)
     (a b c d : Printer W) (verdict : Result Verdict StreamFault) → place.is_inside ≡ false → place.base ≡ 0 →
     place.most_depth ≡ most →
     marks ≡ marks_by strict found.marks.items → IsPrinted contents (IsWholeDump place octets found) a b →

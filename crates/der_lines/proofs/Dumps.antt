@@ -8,7 +8,7 @@ use Rattle.der_lines.specs.Dump.{AreFaultLines, IsBlockLine, IsDump, IsFaultLine
 use Rattle.der_pieces.specs.Fronts.{Front}
 use Rattle.der_pieces.specs.Fronts.{StandAt, is_too_deep}
 use Rattle.der_lines.specs.Dump.{StandsInside, block_line, down_to, inside_line, no_lines}
-use Rattle.der_pieces.specs.Marks.{Told, told_rules}
+use Rattle.der_pieces.specs.Marks.{Breach, breaches_of}
 use Rattle.der_lines.specs.MarkText.{mark_text, words_text}
 use Rattle.der_lines.specs.Steps.{IsLineOf, IsLineUnless, outer}
 use Rattle.der_rows.proofs.OneLine.{IsOneLine-append, IsOneLine-on_one_line}
@@ -109,7 +109,7 @@ row_rest row =
 row_block :
     (row : Row) (f : Front) → row.offset ≡ f.offset → row.header ≡ f.header → row.contents ≡ f.contents →
     row.is_indefinite ≡ f.indefinite → row.depth ≡ f.depth → on_one_line row.type_name.now ≡ f.words →
-    on_one_line row.mark.now ≡ mark_text (told_rules f.rules f.has_spare_bits) → (width : ℕ) (line : List ℕ) →
+    on_one_line row.mark.now ≡ mark_text (breaches_of f.rules f.has_spare_bits) → (width : ℕ) (line : List ℕ) →
     line ≡ right_of width row.offset ++ row_rest row → IsBlockLine f line
 row_block row f o h c i d w m width line is =
     let field = on_one_line row.field.now in
@@ -124,7 +124,7 @@ row_block row f o h c i d w m width line is =
     record {
       spaces = width - length (decimal f.offset);
       field = field;
-      said = value ++ fault;
+      text = value ++ fault;
       mark = on_one_line row.mark.now;
       line_is = same;
       one_field = IsOneLine-on_one_line row.field.now;
@@ -138,7 +138,7 @@ pub row_line_of :
     (inside : Bool) (row : Row) (f : Front) → row.is_inside ≡ inside → row.offset ≡ f.offset → row.header ≡ f.header →
     row.contents ≡ f.contents → row.is_indefinite ≡ f.indefinite → row.depth ≡ f.depth →
     on_one_line row.type_name.now ≡ f.words →
-    on_one_line row.mark.now ≡ mark_text (told_rules f.rules f.has_spare_bits) → IsLineOf inside f (row_line row)
+    on_one_line row.mark.now ≡ mark_text (breaches_of f.rules f.has_spare_bits) → IsLineOf inside f (row_line row)
 row_line_of true row f q o h c i d w m =
     let shown = right_of 6 row.offset ++ row_rest row in
     record {
@@ -194,17 +194,17 @@ inside_deeper octets part base m further f at e s =
     }
 
 -- a mark
-pub no_mark : (told : List Told) → length told ≡ 0 → mark_text told ≡ []
+pub no_mark : (told : List Breach) → length told ≡ 0 → mark_text told ≡ []
 no_mark [] e = refl
 no_mark (x ∷ told) e = absurd (omega (arith, e))
 
-some_mark : (told : List Told) → 0 < length told →
+some_mark : (told : List Breach) → 0 < length told →
     mark_text told ≡ codes " (not DER: " ++ (words_text false told ++ codes ")")
 some_mark [] some = absurd (omega (arith, some))
 some_mark (x ∷ told) some = refl
 
 pub mark_put :
-    (a b c d : List ℕ) (told : List Told) → 0 < length told → b ≡ a ++ codes " (not DER: " →
+    (a b c d : List ℕ) (told : List Breach) → 0 < length told → b ≡ a ++ codes " (not DER: " →
     c ≡ b ++ words_text false told → d ≡ c ++ 41 ∷ [] → d ≡ a ++ mark_text told
 mark_put a b c d told some p q r =
     let whole : d ≡ a ++ (codes " (not DER: " ++ (words_text false told ++ codes ")")) =

@@ -7,13 +7,13 @@ use Rattle.der_lines.specs.PieceRows.{IsPieceDump, StandsInPiece, shown_front, I
 use Rattle.der_pieces.specs.Pieces.{Passes, fault_offset, front_of, kind_contents, kind_front, kind_header}
 use Rattle.der_pieces.specs.Steps.{IsAhead}
 use Rattle.der_lines.specs.Steps.{IsFirstFault, IsWholeDump, counted, earlier_fault, mark_offsets, outer}
-use Rattle.der_lines.specs.declared.encodings.Found.{Found}
-use Rattle.der_pieces.specs.declared.faults.Fault.{Fault}
+use Rattle.der_lines.specs.declared.encodings.Problems.{Problems}
+use Rattle.der_contents.specs.declared.faults.Fault.{Fault}
 use Rattle.der_pieces.specs.declared.piece.Piece.{Piece}
 use Rattle.der_pieces.specs.declared.place.Place.{Place}
 use Rattle.der_pieces.specs.declared.walk.Walk.{Walk}
 use Rattle.der_lines.proofs.Dumps.{dump_join, dump_map, inside_deeper, outer_join, outer_none, start_dump}
-use Rattle.der_lines.proofs.Told.{counted_join, counted_none, marked_join, marked_map, marked_one}
+use Rattle.der_lines.proofs.Breach.{counted_join, counted_none, marked_join, marked_map, marked_one}
 use Rattle.der_pieces.proofs.Walks.{left_stands}
 use Rattle.der_rows.specs.Printing.{IsPrinted}
 use Rattle.der_rows.specs.declared.printer.Printer.{Printer}
@@ -237,7 +237,7 @@ closed base octets fronts faults p read (inl (f, (earlier, others, e), l)) =
 closed base octets fronts faults p read (inr inside) = inside
 
 pub shown_all :
-    (place : Place) (octets : List ℕ) (walk : Walk) (found : Found) (text : List ℕ) →
+    (place : Place) (octets : List ℕ) (walk : Walk) (found : Problems) (text : List ℕ) →
     IsAhead walk.cursor [] [] → ShownTo place octets walk found.fault (mark_offsets found.marks.items) text →
     IsWholeDump place octets found text
 shown_all place octets walk found text ended s =
@@ -261,7 +261,7 @@ shown_all place octets walk found text ended s =
 -- the lines of encodings inside contents octets, and their marks
 pub nested_adds :
     {W : Type 0} (held : W → Option (List ℕ)) (inside : Place) (left : List ℕ) (piece : Piece) (octets : List ℕ)
-    (before : ℕ) (told : Found) (a b : Printer W) →
+    (before : ℕ) (told : Problems) (a b : Printer W) →
     StandAt (slice_range left (kind_header piece.kind) (kind_header piece.kind + kind_contents piece.kind)) before
     octets →
     inside.is_inside ≡ true → inside.base ≡ piece.place.base + (piece.offset + kind_header piece.kind) + before →

@@ -2,4 +2,4 @@ mod Documents
 pub mod Dumps
 pub mod Fronts
 mod Shown
-pub mod Told
+pub mod Breach

@@ -11,7 +11,7 @@ use Rattle.asn1_headers.specs.declared.header.ASN1Class.{ASN1Class}
 use Rattle.asn1_headers.specs.declared.header.ASN1Class.TheVariants.{Universal, Application, ContextSpecific, Private}
 use Rattle.der_lines.specs.MarkText.{mark_text, separator, words_text}
 use Rattle.der_pieces.specs.Fronts.{tag_number, tag_words}
-use Rattle.der_pieces.specs.Marks.{spare_told, told_rules}
+use Rattle.der_pieces.specs.Marks.{spare_breach, breaches_of}
 use Rattle.der_pieces.specs.Pieces.{kind_words}
 use Rattle.der_pieces.specs.declared.piece.Kind.{Kind}
 use Rattle.der_pieces.specs.declared.piece.Kind.TheVariants.{Cut, EndOfContents, Leaf, Opened, Unreadable}
@@ -51,20 +51,20 @@ separator_shown : (later : Bool) → IsOneLine (separator later)
 separator_shown true = refl
 separator_shown false = refl
 
-words_shown : (later : Bool) (rules : List Rule) (spare : Bool) → IsOneLine (words_text later (told_rules rules spare))
+words_shown : (later : Bool) (rules : List Rule) (spare : Bool) → IsOneLine (words_text later (breaches_of rules spare))
 words_shown later [] false = refl
-words_shown later [] true = IsOneLine-append (separator later) (spare_told.words ++ []) (separator_shown later) refl
+words_shown later [] true = IsOneLine-append (separator later) (spare_breach.words ++ []) (separator_shown later) refl
 words_shown later (rule ∷ rules) spare =
-    let more = words_text true (told_rules rules spare) in
+    let more = words_text true (breaches_of rules spare) in
     IsOneLine-append (separator later) (text_of rule ++ more) (separator_shown later)
     (IsOneLine-append (text_of rule) more (rule_shown rule) (words_shown true rules spare))
 
 -- a mark
-pub mark_shown : (rules : List Rule) (spare : Bool) → IsOneLine (mark_text (told_rules rules spare))
+pub mark_shown : (rules : List Rule) (spare : Bool) → IsOneLine (mark_text (breaches_of rules spare))
 mark_shown [] false = refl
 mark_shown [] true = refl
 mark_shown (rule ∷ rules) spare =
-    let words = words_text false (told_rules (rule ∷ rules) spare) in
+    let words = words_text false (breaches_of (rule ∷ rules) spare) in
     IsOneLine-append (codes " (not DER: ") (words ++ codes ")") refl
     (IsOneLine-append words (codes ")") (words_shown false (rule ∷ rules) spare) refl)
 
@@ -106,5 +106,5 @@ pub type_shown : (kind : Kind) → IsOneLine (kind_words kind)
 type_shown (EndOfContents size) = refl
 type_shown (Unreadable octets) = refl
 type_shown (Cut header contents) = tag_shown header.class header.tag
-type_shown (Opened header contents) = tag_shown header.class header.tag
-type_shown (Leaf header contents meaning) = tag_shown header.class header.tag
+type_shown (Opened header contents joined) = tag_shown header.class header.tag
+type_shown (Leaf header contents value) = tag_shown header.class header.tag

@@ -1,7 +1,7 @@
 -- What is written of octets: lines, one for each encoding in order, by their headers. The contents octets of
 -- constructed encodings, and of each SEQUENCE and SET, are gone into; those of others are looked at alone.
 use Rattle.std.specs.Prelude.{◌≡◌, ◌⊎◌, ℕ, ◌+◌, ◌<◌, Bool, true, false, if◌then◌else◌, Option, List, [], ◌∷◌, ◌++◌, length, take, replicate, codes, decimal}
-use Rattle.der_pieces.specs.Marks.{are_some, told_rules}
+use Rattle.der_pieces.specs.Marks.{are_some, breaches_of}
 use Rattle.der_lines.specs.MarkText.{mark_text}
 use Rattle.der_lines.specs.declared.document.Verdict.{Verdict}
 use Rattle.der_lines.specs.declared.document.Verdict.TheVariants.{AllRead, Refused}
@@ -11,7 +11,7 @@ use Rattle.der_pieces.specs.Fronts.{AreFrontsOf, Front, StandAt, is_too_deep}
 
 -- the offset of one that is marked
 abbrev pub marked_offset : Front → List ℕ
-marked_offset front = if are_some (told_rules front.rules front.has_spare_bits) then front.offset ∷ [] else []
+marked_offset front = if are_some (breaches_of front.rules front.has_spare_bits) then front.offset ∷ [] else []
 
 -- those that stand inside no more than the most
 abbrev pub down_to : Option ℕ → List Front → List Front
@@ -20,19 +20,19 @@ down_to most (front ∷ fronts) =
     if is_too_deep most front.depth then down_to most fronts else front ∷ down_to most fronts
 
 -- a line of an encoding: spaces, the offset, the sizes of header and contents in columns, spaces for the depth, the
--- field, the words, what else is said of it, and the mark
+-- field, the words, what else stands behind them, and the mark
 pub record IsBlockLine (front : Front) (line : List ℕ) : Type 0 where
   pub spaces : ℕ
   pub field : List ℕ
-  pub said : List ℕ
+  pub text : List ℕ
   pub mark : List ℕ
   pub line_is : line ≡
       replicate spaces space ++ (decimal front.offset ++ (space ∷ [] ++ (right_of 2 front.header ++ (space ∷ []
       ++ (contents_column front.indefinite front.contents ++ (space ∷ space ∷ []
-      ++ (indentation front.depth ++ (field ++ (front.words ++ (said ++ mark))))))))))
+      ++ (indentation front.depth ++ (field ++ (front.words ++ (text ++ mark))))))))))
   pub one_field : IsOneLine field
-  pub one : IsOneLine said
-  pub mark_is : mark ≡ mark_text (told_rules front.rules front.has_spare_bits)
+  pub one : IsOneLine text
+  pub mark_is : mark ≡ mark_text (breaches_of front.rules front.has_spare_bits)
 
 -- the line of one that stands inside octets of another: `>`, and then as any
 pub record IsInsideLine (front : Front) (line : List ℕ) : Type 0 where
@@ -43,15 +43,15 @@ pub record IsInsideLine (front : Front) (line : List ℕ) : Type 0 where
 -- any other line but that of a first fault: `=`, a space and the label of an object, or `!`, a space and what is wrong
 -- with one, on one line
 abbrev pub IsNote : ℕ → List ℕ → List ℕ → Type 0
-IsNote mark said line = line ≡ mark ∷ space ∷ on_one_line said
+IsNote mark text line = line ≡ mark ∷ space ∷ on_one_line text
 
 -- the line of a fault: `! error at offset`, the offset in decimal, a colon, a space, and words
 pub record IsFaultLine (offset : ℕ) (line : List ℕ) : Type 0 where
-  pub said : List ℕ
-  pub line_is : line ≡ codes "! error at offset " ++ decimal offset ++ colon ∷ space ∷ said
-  pub one : IsOneLine said
+  pub text : List ℕ
+  pub line_is : line ≡ codes "! error at offset " ++ decimal offset ++ colon ∷ space ∷ text
+  pub one : IsOneLine text
 
--- the same at an offset greater by so much, inside however many. Around octets of a string may stand what tells that
+-- a front at an offset greater by so much, inside however many. Around octets of a string may stand what tells that
 -- they are a list of named bits
 pub record IsLater (base : ℕ) (front later : Front) : Type 0 where
   pub offset : later.offset ≡ base + front.offset
@@ -90,7 +90,9 @@ pub data IsDump (Inside : Front → Type 0) : List Front → List ℕ → Type 0
 
 -- the offsets of encodings that are marked, in order: of these, and of some inside octets, for which something holds
 pub data AreMarked (Inside : Front → Type 0) : List Front → List ℕ → Type 0 where
-  no_more : {fronts : List Front} {offsets : List ℕ} → fronts ≡ [] → offsets ≡ [] → AreMarked Inside fronts offsets
+  no_more :
+      {fronts : List Front} {offsets : List ℕ} → fronts ≡ [] → offsets ≡ [] →
+      AreMarked Inside fronts offsets
   one :
       {fronts : List Front} {offsets : List ℕ} (front : Front) (later : List Front) (rest : List ℕ) →
       fronts ≡ front ∷ later → offsets ≡ marked_offset front ++ rest → AreMarked Inside later rest →
@@ -130,7 +132,7 @@ IsDumpOfSome strict most octets verdict text =
     × AreFaultLines (wrong_offsets strict marks faults) last
     × (verdict ≡ verdict_of (wrong_offsets strict marks faults))
 
--- so, or of no octets that there are none
+-- the lines of octets, or of none that there are none
 abbrev pub IsDumpOf : Bool → Option ℕ → List ℕ → Verdict → List ℕ → Type 0
 IsDumpOf strict most octets verdict text =
     ((0 < length octets) × IsDumpOfSome strict most octets verdict text)

@@ -1,16 +1,16 @@
 -- How a mark says what of DER an encoding breaks.
 use Rattle.std.specs.Prelude.{if◌then◌else◌, Bool, true, false, ℕ, List, [], ◌∷◌, ◌++◌, codes}
-use Rattle.der_pieces.specs.Marks.{Told}
+use Rattle.der_pieces.specs.Marks.{Breach}
 
 -- a comma and a space before all but the first
 abbrev pub separator : Bool → List ℕ
 separator later = if later then codes ", " else []
 
-abbrev pub words_text : Bool → List Told → List ℕ
+abbrev pub words_text : Bool → List Breach → List ℕ
 words_text later [] = []
 words_text later (told ∷ more) = separator later ++ (told.words ++ words_text true more)
 
 -- the mark at the end of a line
-abbrev pub mark_text : List Told → List ℕ
+abbrev pub mark_text : List Breach → List ℕ
 mark_text [] = []
 mark_text (told ∷ more) = codes " (not DER: " ++ (words_text false (told ∷ more) ++ codes ")")

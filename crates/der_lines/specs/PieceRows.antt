@@ -1,5 +1,10 @@
 -- The rows of a piece, and of what stands inside it. Private contracts alone name these.
-use Rattle.std.specs.Prelude.{◌≡◌, ℕ, ◌+◌, Bool, List, [], ◌∷◌, ◌++◌, if◌then◌else◌, is_some, slice_range}
+use Rattle.std.specs.Prelude.{◌≡◌, ◌⊎◌, ℕ, ◌+◌, Bool, List, [], ◌∷◌, ◌++◌, if◌then◌else◌, is_some, slice_range}
+use Rattle.std.specs.Prelude.{IfSome, MatchOption, Option}
+use Rattle.der_io.specs.Characters.{space}
+use Rattle.der_pieces.specs.PieceFields.{AreNamesOf}
+use Rattle.der_shapes.specs.declared.named.Named.{Named}
+use Rattle.der_shapes.specs.declared.shapes.Shapes.{Shapes}
 use Rattle.der_lines.specs.Dump.{AreMarked, IsDump, StandsInside}
 use Rattle.der_pieces.specs.Fronts.{Front, is_too_deep}
 use Rattle.der_lines.specs.Steps.{IsStart}
@@ -37,3 +42,17 @@ pub record IsPieceDump (left : List ℕ) (piece : Piece) (marks text : List ℕ)
   pub line : IsStart piece.place (shown_front piece) first
   pub inside : IsDump (StandsInPiece left piece) [] rest
   pub marked : AreMarked (StandsInPiece left piece) [] marks
+
+-- what stands before the type: the name of the field and a space; of what has none the name of its type in its place,
+-- or nothing, as of what has no names
+abbrev pub IsFieldText : Option Named → List ℕ → Type 0
+IsFieldText named text =
+    MatchOption named (text ≡ [])
+    (λ n. MatchOption n.field
+    ((text ≡ []) ⊎ (text ≡ n.of.now ++ space ∷ []))
+    (λ name. text ≡ name.now ++ space ∷ []))
+
+-- what stands before the type of a piece is of the names of the field that it is
+abbrev pub IsNamedBy : Shapes → Piece → List ℕ → Type 0
+IsNamedBy shapes piece text =
+    (named : Option Named) × IfSome named (AreNamesOf shapes piece) × IsFieldText named text

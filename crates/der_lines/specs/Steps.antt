@@ -4,9 +4,9 @@ use Rattle.der_pieces.specs.Fronts.{AreFrontsOf, Front, is_too_deep}
 use Rattle.der_lines.specs.Dump.{IsBlockLine, IsDump, IsInsideLine, AreMarked, IsFaultLine, IsLine, verdict_of, StandsInside, down_to}
 use Rattle.der_lines.specs.declared.document.Verdict.{Verdict}
 use Rattle.der_lines.specs.declared.document.Verdict.TheVariants.{Refused}
-use Rattle.der_lines.specs.declared.encodings.Found.{Found}
+use Rattle.der_lines.specs.declared.encodings.Problems.{Problems}
 use Rattle.der_lines.specs.declared.encodings.Marked.{Marked}
-use Rattle.der_pieces.specs.declared.faults.Fault.{Fault}
+use Rattle.der_contents.specs.declared.faults.Fault.{Fault}
 use Rattle.der_pieces.specs.declared.place.Place.{Place}
 
 -- a line, inside octets of a string or not
@@ -47,7 +47,7 @@ abbrev pub mark_offsets : List Marked → List ℕ
 mark_offsets marks = map (λ m. m.offset) marks
 
 -- the lines of octets
-pub record IsWholeDump (place : Place) (octets : List ℕ) (found : Found) (text : List ℕ) : Type 0 where
+pub record IsWholeDump (place : Place) (octets : List ℕ) (found : Problems) (text : List ℕ) : Type 0 where
   pub fronts : List Front
   pub faults : List ℕ
   pub read : AreFrontsOf octets fronts faults

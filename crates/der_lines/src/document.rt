@@ -4,7 +4,7 @@ ghost use Rattle.der_lines.specs.Dump.{AreFaultLines, IsDumpOf, IsDumpOfSome, Is
 ghost use Rattle.der_lines.specs.Steps.{IsLast, mark_offsets, marks_by as marks_are};
 ghost use Rattle.der_rows.specs.Printing.{IsPrinted};
 
-use crate::encodings::{Found, Marked, push_encodings};
+use crate::encodings::{Marked, Problems, push_encodings};
 use crate::lines::{push_fault, push_fault_line, push_words};
 use asn1_headers::error::ASN1DecodeErr;
 use der_io::StreamFault;
@@ -137,15 +137,15 @@ fn push_mark_line<W: Write>(
 ) -> Result<(), StreamFault>
     ensures { OnOk result (IsPrinted W.contents (IsLine (IsFaultLine mark.now.offset)) printer.old printer.new) }
 {
-    let mut said = Vec::new(alloc);
-    said.extend_from_slice(b"not DER: ")?;
-    push_words(&mark.told, &mut said)?;
-    push_fault(mark.offset, &said, printer)
+    let mut text = Vec::new(alloc);
+    text.extend_from_slice(b"not DER: ")?;
+    push_words(&mark.told, &mut text)?;
+    push_fault(mark.offset, &text, printer)
 }
 
 // Prints the line of the first fault, if there is one, behind those of marks.
 fn push_last<W: Write>(
-    found: &Found,
+    found: &Problems,
     marks: &[Marked],
     printer: &mut Printer<W>,
 ) -> Result<Verdict, StreamFault>
@@ -154,7 +154,7 @@ fn push_last<W: Write>(
 {
     match &found.fault {
         Some(fault) => {
-            push_fault(fault.offset, fault.words.as_bytes(), printer)?;
+            push_fault(fault.offset, fault.message.as_bytes(), printer)?;
             Ok(Verdict::Refused)
         }
         None if marks.is_empty() => Ok(Verdict::AllRead),

@@ -1,23 +1,22 @@
 // The rows of octets, one for each piece, and of what stands inside octets of strings.
-ghost use Rattle.std.specs.Prelude.{◌≡◌, ◌<◌, ◌++◌, ℕ, List, false, IfOk, IfSome, OnOk, is_some};
+ghost use Rattle.std.specs.Prelude.{◌≡◌, ◌<◌, ◌++◌, ℕ, List, false, IfOk, IfSome, OnOk, is_some, string_bytes};
 ghost use Rattle.der_lines.specs.Dump.{marked_offset};
 ghost use Rattle.der_pieces.specs.Pieces.{IsHolding, kind_words};
-ghost use Rattle.der_lines.specs.PieceRows.{IsNestedDump, IsPieceDump, row_faults, shown_front};
+ghost use Rattle.der_lines.specs.PieceRows.{IsFieldText, IsNamedBy, IsNestedDump, IsPieceDump, row_faults, shown_front};
 ghost use Rattle.der_rows.specs.Printing.{IsPrinted, IsPrintedAs};
 ghost use Rattle.der_lines.specs.Steps.{IsStart, IsWholeDump, earlier_fault, mark_offsets};
 
 use crate::lines::push_mark;
-use crate::values::{ValueStyle, cut_text, joined_value, opened_text, read_text};
+use crate::values::{ValueStyle, cut_text, write_opened, write_role, write_value};
+use der_contents::faults::Fault;
+use der_contents::scalars::write_after_space;
 use der_elements::header::holds_encodings;
 use der_elements::sum::sum_of;
 use der_io::StreamFault;
 use der_names::Names;
-use der_pieces::faults::Fault;
-use der_pieces::leaf::Meaning;
-use der_pieces::marks::ToldRule;
+use der_pieces::marks::BrokenRule;
 use der_pieces::piece::{Kind, Piece};
 use der_pieces::place::{Place, is_too_deep};
-use der_pieces::scalars::write_after_space;
 use der_pieces::walk::Walk;
 use der_rows::{Printer, Row};
 use der_shapes::Named;
@@ -29,17 +28,17 @@ use std::io::Write;
 #[derive(Drop)]
 pub struct Marked {
     pub offset: usize,
-    pub told: Vec<ToldRule>,
+    pub told: Vec<BrokenRule>,
 }
 
 // What is wrong with octets: the first fault, and the encodings that have a mark, with those inside octets of strings.
 #[derive(Drop)]
-pub struct Found {
+pub struct Problems {
     pub fault: Option<Fault>,
     pub marks: Vec<Marked>,
 }
 
-impl Found {
+impl Problems {
     // Keeps what is wrong with one more piece, and the marks inside it.
     fn keep(
         &mut self,
@@ -53,10 +52,18 @@ impl Found {
     {
         self.mark(alloc, &piece)?;
         self.marks.append(&mut inside)?;
-        if self.fault.is_none() {
-            self.fault = piece.fault;
-        }
+        self.keep_fault(piece.fault);
         Ok(())
+    }
+
+    // Keeps what is wrong with one more piece, unless something is wrong with an earlier one.
+    fn keep_fault(&mut self, fault: Option<Fault>)
+        ensures fault { self.new.fault ≡ earlier_fault self.old.fault fault }
+        ensures marks { self.new.marks ≡ self.old.marks }
+    {
+        if self.fault.is_none() {
+            self.fault = fault;
+        }
     }
 
     // Keeps the mark of a piece, if it has one.
@@ -65,7 +72,7 @@ impl Found {
         ensures marks { OnOk result (mark_offsets self.new.marks.items
             ≡ mark_offsets self.old.marks.items ++ marked_offset (shown_front piece.now)) }
     {
-        let told = piece.breaches.told(alloc)?;
+        let told = piece.breaches.describe(alloc)?;
         if told.is_empty() {
             return Ok(());
         }
@@ -83,11 +90,12 @@ pub fn push_encodings<W: Write>(
     octets: &[u8],
     place: Place,
     printer: &mut Printer<W>,
-) -> Result<Found, StreamFault>
+) -> Result<Problems, StreamFault>
     requires { place.is_inside ≡ false → (place.base ≡ 0) × (place.depth ≡ 0) }
-    ensures { IfOk result (λ found. IsPrinted W.contents (IsWholeDump place octets.now found) printer.old printer.new) }
+    ensures { IfOk result (λ found.
+        IsPrinted W.contents (IsWholeDump place octets.now found) printer.old printer.new) }
 {
-    let mut found = Found {
+    let mut found = Problems {
         fault: None,
         marks: Vec::new(alloc),
     };
@@ -164,7 +172,7 @@ fn has_rows_inside(piece: &Piece<'_>) -> bool {
     }
     match &piece.kind {
         Kind::EndOfContents(_) | Kind::Unreadable(_) => false,
-        Kind::Cut(header, contents) | Kind::Opened(header, contents) => {
+        Kind::Cut(header, contents) | Kind::Opened(header, contents, _) => {
             holds_encodings(header) && (header.is_indefinite || !contents.is_empty())
         }
         Kind::Leaf(_, _, _) => piece.nested.is_some(),
@@ -208,7 +216,8 @@ fn shown_of(
     piece: &Piece<'_>,
     words: &str,
 ) -> Result<Shown, AllocError>
-    ensures { IfOk result (λ shown. is_some shown.fault ≡ is_some piece.now.fault) }
+    ensures fault { IfOk result (λ shown. is_some shown.fault ≡ is_some piece.now.fault) }
+    ensures field { IfOk result (λ shown. IsNamedBy names.now.shapes piece.now (string_bytes shown.field)) }
 {
     let named = piece.names(&names.shapes);
     let mut value = value_text(alloc, names, piece, named)?;
@@ -226,7 +235,7 @@ fn shown_of(
 fn value_name(piece: &Piece<'_>, named: Option<Named>) -> Option<&'static str> {
     let name = named?.value?;
     match &piece.kind {
-        Kind::Opened(header, _) | Kind::Leaf(header, _, _) => match piece.place.role(header) {
+        Kind::Opened(header, _, _) | Kind::Leaf(header, _, _) => match piece.place.role(header) {
             Role::Name(_) => None,
             Role::Plain | Role::Bits(_) => Some(name),
         },
@@ -236,7 +245,9 @@ fn value_name(piece: &Piece<'_>, named: Option<Named>) -> Option<&'static str> {
 
 // The field of a piece, as it stands before the words of its type: its name, or that of its type where it has none.
 // Nothing where the words say as much.
-fn field_text(alloc: Global, words: &str, named: Option<Named>) -> Result<String, AllocError> {
+fn field_text(alloc: Global, words: &str, named: Option<Named>) -> Result<String, AllocError>
+    ensures { IfOk result (λ text. IsFieldText named (string_bytes text)) }
+{
     let Some(Named { field, of, .. }) = named else {
         return Ok(String::new(alloc));
     };
@@ -254,33 +265,27 @@ fn value_text(
     piece: &Piece<'_>,
     named: Option<Named>,
 ) -> Result<String, AllocError> {
-    let place = piece.place;
-    let field = named.and_then(|named| named.field);
+    let mut text = String::new(alloc);
+    let style = ValueStyle::of(piece);
     match &piece.kind {
-        Kind::EndOfContents(_) | Kind::Cut(_, _) => Ok(String::new(alloc)),
-        Kind::Unreadable(octets) => octets_text(alloc, octets, place.is_full),
-        Kind::Opened(header, contents) => {
-            let joined = joined_value(alloc, names, header, contents, place)?;
-            let role = place.role(header);
-            opened_text(alloc, header, role, field, joined.as_deref())
+        Kind::EndOfContents(_) | Kind::Cut(_, _) => {}
+        Kind::Unreadable(octets) | Kind::Leaf(_, octets, None) => {
+            write_after_space(&mut text, octets, style.is_full)?
         }
-        Kind::Leaf(_, contents, Meaning::Nothing) => octets_text(alloc, contents, place.is_full),
-        Kind::Leaf(header, contents, meaning) => {
-            let style = ValueStyle {
-                is_opened: piece.nested.is_some(),
-                is_full: place.is_full,
-                role: place.role(header),
-                field,
-            };
-            read_text(alloc, names, header, contents, meaning, style)
+        Kind::Opened(header, _, joined) => {
+            write_role(&mut text, piece.place.role(header), field_of(named))?;
+            write_opened(alloc, &mut text, names, header, joined, style)?
+        }
+        Kind::Leaf(header, contents, Some(value)) => {
+            write_role(&mut text, piece.place.role(header), field_of(named))?;
+            write_value(&mut text, names, contents, value, style)?
         }
     }
+    Ok(text)
 }
 
-fn octets_text(alloc: Global, octets: &[u8], is_full: bool) -> Result<String, AllocError> {
-    let mut text = String::new(alloc);
-    write_after_space(&mut text, octets, is_full)?;
-    Ok(text)
+fn field_of(named: Option<Named>) -> Option<&'static str> {
+    named?.field
 }
 
 // What is wrong with a piece, as it stands behind its value.
@@ -298,8 +303,8 @@ fn wrong_text(alloc: Global, piece: &Piece<'_>, fault: &Fault) -> Result<String,
     match &piece.kind {
         Kind::EndOfContents(_) => String::from_str(alloc, " is missing (Incomplete)"),
         Kind::Cut(header, contents) => cut_text(alloc, header, contents, piece.place.is_full),
-        Kind::Unreadable(_) | Kind::Opened(_, _) | Kind::Leaf(_, _, _) => {
-            format!(in alloc; ": {}", fault.words)
+        Kind::Unreadable(_) | Kind::Opened(_, _, _) | Kind::Leaf(_, _, _) => {
+            format!(in alloc; ": {}", fault.message)
         }
     }
 }

@@ -2,14 +2,14 @@
 ghost use Rattle.std.specs.Prelude.{◌≡◌, ◌++◌, OnOk, false, map};
 ghost use Rattle.der_lines.specs.Dump.{IsFaultLine, IsLine, IsNote};
 ghost use Rattle.der_lines.specs.MarkText.{mark_text, separator, words_text};
-ghost use Rattle.der_pieces.specs.Marks.{told_of, told_rules};
+ghost use Rattle.der_pieces.specs.Marks.{breach_of, breaches_of};
 ghost use Rattle.der_rows.specs.Printing.{IsPrinted};
 ghost use Rattle.der_rows.specs.Rows.{note_mark};
 
 use asn1_headers::error::ASN1DecodeErr;
+use der_contents::faults::fault_message;
 use der_io::StreamFault;
-use der_pieces::faults::fault_words;
-use der_pieces::marks::{Breaches, ToldRule};
+use der_pieces::marks::{Breaches, BrokenRule};
 use der_rows::{NoteKind, Printer};
 use std::alloc::{AllocError, Global};
 use std::io::Write;
@@ -17,9 +17,9 @@ use std::io::Write;
 // Pushes the mark of an encoding that is not DER, if it has one.
 pub fn push_mark(alloc: Global, breaches: &Breaches, out: &mut Vec<u8>) -> Result<(), AllocError>
     ensures { OnOk result (out.new.items ≡ out.old.items
-        ++ mark_text (told_rules breaches.now.rules.items breaches.now.has_spare_bits)) }
+        ++ mark_text (breaches_of breaches.now.rules.items breaches.now.has_spare_bits)) }
 {
-    let told = breaches.told(alloc)?;
+    let told = breaches.describe(alloc)?;
     if told.is_empty() {
         return Ok(());
     }
@@ -41,7 +41,7 @@ pub fn push_note<W: Write>(
     Ok(())
 }
 
-// Prints the line of a fault: its offset, and what is said of it.
+// Prints the line of a fault: its offset, and what is wrong.
 pub fn push_fault<W: Write>(
     offset: usize,
     words: &[u8],
@@ -65,13 +65,13 @@ pub fn push_fault_line<W: Write>(
 ) -> Result<(), StreamFault>
     ensures { OnOk result (IsPrinted W.contents (IsLine (IsFaultLine offset)) printer.old printer.new) }
 {
-    let words = fault_words(alloc, fault)?;
+    let words = fault_message(alloc, fault)?;
     push_fault(offset, words.as_bytes(), printer)
 }
 
 // Puts what is wrong, with a comma and a space between two.
-pub fn push_words(told: &[ToldRule], out: &mut Vec<u8>) -> Result<(), AllocError>
-    ensures { OnOk result (out.new.items ≡ out.old.items ++ words_text false (map told_of told.now)) }
+pub fn push_words(told: &[BrokenRule], out: &mut Vec<u8>) -> Result<(), AllocError>
+    ensures { OnOk result (out.new.items ≡ out.old.items ++ words_text false (map breach_of told.now)) }
 {
     let mut is_later = false;
     for rule in told {
@@ -82,7 +82,7 @@ pub fn push_words(told: &[ToldRule], out: &mut Vec<u8>) -> Result<(), AllocError
     Ok(())
 }
 
-fn push_text(rule: &ToldRule, out: &mut Vec<u8>) -> Result<(), AllocError>
+fn push_text(rule: &BrokenRule, out: &mut Vec<u8>) -> Result<(), AllocError>
     ensures { OnOk result (out.new.items ≡ out.old.items ++ rule.now.text.now) }
 {
     out.extend_from_slice(rule.text.as_bytes())?;

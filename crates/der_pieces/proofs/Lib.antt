@@ -1,3 +1,4 @@
+pub mod FieldPaths
 pub mod Pieces
-pub mod Told
+pub mod Breach
 pub mod Walks

@@ -12,17 +12,21 @@ use Rattle.asn1_headers.specs.declared.header.ASN1Class.{ASN1Class}
 use Rattle.der_pieces.specs.Fronts.{IsFirst, IsJudged, cut_short, of_cut, of_stray_form, of_whole, with_encodings, with_no_value, with_value, Front}
 use Rattle.der_elements.specs.Ends.{begins_with_end, taken}
 use Rattle.der_elements.specs.Headers.{is_stray_form, is_gone_into}
-use Rattle.der_pieces.specs.Pieces.{IsFault, IsFirstPiece, IsLeafMeaning, IsMeaning, IsNamed, IsNameless, IsOpenedFault, IsRight, IsPiece, fault_offset, front_of}
+use Rattle.der_elements.specs.Segments.{AreSegmentsOf}
+use Rattle.asn1_headers.specs.declared.header.ASN1Class.TheVariants.{Universal}
+use Rattle.der_contents.specs.Faults.{IsFault, IsNamed}
+use Rattle.der_contents.specs.Values.{IsMeaning, IsValue}
+use Rattle.der_pieces.specs.Pieces.{IsFirstPiece, IsLeafMeaning, IsNameless, IsOpenedFault, IsPiece, fault_offset, front_of}
 use Rattle.der_pieces.specs.Steps.{AreFirstRules, AreRulesFound, StartsNext, StartsWith, header_front}
 use Rattle.der_elements.specs.Steps.{IsTaken}
 use Rattle.der_elements.specs.declared.cursor.Left.{Left}
 use Rattle.der_elements.specs.declared.cursor.Step.{Step}
 use Rattle.der_elements.specs.declared.cursor.Step.TheVariants.{Into, Out, Past}
-use Rattle.der_pieces.specs.declared.faults.Fault.{Fault}
-use Rattle.der_pieces.specs.declared.leaf.Meaning.{Meaning}
-use Rattle.der_pieces.specs.declared.leaf.Meaning.TheVariants.{NoCharacters, Nothing, Text, Time, Value}
+use Rattle.der_contents.specs.declared.faults.Fault.{Fault}
 use Rattle.der_pieces.specs.declared.piece.Piece.{Piece}
 use Rattle.der_pieces.specs.declared.place.Place.{Place}
+use Rattle.der_contents.specs.declared.value.LeafValue.{LeafValue}
+use Rattle.der_contents.proofs.Values.{value_encodes}
 use Rattle.der_elements.proofs.Seeking.{size-length_header}
 
 pub starts_next :
@@ -159,54 +163,59 @@ opened_judged left offset depth rules header fault h l o (inl (stray, is)) =
 opened_judged left offset depth rules header fault h l o (inr (stray, none)) =
     with_encodings l o stray (ap fault_offset none)
 
-right_judged :
-    (left : List ℕ) (offset depth : ℕ) (rules : List Rule) (header : Header) (fault : Option Fault)
-    (h : IsAtFront left header) → header.size + header.announced ≤ length left →
-    is_gone_into header.class header.constructed header.tag ≡ false →
-    is_stray_form header.constructed (drop (length h.identifier) left) ≡ false →
-    IsRight header.class header.constructed header.tag
-    (slice_range left header.size (header.size + header.announced)) → fault ≡ None →
-    IsJudgedAs left offset depth rules header h (fault_offset fault)
-right_judged left offset depth rules header fault h l o stray right none =
-    with_value l o stray
-    (inr (inr (right (take (header.size + header.announced) left) header.size
-    (front_encoding left (slice_range left header.size (header.size + header.announced)) header.size header.announced
-    header.class header.constructed header.tag h l refl))))
-    (ap fault_offset none)
-
 meaning_judged :
-    (left : List ℕ) (offset depth : ℕ) (rules : List Rule) (header : Header) (meaning : Meaning) (fault : Option Fault)
-    (h : IsAtFront left header) → header.size + header.announced ≤ length left →
+    (left : List ℕ) (offset depth : ℕ) (rules : List Rule) (header : Header) (value : Option LeafValue)
+    (fault : Option Fault) (h : IsAtFront left header) → header.size + header.announced ≤ length left →
     is_gone_into header.class header.constructed header.tag ≡ false →
     is_stray_form header.constructed (drop (length h.identifier) left) ≡ false →
-    IsMeaning header.class header.constructed header.tag
-    (slice_range left header.size (header.size + header.announced)) offset meaning fault →
+    IsMeaning header.class header.tag (slice_range left header.size (header.size + header.announced)) offset value
+    fault →
     IsJudgedAs left offset depth rules header h (fault_offset fault)
-meaning_judged left offset depth rules header (Text form text) fault h l o stray (wide, none) =
-    with_value l o stray (inl wide) (ap fault_offset none)
-meaning_judged left offset depth rules header (Time text) fault h l o stray (time, none) =
-    with_value l o stray (inr (inl time)) (ap fault_offset none)
-meaning_judged left offset depth rules header Value fault h l o stray (right, others, none) =
-    right_judged left offset depth rules header fault h l o stray right none
-meaning_judged left offset depth rules header NoCharacters fault h l o stray (right, wide, none) =
-    right_judged left offset depth rules header fault h l o stray right none
-meaning_judged left offset depth rules header Nothing fault h l o stray (u, (found, wrong, is)) =
+meaning_judged left offset depth rules header None fault h l o stray (u, (found, wrong, is)) =
     with_no_value l o u found wrong (named_at offset found fault is)
+meaning_judged left offset depth rules header (Some value) fault h l o stray (is, none) =
+    let contents = slice_range left header.size (header.size + header.announced) in
+    with_value l o stray
+    (value_encodes (take (header.size + header.announced) left) contents header.class header.constructed header.tag
+    header.size value o
+    (front_encoding left contents header.size header.announced header.class header.constructed header.tag h l refl) is)
+    (ap fault_offset none)
 
 -- and with one that is not
 pub leaf_judged :
-    (left : List ℕ) (offset depth : ℕ) (rules : List Rule) (header : Header) (meaning : Meaning) (fault : Option Fault)
-    (h : IsAtFront left header) → header.size + header.announced ≤ length left →
+    (left : List ℕ) (offset depth : ℕ) (rules : List Rule) (header : Header) (value : Option LeafValue)
+    (fault : Option Fault) (h : IsAtFront left header) → header.size + header.announced ≤ length left →
     is_gone_into header.class header.constructed header.tag ≡ false →
-    IsLeafMeaning left header (drop (length h.identifier) left) offset meaning fault →
+    IsLeafMeaning left header (drop (length h.identifier) left) offset value fault →
     IsJudgedAs left offset depth rules header h (fault_offset fault)
-leaf_judged left offset depth rules header meaning fault h l o (inl (stray, nothing, is)) =
+leaf_judged left offset depth rules header value fault h l o (inl (stray, none, is)) =
     of_stray_form stray (nameless_at offset fault is)
-leaf_judged left offset depth rules header meaning fault h l o (inr (stray, is)) =
-    meaning_judged left offset depth rules header meaning fault h l o stray is
+leaf_judged left offset depth rules header value fault h l o (inr (stray, is)) =
+    meaning_judged left offset depth rules header value fault h l o stray is
 
 -- the rules of a whole encoding
 pub whole_rules :
     (left : List ℕ) (header : Header) (rules : List Rule) → header.size + header.announced ≤ length left →
     AreRulesFound left header rules → AreFirstRules left header rules
 whole_rules left header rules whole found front = of_whole whole (found front)
+
+-- the value of segments joined
+pub joined_is :
+    (header whole : Header) (contents joined : List ℕ) (value : Option LeafValue) (v : LeafValue)
+    (fault : Option Fault) → header.class ≡ Universal → whole.class ≡ Universal → whole.tag ≡ header.tag →
+    whole.constructed ≡ false → is_gone_into whole.class whole.constructed whole.tag ≡ false →
+    AreSegmentsOf header.tag contents header.is_indefinite joined → value ≡ Some v →
+    IsMeaning whole.class whole.tag joined 0 value fault →
+    (header.class ≡ Universal) × AreSegmentsOf header.tag contents header.is_indefinite joined
+    × (is_gone_into header.class false header.tag ≡ false) × IsValue header.class header.tag joined v
+joined_is header whole contents joined value v fault u w t primitive closed segments e is =
+    let class : whole.class ≡ header.class = w ∙ sym u in
+    let meaning = subst (λ z. IsMeaning whole.class whole.tag joined 0 z fault) e is in (
+      u,
+      segments,
+      subst (λ z. is_gone_into z false header.tag ≡ false) class
+          (subst (λ z. is_gone_into whole.class false z ≡ false) t
+          (subst (λ z. is_gone_into whole.class z whole.tag ≡ false) primitive closed)),
+      subst (λ z. IsValue z header.tag joined v) class
+          (subst (λ z. IsValue whole.class z joined v) t meaning.0),
+    )

@@ -1,6 +1,6 @@
 -- What stands in octets, encoding after encoding, by their headers. The contents octets of constructed encodings, and
 -- of each SEQUENCE and SET, are gone into; those of others are looked at alone.
-use Rattle.std.specs.Prelude.{◌↔◌, ◌&&◌, not, IsTrue, ◌≡◌, ◌⊎◌, ◌==◌, ◌||◌, ℕ, ◌+◌, ◌^◌, ◌<◌, ◌≤◌, nat_lt, Bool, true, false, if◌then◌else◌, Option, None, Some, unwrap_or, List, [], ◌∷◌, ◌++◌, drop, length, take, slice_range, codes, decimal}
+use Rattle.std.specs.Prelude.{◌↔◌, ◌&&◌, IsTrue, ◌≡◌, ◌⊎◌, ℕ, ◌+◌, ◌^◌, ◌<◌, ◌≤◌, nat_lt, Bool, true, false, if◌then◌else◌, Option, None, Some, unwrap_or, List, [], ◌∷◌, ◌++◌, drop, length, take, slice_range, codes, decimal}
 use Rattle.asn1_headers.specs.Fault.{DecodeFault}
 use Rattle.asn1_headers.specs.declared.header.ASN1Class.{ASN1Class}
 use Rattle.asn1_headers.specs.declared.header.ASN1Class.TheVariants.{Universal, Application, ContextSpecific, Private}
@@ -13,7 +13,7 @@ use Rattle.der_elements.specs.declared.cursor.End.{End}
 use Rattle.asn1_departures.specs.Departures.{AreBroken}
 use Rattle.asn1_departures.specs.declared.rule.Rule.{Rule}
 use Rattle.asn1_headers.specs.Names.{type_name}
-use Rattle.der_values.specs.Times.{IsTime}
+use Rattle.der_contents.specs.Values.{IsBerTime, is_wide}
 use Rattle.der_elements.specs.Ends.{begins_with_end, end_at, taken}
 
 -- a tag number in words: in decimal below 2^128
@@ -68,21 +68,6 @@ end_of_contents offset size depth = record {
   rules = [];
   has_spare_bits = false;
 }
-
--- strings that the library takes for UTF-8 where X.690 has other characters: TeletexString, UniversalString, BMPString
-abbrev pub is_wide : ASN1Class → ℕ → Bool
-is_wide Universal tag = (tag == 20) || (tag == 28) || (tag == 30)
-is_wide class tag = false
-
--- contents octets of a UniversalString or a BMPString that is not empty: X.690 has characters of four or of two octets
--- there (8.23.7, 8.23.8), which the library takes for UTF-8
-abbrev pub has_wide_characters : ASN1Class → ℕ → List ℕ → Bool
-has_wide_characters Universal tag contents = not (length contents == 0) && (tag == 28 || tag == 30)
-has_wide_characters class tag contents = false
-
--- contents octets are a UTCTime or a GeneralizedTime of BER (X.680 46.3, 47.3)
-abbrev pub IsBerTime : ASN1Class → ℕ → List ℕ → Type 0
-IsBerTime class tag contents = (class ≡ Universal) × IsTime tag contents
 
 -- what is wrong with an encoding that begins the octets, nothing or something at its offset
 pub data IsJudged (octets : List ℕ) (front : Front) (class : ASN1Class) (constructed : Bool) (tag : ℕ)

@@ -3,10 +3,10 @@ use Rattle.std.specs.Prelude.{Bool, true, false, ℕ, List, [], ◌∷◌, ◌++
 use Rattle.asn1_departures.specs.Rules.{section_of, text_of}
 use Rattle.asn1_departures.specs.declared.rule.Rule.{Rule}
 use Rattle.asn1_departures.specs.declared.rule.Rule.TheVariants.{LongIdentifier, PaddedTag, IndefiniteLength, LongLength, ReservedTag, NotConstructed, NotPrimitive, ConstructedString, BooleanSize, BooleanValue, NoInteger, PaddedInteger, SpecialReal, BinaryReal, DecimalReal, UnusedCount, UnusedOfNone, UnusedBits, NullContents, Subidentifiers, Iri, Characters, UtcTime, GeneralizedTime, Time, Order, NotEncodings}
-use Rattle.der_pieces.specs.declared.marks.ToldRule.{ToldRule}
+use Rattle.der_pieces.specs.declared.marks.BrokenRule.{BrokenRule}
 
 -- a rule that is broken: its name in a program, the clauses that say it, and what is wrong
-pub record Told : Type 0 where
+pub record Breach : Type 0 where
   pub name : List ℕ
   pub section : List ℕ
   pub words : List ℕ
@@ -40,24 +40,24 @@ name_of Time = codes "Time"
 name_of Order = codes "Order"
 name_of NotEncodings = codes "NotEncodings"
 
-abbrev pub rule_told : Rule → Told
-rule_told rule = record { name = name_of rule; section = section_of rule; words = text_of rule }
+abbrev pub rule_breach : Rule → Breach
+rule_breach rule = record { name = name_of rule; section = section_of rule; words = text_of rule }
 
 -- a list of named bits has no 0 at its end (11.2.2). A schema alone tells which BIT STRING is one
-abbrev pub spare_told : Told
-spare_told = record {
+abbrev pub spare_breach : Breach
+spare_breach = record {
   name = codes "NamedBits";
   section = codes "11.2.2";
   words = codes "named bits that end with 0";
 }
 
-abbrev pub spare_if : Bool → List Told
-spare_if true = spare_told ∷ []
+abbrev pub spare_if : Bool → List Breach
+spare_if true = spare_breach ∷ []
 spare_if false = []
 
 -- what is told of an encoding that breaks these rules, and is a list of named bits with a 0 at its end, or not
-abbrev pub told_rules : List Rule → Bool → List Told
-told_rules rules spare = map rule_told rules ++ spare_if spare
+abbrev pub breaches_of : List Rule → Bool → List Breach
+breaches_of rules spare = map rule_breach rules ++ spare_if spare
 
 -- there are some
 abbrev pub are_some : {A : Type 0} → List A → Bool
@@ -65,5 +65,5 @@ are_some [] = false
 are_some (x ∷ xs) = true
 
 -- what a struct tells
-abbrev pub told_of : ToldRule → Told
-told_of rule = record { name = rule.name.now; section = rule.section.now; words = rule.text.now }
+abbrev pub breach_of : BrokenRule → Breach
+breach_of rule = record { name = rule.name.now; section = rule.section.now; words = rule.text.now }

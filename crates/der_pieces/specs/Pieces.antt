@@ -1,42 +1,30 @@
 -- The pieces in which octets are gone over: encodings, end-of-contents octets, and octets that begin with no header.
 -- Private contracts alone name these.
-use Rattle.std.specs.Prelude.{◌≡◌, ◌⊎◌, ℕ, ◌+◌, ◌<◌, ◌≤◌, Bool, true, false, List, [], ◌∷◌, ◌++◌, codes, drop, length, IfSome, MatchOption, Option, None, Some, option_map, slice_range}
+use Rattle.std.specs.Prelude.{◌≡◌, ◌⊎◌, ℕ, ◌+◌, ◌<◌, ◌≤◌, Bool, true, false, List, [], ◌∷◌, ◌++◌, codes, drop, length, IfSome, Option, None, Some, slice_range}
 use Rattle.asn1_departures.specs.declared.rule.Rule.{Rule}
 use Rattle.asn1_headers.specs.Fault.{DecodeFault, incomplete}
 use Rattle.asn1_headers.specs.Front.{IsAtFront}
-use Rattle.asn1_headers.specs.Header.{Encoding}
-use Rattle.asn1_headers.specs.Names.{fault_name}
 use Rattle.asn1_headers.specs.declared.front.Header.{Header}
-use Rattle.asn1_headers.specs.declared.header.ASN1Class.{ASN1Class}
 use Rattle.asn1_headers.specs.declared.header.ASN1Class.TheVariants.{Universal}
-use Rattle.asn1_blocks.specs.Contents.{LeafFault}
-use Rattle.asn1_blocks.specs.Grammar.{Encodes}
-use Rattle.asn1_blocks.specs.Tree.{Tree}
-use Rattle.der_pieces.specs.Fronts.{Front, IsBerTime, StandAt, has_wide_characters, is_wide, tag_words}
+use Rattle.der_pieces.specs.Fronts.{Front, StandAt, tag_words}
 use Rattle.der_elements.specs.Headers.{is_stray_form, is_gone_into}
 use Rattle.der_elements.specs.Ends.{taken}
+use Rattle.der_elements.specs.Segments.{AreSegmentsOf}
+use Rattle.der_contents.specs.Faults.{IsFault, IsNamed}
+use Rattle.der_contents.specs.Values.{IsMeaning, IsValue}
 use Rattle.der_pieces.specs.Steps.{IsAhead, StartsNext, StartsWith}
 use Rattle.der_elements.specs.Steps.{to_go}
 use Rattle.der_elements.specs.declared.cursor.Left.{Left}
 use Rattle.der_elements.specs.declared.cursor.Step.{Step}
-use Rattle.der_pieces.specs.declared.faults.Fault.{Fault}
-use Rattle.der_pieces.specs.declared.leaf.Meaning.{Meaning}
-use Rattle.der_pieces.specs.declared.leaf.Meaning.TheVariants.{NoCharacters, Nothing, Text, Time, Value}
+use Rattle.der_contents.specs.declared.faults.Fault.{Fault}
 use Rattle.der_pieces.specs.declared.nested.Nested.{Nested}
 use Rattle.der_pieces.specs.declared.piece.Kind.{Kind}
 use Rattle.der_pieces.specs.declared.piece.Kind.TheVariants.{Cut, EndOfContents, Leaf, Opened, Unreadable}
 use Rattle.der_pieces.specs.declared.piece.Piece.{Piece}
 use Rattle.der_pieces.specs.declared.place.Place.{Place}
+use Rattle.der_pieces.specs.declared.strings.Joined.{Joined}
+use Rattle.der_contents.specs.declared.value.LeafValue.{LeafValue}
 use Rattle.der_pieces.specs.declared.walk.Walk.{Walk}
-
--- the fault stands at the offset and has this name
-abbrev pub IsNamed : ℕ → DecodeFault → Fault → Type 0
-IsNamed offset found fault =
-    (fault.offset ≡ offset) × (option_map (λ t. t.now) fault.code ≡ Some (fault_name found))
-
--- there is a fault, of which this holds
-abbrev pub IsFault : (Fault → Type 0) → Option Fault → Type 0
-IsFault Is told = MatchOption told ⊥ Is
 
 -- the fault stands at the offset and has no name
 abbrev pub IsNameless : ℕ → Fault → Type 0
@@ -47,32 +35,21 @@ abbrev pub fault_offset : Option Fault → List ℕ
 fault_offset None = []
 fault_offset (Some fault) = fault.offset ∷ []
 
--- contents octets of an encoding with these fields mean a block
-abbrev pub IsRight : ASN1Class → Bool → ℕ → List ℕ → Type 0
-IsRight class constructed tag contents =
-    (octets : List ℕ) (header : ℕ) → Encoding octets class constructed tag contents header
-    → (b : Tree ℕ) × Encodes 0 octets b
-
--- what contents octets of an encoding with these fields mean, and what is wrong with them, at the offset
-abbrev pub IsMeaning : ASN1Class → Bool → ℕ → List ℕ → ℕ → Meaning → Option Fault → Type 0
-IsMeaning class constructed tag contents offset (Text form text) fault = (is_wide class tag ≡ true) × (fault ≡ None)
-IsMeaning class constructed tag contents offset (Time text) fault = IsBerTime class tag contents × (fault ≡ None)
-IsMeaning class constructed tag contents offset Value fault =
-    IsRight class constructed tag contents × (has_wide_characters class tag contents ≡ false) × (fault ≡ None)
-IsMeaning class constructed tag contents offset NoCharacters fault =
-    IsRight class constructed tag contents × (has_wide_characters class tag contents ≡ true) × (fault ≡ None)
-IsMeaning class constructed tag contents offset Nothing fault =
-    (class ≡ Universal)
-    × ((found : DecodeFault) × LeafFault tag contents found × IsFault (IsNamed offset found) fault)
-
--- what the contents octets mean of an encoding that is not gone into, and what is wrong with it: it has the header,
+-- the value of the contents octets of an encoding that is not gone into, or what is wrong with it: it has the header,
 -- begins the octets, and stands at the offset. These octets stand behind its identifier octets
-abbrev pub IsLeafMeaning : List ℕ → Header → List ℕ → ℕ → Meaning → Option Fault → Type 0
-IsLeafMeaning left header behind offset meaning fault =
-    ((is_stray_form header.constructed behind ≡ true) × (meaning ≡ Nothing) × IsFault (IsNameless offset) fault)
+abbrev pub IsLeafMeaning : List ℕ → Header → List ℕ → ℕ → Option LeafValue → Option Fault → Type 0
+IsLeafMeaning left header behind offset value fault =
+    ((is_stray_form header.constructed behind ≡ true) × (value ≡ None) × IsFault (IsNameless offset) fault)
     ⊎ ((is_stray_form header.constructed behind ≡ false)
-    × IsMeaning header.class header.constructed header.tag
-    (slice_range left header.size (header.size + header.announced)) offset meaning fault)
+    × IsMeaning header.class header.tag (slice_range left header.size (header.size + header.announced)) offset value
+    fault)
+
+-- the segments in contents octets of a constructed string, joined, and their value
+abbrev pub IsJoined : Header → List ℕ → Joined → Type 0
+IsJoined header contents joined =
+    (header.class ≡ Universal) × AreSegmentsOf header.tag contents header.is_indefinite joined.contents.items
+    × (is_gone_into header.class false header.tag ≡ false)
+    × IsValue header.class header.tag joined.contents.items joined.value
 
 -- what is wrong with one that is gone into
 abbrev pub IsOpenedFault : Bool → ℕ → Option Fault → Type 0
@@ -88,49 +65,50 @@ IsKind left offset (Unreadable octets) fault =
 IsKind left offset (Cut header contents) fault =
     IsAtFront left header × (length left < header.size + header.announced)
     × (contents.now ≡ drop header.size left) × IsFault (IsNamed offset incomplete) fault
-IsKind left offset (Opened header contents) fault =
+IsKind left offset (Opened header contents joined) fault =
     (front : IsAtFront left header) × (header.size + header.announced ≤ length left)
     × (is_gone_into header.class header.constructed header.tag ≡ true)
     × (contents.now
     ≡ slice_range left header.size (taken header.is_indefinite (header.size + header.announced) (length left)))
+    × IfSome joined (IsJoined header contents.now)
     × IsOpenedFault (is_stray_form header.constructed (drop (length front.identifier) left)) offset fault
-IsKind left offset (Leaf header contents meaning) fault =
+IsKind left offset (Leaf header contents value) fault =
     (front : IsAtFront left header) × (header.size + header.announced ≤ length left)
     × (is_gone_into header.class header.constructed header.tag ≡ false)
     × (contents.now ≡ slice_range left header.size (header.size + header.announced))
-    × IsLeafMeaning left header (drop (length front.identifier) left) offset meaning fault
+    × IsLeafMeaning left header (drop (length front.identifier) left) offset value fault
 
 -- how many octets its header has, or end-of-contents octets
 abbrev pub kind_header : Kind → ℕ
 kind_header (EndOfContents size) = size
 kind_header (Unreadable octets) = 0
 kind_header (Cut header contents) = header.size
-kind_header (Opened header contents) = header.size
-kind_header (Leaf header contents meaning) = header.size
+kind_header (Opened header contents joined) = header.size
+kind_header (Leaf header contents value) = header.size
 
 -- how many contents octets it announces, or has
 abbrev pub kind_contents : Kind → ℕ
 kind_contents (EndOfContents size) = 0
 kind_contents (Unreadable octets) = length octets.now
 kind_contents (Cut header contents) = header.announced
-kind_contents (Opened header contents) = header.announced
-kind_contents (Leaf header contents meaning) = header.announced
+kind_contents (Opened header contents joined) = header.announced
+kind_contents (Leaf header contents value) = header.announced
 
 -- whether its length is of the indefinite form
 abbrev pub kind_indefinite : Kind → Bool
 kind_indefinite (EndOfContents size) = false
 kind_indefinite (Unreadable octets) = false
 kind_indefinite (Cut header contents) = header.is_indefinite
-kind_indefinite (Opened header contents) = header.is_indefinite
-kind_indefinite (Leaf header contents meaning) = header.is_indefinite
+kind_indefinite (Opened header contents joined) = header.is_indefinite
+kind_indefinite (Leaf header contents value) = header.is_indefinite
 
 -- what it is in words
 abbrev pub kind_words : Kind → List ℕ
 kind_words (EndOfContents size) = codes "end-of-contents"
 kind_words (Unreadable octets) = codes "unreadable"
 kind_words (Cut header contents) = tag_words header.class header.tag
-kind_words (Opened header contents) = tag_words header.class header.tag
-kind_words (Leaf header contents meaning) = tag_words header.class header.tag
+kind_words (Opened header contents joined) = tag_words header.class header.tag
+kind_words (Leaf header contents value) = tag_words header.class header.tag
 
 -- what the line of a piece of the kind begins with, at the offset, inside so many encodings
 abbrev pub kind_front : ℕ → ℕ → List Rule → Bool → Kind → Front
@@ -157,8 +135,8 @@ IsHolding left kind place nested =
     × StandAt (slice_range left (kind_header kind) (kind_header kind + kind_contents kind)) n.before n.octets.now)
 
 -- the piece begins octets that stand at the offset, and starts so
-pub record IsPieceAs (Starts : ℕ → Front → Step → List ℕ → Type 0) (left : List ℕ) (offset : ℕ) (place : Place)
-    (piece : Piece) : Type 0 where
+pub record IsPieceAs (Starts : ℕ → Front → Step → List ℕ → Type 0) (left : List ℕ) (offset : ℕ)
+    (place : Place) (piece : Piece) : Type 0 where
   pub starts : (depth : ℕ) → Starts depth (front_of depth piece) piece.step (fault_offset piece.fault)
   pub kind : IsKind left offset piece.kind piece.fault
   pub offset_is : piece.offset ≡ offset

@@ -28,8 +28,8 @@ header_front offset depth rules header = record {
 -- the encoding with the header, which begins the octets, breaks these rules
 abbrev pub AreFirstRules : List ℕ → Header → List Rule → Type 0
 AreFirstRules left header rules =
-    (front : IsAtFront left header) → AreRules left front.identifier front.len header.size header.announced header.class
-    header.constructed header.tag rules
+    (front : IsAtFront left header) → AreRules left front.identifier front.len header.size header.announced
+    header.class header.constructed header.tag rules
 
 -- a whole one does
 abbrev pub AreRulesFound : List ℕ → Header → List Rule → Type 0

@@ -1,4 +1,8 @@
 // Which fields the pieces of octets are.
+ghost use Rattle.std.specs.Prelude.{◌≡◌, IfOk, IfSome, MatchOption};
+ghost use Rattle.der_pieces.specs.Fields.{EndsPath, GoesOver};
+ghost use Rattle.der_pieces.specs.declared.place.Around.TheVariants.{Nothing};
+
 use crate::piece::{Kind, Piece};
 use crate::place::{Around, Place};
 use asn1_headers::header::ASN1Class;
@@ -11,27 +15,33 @@ use std::alloc::{AllocError, Global};
 pub struct Fields<'a> {
     shapes: &'a Shapes,
     walk: FieldWalk<'a>,
-    // each outermost encoding is a document, which may have any shape
-    is_document: bool,
-    // the shape of the next one, where it is known
+    // what says which fields they are
+    around: Around,
+    // the shape of the next outermost encoding of a document, where it is known
     shape: Option<usize>,
+    ghost over: { ∥ (GoesOver shapes.now around walk) ∥₁ },
 }
 
 impl<'a> Fields<'a> {
     // Before the first piece of octets that stand at the place. `None` where they have no names.
-    pub fn at(alloc: Global, shapes: &'a Shapes, place: Place) -> Option<Fields<'a>> {
-        match place.around {
+    pub fn at(alloc: Global, shapes: &'a Shapes, place: Place) -> Option<Fields<'a>>
+        ensures { MatchOption result
+            (place.around ≡ Nothing)
+            (λ fields. (fields.shapes.now ≡ shapes.now) × (fields.around ≡ place.around)) }
+    {
+        let around = place.around;
+        match around {
             Around::Nothing => None,
             Around::Document(shape) => Some(Fields {
                 shapes,
                 walk: FieldWalk::over(alloc, shapes, shape),
-                is_document: true,
+                around,
                 shape,
             }),
             Around::String(string) => Some(Fields {
                 shapes,
                 walk: FieldWalk::inside(alloc, shapes, string),
-                is_document: false,
+                around,
                 shape: None,
             }),
         }
@@ -43,18 +53,32 @@ impl<'a> Fields<'a> {
         alloc: Global,
         depth: usize,
         left: Left<'_>,
-    ) -> Result<Option<Spot>, AllocError> {
-        if depth == 0 && self.is_document {
-            self.begin(alloc, left.octets)?;
-        }
-        if left.begins_with_end() {
-            return self.walk.next(depth, None);
-        }
-        self.walk.next(depth, tag_of(left.octets))
+    ) -> Result<Option<Spot>, AllocError>
+        ensures shapes { self.new.shapes.now ≡ self.old.shapes.now }
+        ensures around { self.new.around ≡ self.old.around }
+        ensures field { IfOk result (λ found. IfSome found (EndsPath self.old.shapes.now self.old.around depth)) }
+    {
+        self.begin(alloc, depth, left.octets)?;
+        let tag = if left.begins_with_end() {
+            None
+        } else {
+            tag_of(left.octets)
+        };
+        self.walk.next(depth, tag)
     }
 
-    // Begins a document: the first has the shape that is known, and any other one that fits.
-    fn begin(&mut self, alloc: Global, octets: &[u8]) -> Result<(), AllocError> {
+    // Begins an encoding that stands inside so many others. An outermost one of a document is one of its own, which may
+    // have any shape: the first has the shape that is known, and any other one that fits.
+    fn begin(&mut self, alloc: Global, depth: usize, octets: &[u8]) -> Result<(), AllocError>
+        ensures shapes { self.new.shapes.now ≡ self.old.shapes.now }
+        ensures around { self.new.around ≡ self.old.around }
+    {
+        if depth > 0 {
+            return Ok(());
+        }
+        let Around::Document(_) = self.around else {
+            return Ok(());
+        };
         let root = match self.shape {
             Some(shape) => Some(shape),
             None => self.shapes.fitting(alloc, octets)?,
@@ -65,13 +89,16 @@ impl<'a> Fields<'a> {
     }
 
     // Sees the piece that was gone on to.
-    pub fn see(&mut self, piece: &Piece<'_>) -> Result<(), AllocError> {
+    pub fn see(&mut self, piece: &Piece<'_>) -> Result<(), AllocError>
+        ensures shapes { self.new.shapes.now ≡ self.old.shapes.now }
+        ensures around { self.new.around ≡ self.old.around }
+    {
         match &piece.kind {
             Kind::Leaf(_, contents, _) => self.walk.see(contents),
             Kind::EndOfContents(_)
             | Kind::Unreadable(_)
             | Kind::Cut(_, _)
-            | Kind::Opened(_, _) => Ok(()),
+            | Kind::Opened(_, _, _) => Ok(()),
         }
     }
 }

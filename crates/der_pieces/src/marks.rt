@@ -1,7 +1,7 @@
 // Which rules of DER an encoding breaks.
 ghost use Rattle.std.specs.Prelude.{◌≡◌, ◌++◌, ◌∷◌, ◌+◌, ◌<◌, ◌≤◌, [], IfOk, OnOk, false, length, map};
 ghost use Rattle.asn1_headers.specs.Front.{IsAtFront};
-ghost use Rattle.der_pieces.specs.Marks.{name_of as name_of_is, rule_told as rule_told_is, spare_if, told_of, told_rules, spare_told as spare_told_is};
+ghost use Rattle.der_pieces.specs.Marks.{name_of as name_of_is, rule_breach as rule_breach_is, spare_if, breach_of, breaches_of, spare_breach as spare_breach_is};
 ghost use Rattle.der_pieces.specs.Steps.{AreRulesFound};
 
 use crate::place::Place;
@@ -21,7 +21,7 @@ pub struct Breaches {
 
 // What is told of a rule that is broken.
 #[derive(Clone, Copy, Drop)]
-pub struct ToldRule {
+pub struct BrokenRule {
     // the rule's name in a program
     pub name: &'static str,
     // the clauses that say it
@@ -43,57 +43,57 @@ impl Breaches {
     }
 
     // What is told of each.
-    pub fn told(&self, alloc: Global) -> Result<Vec<ToldRule>, AllocError>
-        ensures { IfOk result (λ told. map told_of told.items
-            ≡ told_rules self.now.rules.items self.now.has_spare_bits) }
+    pub fn describe(&self, alloc: Global) -> Result<Vec<BrokenRule>, AllocError>
+        ensures { IfOk result (λ told. map breach_of told.items
+            ≡ breaches_of self.now.rules.items self.now.has_spare_bits) }
     {
-        let mut told = rules_told(alloc, &self.rules)?;
+        let mut told = described_rules(alloc, &self.rules)?;
         push_spare(self.has_spare_bits, &mut told)?;
         Ok(told)
     }
 }
 
-fn rules_told(alloc: Global, rules: &[Rule]) -> Result<Vec<ToldRule>, AllocError>
-    ensures { IfOk result (λ told. map told_of told.items ≡ map rule_told_is rules.now) }
+fn described_rules(alloc: Global, rules: &[Rule]) -> Result<Vec<BrokenRule>, AllocError>
+    ensures { IfOk result (λ told. map breach_of told.items ≡ map rule_breach_is rules.now) }
 {
     let mut told = Vec::new(alloc);
     for rule in rules {
-        told.push(rule_told(*rule))?;
+        told.push(rule_breach(*rule))?;
     }
     Ok(told)
 }
 
-fn push_spare(is_spare: bool, told: &mut Vec<ToldRule>) -> Result<(), AllocError>
-    ensures { OnOk result (map told_of told.new.items ≡ map told_of told.old.items ++ spare_if is_spare) }
+fn push_spare(is_spare: bool, told: &mut Vec<BrokenRule>) -> Result<(), AllocError>
+    ensures { OnOk result (map breach_of told.new.items ≡ map breach_of told.old.items ++ spare_if is_spare) }
 {
     if is_spare {
-        push_told(spare_told(), told)
+        push_breach(spare_breach(), told)
     } else {
         Ok(())
     }
 }
 
-fn push_told(rule: ToldRule, told: &mut Vec<ToldRule>) -> Result<(), AllocError>
-    ensures { OnOk result (map told_of told.new.items ≡ map told_of told.old.items ++ told_of rule ∷ []) }
+fn push_breach(rule: BrokenRule, told: &mut Vec<BrokenRule>) -> Result<(), AllocError>
+    ensures { OnOk result (map breach_of told.new.items ≡ map breach_of told.old.items ++ breach_of rule ∷ []) }
 {
     told.push(rule)?;
     Ok(())
 }
 
-fn rule_told(rule: Rule) -> ToldRule
-    ensures { told_of result ≡ rule_told_is rule }
+fn rule_breach(rule: Rule) -> BrokenRule
+    ensures { breach_of result ≡ rule_breach_is rule }
 {
-    ToldRule {
+    BrokenRule {
         name: name_of(rule),
         section: rule.section(),
         text: rule.text(),
     }
 }
 
-fn spare_told() -> ToldRule
-    ensures { told_of result ≡ spare_told_is }
+fn spare_breach() -> BrokenRule
+    ensures { breach_of result ≡ spare_breach_is }
 {
-    ToldRule {
+    BrokenRule {
         name: "NamedBits",
         section: "11.2.2",
         text: "named bits that end with 0",

@@ -3,9 +3,9 @@ ghost use Rattle.std.specs.Prelude.{◌+◌, ◌<◌, ◌≤◌, IfOk, IfSome, l
 ghost use Rattle.der_pieces.specs.Fronts.{StandAt};
 ghost use Rattle.der_elements.specs.Steps.{Takes};
 
-use crate::leaf::is_right;
 use crate::place::Place;
 use asn1_headers::front::Header;
+use der_contents::leaf::is_right;
 use der_elements::cursor::{Cursor, Left, Step};
 use der_elements::header::{holds_encodings, size_of, step_of, universal_tag, whole_header};
 use std::alloc::{AllocError, Global};

@@ -1,25 +1,27 @@
 // The pieces of octets, read once for lines and for JSON.
-ghost use Rattle.std.specs.Prelude.{◌≡◌, ◌↔◌, ◌+◌, ◌<◌, ◌≤◌, drop, false, length, string_bytes, true, IfOk, IsTrue};
+ghost use Rattle.std.specs.Prelude.{◌≡◌, ◌↔◌, ◌+◌, ◌<◌, ◌≤◌, drop, false, length, string_bytes, true, IfOk, IfSome, IsTrue};
 ghost use Rattle.asn1_headers.specs.Front.{HasIndefiniteForm, HasNoHeader, IsAtFront};
 ghost use Rattle.der_elements.specs.Ends.{begins_with_end};
 ghost use Rattle.der_elements.specs.Headers.{is_stray_form, is_gone_into};
+ghost use Rattle.der_pieces.specs.PieceFields.{AreNamesOf};
 ghost use Rattle.der_pieces.specs.Pieces.{IsFirstPiece, IsLeafMeaning, IsNameless, IsOpenedFault, IsPiece, kind_contents, kind_header, kind_indefinite, kind_words};
 
-use crate::faults::{Fault, fault_at};
-use crate::leaf::{Meaning, Read, read_contents};
 use crate::marks::{Breaches, find_breaches};
 use crate::nested::{Nested, nested_in};
 use crate::place::Place;
-use crate::strings::string_tag;
+use crate::strings::{Joined, read_joined, string_tag};
 use crate::tag::tag_words;
 use asn1_headers::error::ASN1DecodeErr;
 use asn1_headers::front::{Header, read_header};
 use asn1_headers::header::HeaderCount;
+use der_contents::faults::{Fault, fault_at};
+use der_contents::leaf::{Read, read_contents};
+use der_contents::value::LeafValue;
 use der_elements::cursor::{Left, Step};
 use der_elements::header::{has_stray_form, holds_encodings, size_of, step_of};
 use der_elements::sum::sum_of;
 use der_shapes::{Named, Shapes};
-use der_values::Extension;
+use der_values::{Extension, Role};
 use std::alloc::{AllocError, Global};
 
 // What stands at the front of octets.
@@ -31,10 +33,11 @@ pub enum Kind<'a> {
     Unreadable(&'a [u8]),
     // an encoding that is cut short, with its contents octets as far as they are there
     Cut(Header, &'a [u8]),
-    // a whole encoding that is gone into, with its contents octets; in the indefinite form with all that is left
-    Opened(Header, &'a [u8]),
-    // another whole encoding, with its contents octets and what they mean
-    Leaf(Header, &'a [u8], Meaning),
+    // a whole encoding that is gone into, with its contents octets, in the indefinite form with all that is left; and
+    // of a string its segments joined
+    Opened(Header, &'a [u8], Option<Joined>),
+    // another whole encoding, with its contents octets and their value, unless something is wrong with them
+    Leaf(Header, &'a [u8], Option<LeafValue>),
 }
 
 // A piece of octets.
@@ -69,7 +72,7 @@ impl<'a> Piece<'a> {
         match &self.kind {
             Kind::EndOfContents(size) => *size,
             Kind::Unreadable(_) => 0,
-            Kind::Cut(header, _) | Kind::Opened(header, _) | Kind::Leaf(header, _, _) =>
+            Kind::Cut(header, _) | Kind::Opened(header, _, _) | Kind::Leaf(header, _, _) =>
                 header.size,
         }
     }
@@ -81,7 +84,7 @@ impl<'a> Piece<'a> {
         match &self.kind {
             Kind::EndOfContents(_) => 0,
             Kind::Unreadable(octets) => octets.len(),
-            Kind::Cut(header, _) | Kind::Opened(header, _) | Kind::Leaf(header, _, _) => {
+            Kind::Cut(header, _) | Kind::Opened(header, _, _) | Kind::Leaf(header, _, _) => {
                 header.announced
             }
         }
@@ -93,7 +96,7 @@ impl<'a> Piece<'a> {
     {
         match &self.kind {
             Kind::EndOfContents(_) | Kind::Unreadable(_) => false,
-            Kind::Cut(header, _) | Kind::Opened(header, _) | Kind::Leaf(header, _, _) => {
+            Kind::Cut(header, _) | Kind::Opened(header, _, _) | Kind::Leaf(header, _, _) => {
                 header.is_indefinite
             }
         }
@@ -106,18 +109,20 @@ impl<'a> Piece<'a> {
         match &self.kind {
             Kind::EndOfContents(_) => String::from_str(alloc, "end-of-contents"),
             Kind::Unreadable(_) => String::from_str(alloc, "unreadable"),
-            Kind::Cut(header, _) | Kind::Opened(header, _) | Kind::Leaf(header, _, _) => {
+            Kind::Cut(header, _) | Kind::Opened(header, _, _) | Kind::Leaf(header, _, _) => {
                 tag_words(alloc, header.class, &header.tag)
             }
         }
     }
 
     // The names of the field that it is, if it is one.
-    pub fn names(&self, shapes: &Shapes) -> Option<Named> {
+    pub fn names(&self, shapes: &Shapes) -> Option<Named>
+        ensures { IfSome result (AreNamesOf shapes.now self.now) }
+    {
         let spot = self.place.spot?;
         match &self.kind {
             Kind::EndOfContents(_) | Kind::Unreadable(_) => None,
-            Kind::Cut(_, _) | Kind::Opened(_, _) => shapes.names_of(spot, b""),
+            Kind::Cut(_, _) | Kind::Opened(_, _, _) => shapes.names_of(spot, b""),
             Kind::Leaf(_, contents, _) => shapes.names_of(spot, contents),
         }
     }
@@ -125,7 +130,7 @@ impl<'a> Piece<'a> {
     // Whether it is a whole string that is constructed.
     pub fn is_string(&self) -> bool {
         match &self.kind {
-            Kind::Opened(header, _) => string_tag(header).is_some(),
+            Kind::Opened(header, _, _) => string_tag(header).is_some(),
             _ => false,
         }
     }
@@ -189,7 +194,8 @@ fn missing_end<'a>(
     let fault = Fault {
         offset,
         code: Some("Incomplete"),
-        words: String::from_str(alloc, "end-of-contents is missing (Incomplete)")?,
+        message: String::from_str(alloc, "end-of-contents is missing (Incomplete)")?,
+        text: None,
     };
     Ok(Piece {
         place,
@@ -293,11 +299,12 @@ fn opened<'a>(
     let contents = &left[header.size..size];
     let breaches = find_breaches(alloc, left, &header, place)?;
     let fault = opened_fault(alloc, left, &header, offset)?;
+    let joined = read_joined(alloc, &header, contents, place)?;
     let step = step_of(&header, size);
     Ok(Piece {
         place,
         offset,
-        kind: Kind::Opened(header, contents),
+        kind: Kind::Opened(header, contents, joined),
         breaches,
         fault,
         step,
@@ -329,7 +336,8 @@ fn stray_fault(alloc: Global, offset: usize) -> Result<Fault, AllocError>
     Ok(Fault {
         offset,
         code: None,
-        words: String::from_str(alloc, "indefinite length of a primitive element")?,
+        message: String::from_str(alloc, "indefinite length of a primitive element")?,
+        text: None,
     })
 }
 
@@ -350,12 +358,13 @@ fn leaf<'a>(
     let contents = &left[header.size..header.size + header.announced];
     let breaches = find_breaches(alloc, left, &header, place)?;
     let nested = nested_in(alloc, &header, contents, place)?;
-    let Read { meaning, fault } = read_leaf(alloc, left, &header, offset)?;
+    let role = place.role(&header);
+    let Read { value, fault } = read_leaf(alloc, left, &header, offset, role)?;
     let step = step_of(&header, size_of(left, &header));
     Ok(Piece {
         place,
         offset,
-        kind: Kind::Leaf(header, contents, meaning),
+        kind: Kind::Leaf(header, contents, value),
         breaches,
         fault,
         step,
@@ -363,20 +372,26 @@ fn leaf<'a>(
     })
 }
 
-// What the contents octets of a leaf mean.
-fn read_leaf(alloc: Global, left: &[u8], header: &Header, offset: usize) -> Result<Read, AllocError>
+// The value of the contents octets of a leaf, which has the role in an extension, or what is wrong with it.
+fn read_leaf(
+    alloc: Global,
+    left: &[u8],
+    header: &Header,
+    offset: usize,
+    role: Role,
+) -> Result<Read, AllocError>
     requires front { IsAtFront left.now header.now }
     requires whole { header.now.size + header.now.announced ≤ length left.now }
     requires closed { is_gone_into header.now.class header.now.constructed header.now.tag ≡ false }
     ensures { IfOk result (λ read. (front : IsAtFront left.now header.now) →
-        IsLeafMeaning left.now header.now (drop (length front.identifier) left.now) offset read.meaning read.fault) }
+        IsLeafMeaning left.now header.now (drop (length front.identifier) left.now) offset read.value read.fault) }
 {
     if has_stray_form(left, header) {
         return Ok(Read {
-            meaning: Meaning::Nothing,
+            value: None,
             fault: Some(stray_fault(alloc, offset)?),
         });
     }
     let contents = &left[header.size..header.size + header.announced];
-    read_contents(alloc, header, contents, offset)
+    read_contents(alloc, header, contents, offset, role)
 }

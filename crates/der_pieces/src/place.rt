@@ -106,6 +106,7 @@ impl Place {
         ensures depth { IfOk result (λ p. p.depth ≡ self.depth + levels) }
         ensures documents { IfOk result (λ p. p.documents ≡ self.documents) }
         ensures most { IfOk result (λ p. p.most_depth ≡ self.most_depth) }
+        ensures spot { IfOk result (λ p. p.spot ≡ spot) }
     {
         Ok(Place {
             depth: sum_of(self.depth, levels)?,

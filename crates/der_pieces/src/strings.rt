@@ -3,13 +3,17 @@ ghost use Rattle.std.specs.Prelude.{◌≡◌, IfOk, IfSome, false};
 ghost use Rattle.asn1_headers.specs.declared.header.ASN1Class.TheVariants.{Universal};
 ghost use Rattle.der_elements.specs.Headers.{is_gone_into};
 ghost use Rattle.der_elements.specs.Segments.{AreSegmentsOf};
+ghost use Rattle.der_pieces.specs.Pieces.{IsJoined};
 
 use crate::place::Place;
 use asn1_headers::front::Header;
 use asn1_headers::header::ASN1Class;
 use asn1_numbers::number::big_uint::BigUint;
+use der_contents::leaf::{Read, read_contents};
+use der_contents::value::LeafValue;
 use der_elements::header::{holds_encodings, universal_tag};
 use der_elements::segments::joined_segments;
+use der_values::Role;
 use std::alloc::{AllocError, Global};
 
 // The tag of a string that is constructed: also of an ObjectDescriptor and of times, which are strings.
@@ -46,9 +50,38 @@ pub fn is_in_string(string: Option<usize>, depth: usize) -> bool {
     }
 }
 
+// A constructed string in one piece: its contents octets, and their value.
+#[derive(Drop)]
+pub struct Joined {
+    pub contents: Vec<u8>,
+    pub value: LeafValue,
+}
+
+// The segments of an encoding with the header, joined, if it is a constructed string and they have a value.
+pub fn read_joined(
+    alloc: Global,
+    header: &Header,
+    contents: &[u8],
+    place: Place,
+) -> Result<Option<Joined>, AllocError>
+    ensures { IfOk result (λ found. IfSome found (IsJoined header.now contents.now)) }
+{
+    let Some((whole, joined)) = joined_string(alloc, header, contents, place)? else {
+        return Ok(None);
+    };
+    let Read { value, .. } = read_contents(alloc, &whole, &joined, 0, Role::Plain)?;
+    match value {
+        Some(value) => Ok(Some(Joined {
+            contents: joined,
+            value,
+        })),
+        None => Ok(None),
+    }
+}
+
 // The header and the contents octets of a string in one piece, where these are the contents octets of one that is
 // constructed.
-pub fn joined_string(
+fn joined_string(
     alloc: Global,
     header: &Header,
     contents: &[u8],

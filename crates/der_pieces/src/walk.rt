@@ -1,6 +1,7 @@
 // Going over the pieces of octets, in the order of their lines.
-ghost use Rattle.std.specs.Prelude.{◌≡◌, ℕ, List, [], IfOk, MatchOption};
+ghost use Rattle.std.specs.Prelude.{◌≡◌, ℕ, List, [], IfOk, IfSome, MatchOption};
 ghost use Rattle.der_pieces.specs.Fronts.{AreFrontsOf, Front};
+ghost use Rattle.der_pieces.specs.PieceFields.{AreFieldsIn, IsFieldOf, IsSpotIn, StayFields};
 ghost use Rattle.der_pieces.specs.Pieces.{Passes};
 ghost use Rattle.der_pieces.specs.Steps.{IsAhead};
 
@@ -38,6 +39,7 @@ impl<'a> Walk<'a> {
         ensures place { IfOk result (λ walk. walk.place ≡ place) }
         ensures ahead { IfOk result (λ walk. (fronts : List Front) (faults : List ℕ)
             → IsAhead walk.cursor fronts faults → AreFrontsOf octets.now fronts faults) }
+        ensures fields { IfOk result (λ walk. AreFieldsIn shapes.now place.around walk.fields) }
     {
         Ok(Walk {
             cursor: Cursor::over(alloc, octets, false)?,
@@ -50,9 +52,11 @@ impl<'a> Walk<'a> {
 
     // The next piece. `None` behind the last.
     pub fn next(&mut self, alloc: Global) -> Result<Option<Piece<'a>>, AllocError>
-        ensures { IfOk result (λ found. MatchOption found
+        ensures passes { IfOk result (λ found. MatchOption found
             (IsAhead self.old.cursor [] [])
             (Passes self.old self.new)) }
+        ensures field { IfOk result (λ found. IfSome found (IsFieldOf self.old.fields self.old.place.depth)) }
+        ensures fields { StayFields self.old.fields self.new.fields }
     {
         let Some(left) = self.cursor.next() else {
             return Ok(None);
@@ -76,7 +80,10 @@ fn spot_of(
     fields: &mut Option<Fields<'_>>,
     depth: usize,
     left: Left<'_>,
-) -> Result<Option<Spot>, AllocError> {
+) -> Result<Option<Spot>, AllocError>
+    ensures spot { IfOk result (IsSpotIn fields.old depth) }
+    ensures fields { StayFields fields.old fields.new }
+{
     match fields {
         Some(fields) => fields.next(alloc, depth, left),
         None => Ok(None),
@@ -84,7 +91,9 @@ fn spot_of(
 }
 
 // Sees the piece that was gone on to, which may say what fields are behind it.
-fn see(fields: &mut Option<Fields<'_>>, piece: &Piece<'_>) -> Result<(), AllocError> {
+fn see(fields: &mut Option<Fields<'_>>, piece: &Piece<'_>) -> Result<(), AllocError>
+    ensures { StayFields fields.old fields.new }
+{
     match fields {
         Some(fields) => fields.see(piece),
         None => Ok(()),

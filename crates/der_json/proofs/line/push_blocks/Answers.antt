@@ -3,14 +3,14 @@ use Rattle.std.proofs.Common.{◌++◌, ◌∷◌, [], ◌∙◌, ap, codes, fal
 use Rattle.std.proofs.KnownBytes.{Appends-trans}
 use Rattle.std.specs.Io.KnownBytes.{Appends}
 use Rattle.serde_json.specs.Written.{items_text}
-use Rattle.der_json.specs.Json.{AreInside, AreRows, AreRowsOf, items_of, row_json, rows_text, told_of}
+use Rattle.der_json.specs.Json.{AreInside, AreRows, AreRowsOf, items_of, row_json, rows_text, origin_data}
 use Rattle.der_json.specs.Rows.{end_text}
 use Rattle.der_json.proofs.Lines.{document_line}
 use Rattle.der_json.proofs.line.push_blocks.Goals as goal
 
 pub returns : goal.returns
 returns g c =
-    let origin = told_of c.args.origin in
+    let origin = origin_data c.args.origin in
     let out = g.W.Write.contents c.args.out.now in
     let (text, put, (rows, are, marks, first, is)) = c.in_ok-found.ensures in
     let begun = g.W.Write.contents c.write_part.new.w in

@@ -2,7 +2,7 @@
 use Rattle.std.proofs.Common.{◌++◌, ◌∙◌, ap, codes, List, ℕ, Bor}
 use Rattle.std.specs.Prelude.{Option}
 use Rattle.std.specs.Option.{option_map}
-use Rattle.der_json.specs.Rows.{told_text}
+use Rattle.der_json.specs.Rows.{text_member}
 use Rattle.der_json.proofs.Arrays.{joined}
 use Rattle.der_json.proofs.Lines.{origin_end}
 use Rattle.der_json.proofs.line.push_end.Goals as goal
@@ -11,6 +11,7 @@ pub returns : goal.returns
 returns c =
     let file : Option (List ℕ) = option_map {T = Bor (List ℕ)} (λ t. t.now) c.args.origin.file in
     let label : Option (List ℕ) = option_map {T = Bor (List ℕ)} (λ t. t.now) c.args.origin.label in
-    joined c.args.out.now.items (told_text (codes ",\"file\":") file) (told_text (codes ",\"label\":") label)
-    (codes "}\n") _ _ _ c.in_ok-push_told.ensures c.in_ok-push_told-2.ensures c.in_ok-extend_from_slice.ensures.items
+    joined c.args.out.now.items (text_member (codes ",\"file\":") file) (text_member (codes ",\"label\":") label)
+    (codes "}\n") _ _ _ c.in_ok-push_text_if.ensures c.in_ok-push_text_if-2.ensures
+    c.in_ok-extend_from_slice.ensures.items
     ∙ ap (λ z. c.args.out.now.items ++ z) (origin_end file label)

@@ -3,7 +3,7 @@ use Rattle.std.proofs.Common.{◌++◌, ◌∙◌, ap, inl, inr, refl, subst, sy
 use Rattle.std.proofs.KnownBytes.{Appends-trans}
 use Rattle.std.specs.Io.KnownBytes.{Appends}
 use Rattle.std.specs.Option.{is_none}
-use Rattle.der_json.specs.Json.{first_fault, first_text, told_of}
+use Rattle.der_json.specs.Json.{first_fault, first_text, origin_data}
 use Rattle.der_json.proofs.Lines.{none_there, put_alone}
 use Rattle.der_json.proofs.line.push_json.Goals as goal
 
@@ -18,7 +18,7 @@ returns-then-is_empty g c =
 
 pub returns : goal.returns
 returns g c =
-    let origin = told_of c.args.origin in
+    let origin = origin_data c.args.origin in
     let before = g.W.Write.contents c.args.out.now in
     let middle = g.W.Write.contents c.push_blocks.new.out in
     let after = g.W.Write.contents c.write_part-2.new.w in

@@ -3,7 +3,7 @@ use Rattle.std.proofs.Common.{[], append-nil, arith, map, refl, subst, sym, ◌�
 use Rattle.std.proofs.lemmas.List.{take_all}
 use Rattle.der_json.specs.Json.{rule_json}
 use Rattle.der_json.specs.Rows.{texts}
-use Rattle.der_pieces.specs.Marks.{told_of}
+use Rattle.der_pieces.specs.Marks.{breach_of}
 use Rattle.der_json.proofs.Arrays.{all_texts, one_read}
 use Rattle.der_json.proofs.Members.{put_same}
 use Rattle.der_json.proofs.object.push_list.Goals as goal
@@ -14,7 +14,7 @@ loop-rule-init c = record { some = refl; put = sym (append-nil c.args.out.now.it
 pub loop-rule-preserved : goal.loop-rule-preserved
 loop-rule-preserved c =
     let (some, put) =
-    one_read rule_json told_of c.args.told.now c.loop-rule.rule-index _ c.loop-rule.is_later c.args.out.now.items
+    one_read rule_json breach_of c.args.told.now c.loop-rule.rule-index _ c.loop-rule.is_later c.args.out.now.items
     c.loop-rule.out.items c.push_comma.new.out.items c.push_member.new.out.items c.loop-rule-test.true
     c.loop-rule.invariant.some c.loop-rule.invariant.put c.in_ok-push_comma.ensures
     (put_same _ [] _ _ _ c.in_ok-push_member.ensures c.in_ok-object.ensures) in
@@ -24,7 +24,7 @@ pub returns : goal.returns
 returns c =
     let told = c.args.told.now in
     let out = c.args.out.now.items in
-    let put = subst (λ z. c.loop-rule.out.items ≡ out ++ texts rule_json false (map told_of z))
+    let put = subst (λ z. c.loop-rule.out.items ≡ out ++ texts rule_json false (map breach_of z))
     (take_all c.loop-rule.rule-index told (omega arith)) c.loop-rule.invariant.put in
-    all_texts rule_json (map told_of told) out c.loop-rule.out.items c.push.new.self.items put
+    all_texts rule_json (map breach_of told) out c.loop-rule.out.items c.push.new.self.items put
     c.in_ok-push.ensures.items

@@ -6,7 +6,6 @@ use Rattle.der_json.proofs.piece.object_of.Goals as goal
 pub returns : goal.returns
 returns c = λ left kind.
     let piece = c.args.piece in
-    let value = c.in_ok-value.ensures in
     let tag = c.in_ok-tag_of.ensures in
     record {
       offset_is = c.in_ok-offset.ensures;
@@ -26,11 +25,12 @@ returns c = λ left kind.
             shown = _;
             octets =
                 _;
-            not_der = c.in_ok-told.field-0;
+            not_der = c.in_ok-describe.field-0;
             fault = _;
           })
-          inside marks piece.fault c.placed_if.ensures piece.kind c.in_ok-size_of.ensures tag.told value.told kind;
-      told = c.in_ok-told.ensures;
+          inside marks piece.fault c.placed_if.ensures piece.kind c.in_ok-size_of.ensures tag.told
+          c.in_ok-value_of.ensures.json c.in_ok-octets_of.ensures kind;
+      told = c.in_ok-describe.ensures;
       fault_is = c.placed_if.ensures;
-      exact = (tag.exact, value.exact);
+      exact = (tag.exact, c.in_ok-value_of.ensures.exact);
     }

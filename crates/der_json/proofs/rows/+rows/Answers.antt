@@ -4,7 +4,7 @@ use Rattle.std.proofs.KnownBytes.{Appends-nil, Appends-trans}
 use Rattle.std.specs.Io.KnownBytes.{Appends}
 use Rattle.std.specs.Prelude.{None, Some}
 use Rattle.der_json.specs.Json.{AreInside, AreRows, items_of, row_json}
-use Rattle.der_json.specs.Rows.{IsNestedJson, blocks_text, first_members, found_marks, last_members, told_marks}
+use Rattle.der_json.specs.Rows.{IsNestedJson, blocks_text, first_members, found_departures, last_members, departures_of}
 use Rattle.der_pieces.specs.Pieces.{Passes}
 use Rattle.der_pieces.specs.Steps.{IsAhead}
 use Rattle.der_json.proofs.Members.{blocks_put, object_text}
@@ -19,7 +19,7 @@ push_object-returns g t c =
     let after = g.W.Write.contents c.write_part-2.new.w in
     let object = c.args.object.now in
     let (inside, nested, put) = c.in_ok-marks.ensures in
-    let marks = told_marks c.in_ok-marks.marks.items in
+    let marks = departures_of c.in_ok-marks.marks.items in
     let first = first_members object in
     let last = last_members object in
     let blocks = blocks_text inside in
@@ -38,8 +38,8 @@ push_object-returns g t c =
 pub push_nested-returns-in_default : goal.push_nested-returns-in_default
 push_nested-returns-in_default g t c = (
   None,
-  subst (λ z. IsNestedJson c.args.place c.args.offset z None (told_marks c.new.result.items)) (sym c.in_default.is)
-      (refl, ap told_marks c.new.ensures.items),
+  subst (λ z. IsNestedJson c.args.place c.args.offset z None (departures_of c.new.result.items)) (sym c.in_default.is)
+      (refl, ap departures_of c.new.ensures.items),
   Appends-nil (g.W.Write.contents c.args.out.now),
 )
 
@@ -66,7 +66,8 @@ push_nested-returns g t c =
     (subst (λ z. AreRows (AreInside inside.documents) z nested.octets.now inside.base inside.depth rows) i.inside
     are))) in (
       Some items,
-      subst (λ z. IsNestedJson place c.args.offset z (Some items) (found_marks c.in_ok-found.found)) (sym c.in-Some.is)
+      subst (λ z. IsNestedJson place c.args.offset z (Some items) (found_departures c.in_ok-found.found))
+          (sym c.in-Some.is)
           (items, refl, (rows, moved, refl, marks)),
       subst (Appends before after) (blocks_put [] name (name ++ text) items refl (ap (λ z. name ++ z) is))
           (Appends-trans before middle after name text c.in_ok-write_part.ensures.written put),
@@ -77,16 +78,16 @@ push_rows-loop-walk-init g t c =
     let o = c.in_ok-walk.ensures in
     rows_none c.args.place c.args.octets.now c.in_ok-walk.walk _ (g.W.Write.contents c.args.out.now) o.octets o.place
     o.ahead
-    (ap told_marks c.new.ensures.items) refl
+    (ap departures_of c.new.ensures.items) refl
 
 pub push_rows-loop-walk-preserved : goal.push_rows-loop-walk-preserved
 push_rows-loop-walk-preserved g t c =
     let piece = c.in-Some.piece in
-    let p : Passes c.loop-walk.walk c.next.new.self piece = rw c.in-Some.is at c.in_ok-piece.ensures in
+    let p : Passes c.loop-walk.walk c.next.new.self piece = rw c.in-Some.is at c.in_ok-piece.ensures.passes in
     let (inside, nested, put) = c.in_ok-inside.ensures in
     let k = c.in_ok-keep.ensures in
     rows_more c.args.place c.args.octets.now c.loop-walk.walk c.next.new.self piece c.in_ok-object.object inside
-    (told_marks c.in_ok-inside.inside.items)
+    (departures_of c.in_ok-inside.inside.items)
     c.loop-walk.is_later c.loop-walk.found c.keep.new.self (g.W.Write.contents c.args.out.now)
     (g.W.Write.contents c.loop-walk.out) (g.W.Write.contents c.write_part.new.w)
     (g.W.Write.contents c.push_object.new.out)
@@ -96,7 +97,7 @@ push_rows-loop-walk-preserved g t c =
 
 pub push_rows-returns : goal.push_rows-returns
 push_rows-returns g t c =
-    let ended : IsAhead c.loop-walk.walk.cursor [] [] = rw c.in_default.is at c.in_ok-piece.ensures in
+    let ended : IsAhead c.loop-walk.walk.cursor [] [] = rw c.in_default.is at c.in_ok-piece.ensures.passes in
     rows_all c.args.place c.args.octets.now c.loop-walk.walk c.loop-walk.is_later c.loop-walk.found
     (g.W.Write.contents c.args.out.now) (g.W.Write.contents c.loop-walk.out) (g.W.Write.contents c.write_part-2.new.w)
     c.loop-walk.invariant ended c.in_ok-write_part-2.ensures.written

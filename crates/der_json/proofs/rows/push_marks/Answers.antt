@@ -2,33 +2,33 @@
 use Rattle.std.proofs.Common.{◌≡◌, ◌+◌, ◌<◌, ◌++◌, ◌∷◌, ◌∙◌, ℕ, List, [], ap, append_assoc, append-nil, arith, get_or, length, map, refl, subst, sym, take}
 use Rattle.std.proofs.lemmas.List.{map-append, take_all, take_more}
 use Rattle.der_json.specs.Json.{marks_at}
-use Rattle.der_json.specs.Rows.{departed_of, told_marks}
-use Rattle.der_pieces.specs.Marks.{told_of}
-use Rattle.der_pieces.specs.declared.marks.ToldRule.{ToldRule}
+use Rattle.der_json.specs.Rows.{departed_of, departures_of}
+use Rattle.der_pieces.specs.Marks.{breach_of}
+use Rattle.der_pieces.specs.declared.marks.BrokenRule.{BrokenRule}
 use Rattle.der_json.specs.declared.rows.Departure.{Departure}
 use Rattle.der_json.proofs.rows.push_marks.Goals as goal
 
 pub loop-rule-init : goal.loop-rule-init
-loop-rule-init c = sym (append-nil (told_marks c.args.marks.now.items))
+loop-rule-init c = sym (append-nil (departures_of c.args.marks.now.items))
 
 -- one more was kept, of those at an index
 kept_at :
-    (told : List ToldRule) (i : ℕ) (d : ToldRule) (offset : ℕ) (first old new : List Departure) (one : Departure) →
-    i < length told → departed_of one ≡ record { offset = offset; told = told_of (get_or told i d) } →
-    new ≡ old ++ one ∷ [] → told_marks old ≡ told_marks first ++ marks_at offset (map told_of (take i told)) →
-    told_marks new ≡ told_marks first ++ marks_at offset (map told_of (take (i + 1) told))
+    (told : List BrokenRule) (i : ℕ) (d : BrokenRule) (offset : ℕ) (first old new : List Departure) (one : Departure) →
+    i < length told → departed_of one ≡ record { offset = offset; told = breach_of (get_or told i d) } →
+    new ≡ old ++ one ∷ [] → departures_of old ≡ departures_of first ++ marks_at offset (map breach_of (take i told)) →
+    departures_of new ≡ departures_of first ++ marks_at offset (map breach_of (take (i + 1) told))
 kept_at told i d offset first old new one within is e before =
     let rule = get_or told i d in
-    let marks = marks_at offset (map told_of (take i told)) in
-    let more : marks_at offset (map told_of (take (i + 1) told)) ≡ marks ++ marks_at offset (told_of rule ∷ []) =
-    ap (λ z. marks_at offset (map told_of z)) (take_more told i d within)
-    ∙ (ap (marks_at offset) (map-append told_of (take i told) (rule ∷ []))
-    ∙ map-append (λ t. record { offset = offset; told = t }) (map told_of (take i told)) (told_of rule ∷ [])) in
-    ap told_marks e
+    let marks = marks_at offset (map breach_of (take i told)) in
+    let more : marks_at offset (map breach_of (take (i + 1) told)) ≡ marks ++ marks_at offset (breach_of rule ∷ []) =
+    ap (λ z. marks_at offset (map breach_of z)) (take_more told i d within)
+    ∙ (ap (marks_at offset) (map-append breach_of (take i told) (rule ∷ []))
+    ∙ map-append (λ t. record { offset = offset; told = t }) (map breach_of (take i told)) (breach_of rule ∷ [])) in
+    ap departures_of e
     ∙ (map-append departed_of old (one ∷ [])
     ∙ (ap (λ z. z ++ departed_of one ∷ []) before
-    ∙ (append_assoc (told_marks first) marks (departed_of one ∷ [])
-    ∙ ap (λ z. told_marks first ++ z) (ap (λ z. marks ++ z ∷ []) is ∙ sym more))))
+    ∙ (append_assoc (departures_of first) marks (departed_of one ∷ [])
+    ∙ ap (λ z. departures_of first ++ z) (ap (λ z. marks ++ z ∷ []) is ∙ sym more))))
 
 pub loop-rule-preserved : goal.loop-rule-preserved
 loop-rule-preserved c =
@@ -38,6 +38,6 @@ loop-rule-preserved c =
 pub returns : goal.returns
 returns c =
     let told = c.args.told.now in
-    subst (λ z. told_marks c.loop-rule.marks.items ≡ told_marks c.args.marks.now.items
-    ++ marks_at c.args.offset (map told_of z))
+    subst (λ z. departures_of c.loop-rule.marks.items ≡ departures_of c.args.marks.now.items
+    ++ marks_at c.args.offset (map breach_of z))
     (take_all c.loop-rule.rule-index told (omega arith)) c.loop-rule.invariant

@@ -2,7 +2,7 @@
 use Rattle.std.proofs.Common.{[], append-nil, arith, refl, subst, sym, ◌≡◌, ◌++◌, false}
 use Rattle.std.proofs.lemmas.List.{take_all}
 use Rattle.der_json.specs.Json.{departed_json}
-use Rattle.der_json.specs.Rows.{departed_of, texts, told_marks}
+use Rattle.der_json.specs.Rows.{departed_of, texts, departures_of}
 use Rattle.der_json.proofs.Arrays.{all_texts, one_read}
 use Rattle.der_json.proofs.Members.{put_same}
 use Rattle.der_json.proofs.strict.push_list.Goals as goal
@@ -24,7 +24,7 @@ pub returns : goal.returns
 returns c =
     let marks = c.args.marks.now in
     let out = c.args.out.now.items in
-    let put = subst (λ z. c.loop-mark.out.items ≡ out ++ texts departed_json false (told_marks z))
+    let put = subst (λ z. c.loop-mark.out.items ≡ out ++ texts departed_json false (departures_of z))
     (take_all c.loop-mark.mark-index marks (omega arith)) c.loop-mark.invariant.put in
-    all_texts departed_json (told_marks marks) out c.loop-mark.out.items c.push.new.self.items put
+    all_texts departed_json (departures_of marks) out c.loop-mark.out.items c.push.new.self.items put
     c.in_ok-push.ensures.items

@@ -1,8 +1,8 @@
 -- For `strict::push_marks`: what it returns is right.
 use Rattle.std.proofs.Common.{◌++◌, ◌∷◌, [], ◌∙◌, ap, append-nil, codes, false, sym}
 use Rattle.serde_json.specs.Written.{items_text}
-use Rattle.der_json.specs.Json.{departed_json, items_of, told_of}
-use Rattle.der_json.specs.Rows.{end_text, told_marks}
+use Rattle.der_json.specs.Json.{departed_json, items_of, origin_data}
+use Rattle.der_json.specs.Rows.{end_text, departures_of}
 use Rattle.der_json.proofs.Arrays.{joined}
 use Rattle.der_json.proofs.Lines.{marks_line, no_marks, some_marks}
 use Rattle.der_json.proofs.strict.push_marks.Goals as goal
@@ -10,15 +10,15 @@ use Rattle.der_json.proofs.strict.push_marks.Goals as goal
 pub returns-then-is_empty : goal.returns-then-is_empty
 returns-then-is_empty c =
     let out = c.args.out.now.items in
-    let (right, none) = no_marks c.args.marks.now (told_of c.args.origin)
+    let (right, none) = no_marks c.args.marks.now (origin_data c.args.origin)
     (sym c.is_empty.ensures ∙ c.if-is_empty.true) in
     record { right = right; text = sym (ap (λ z. out ++ z) none ∙ append-nil out) }
 
 pub returns : goal.returns
 returns c =
-    let origin = told_of c.args.origin in
+    let origin = origin_data c.args.origin in
     let out = c.args.out.now.items in
-    let marks = told_marks c.args.marks.now in
+    let marks = departures_of c.args.marks.now in
     let (right, some) = some_marks c.args.marks.now origin (sym c.is_empty.ensures ∙ c.if-is_empty.false) in
     let put =
     joined out (codes "{\"not_der\":[") (items_text false (items_of departed_json marks)) (end_text origin ++ 10 ∷ []) _

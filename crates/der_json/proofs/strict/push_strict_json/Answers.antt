@@ -4,8 +4,8 @@ use Rattle.std.proofs.KnownBytes.{Appends-trans}
 use Rattle.std.specs.Io.KnownBytes.{Appends}
 use Rattle.std.specs.Option.{is_none}
 use Rattle.std.specs.Prelude.{◌&&◌}
-use Rattle.der_json.specs.Json.{first_fault, first_text, is_der, marks_of, marks_text, told_of}
-use Rattle.der_json.specs.Rows.{told_marks}
+use Rattle.der_json.specs.Json.{first_fault, first_text, is_der, marks_of, marks_text, origin_data}
+use Rattle.der_json.specs.Rows.{departures_of}
 use Rattle.der_json.proofs.Lines.{none_there, put_alone}
 use Rattle.der_json.proofs.Members.{put_after}
 use Rattle.der_json.proofs.strict.push_strict_json.Goals as goal
@@ -21,7 +21,7 @@ returns-then-is_empty g c =
 
 pub returns : goal.returns
 returns g c =
-    let origin = told_of c.args.origin in
+    let origin = origin_data c.args.origin in
     let before = g.W.Write.contents c.args.out.now in
     let middle = g.W.Write.contents c.push_blocks.new.out in
     let after = g.W.Write.contents c.write_part-2.new.w in
@@ -29,7 +29,7 @@ returns g c =
     let (text, put, (rows, are, marks, first, is)) = c.in_ok-found.ensures in
     let list = marks_text (marks_of rows) origin in
     let last = first_text (first_fault rows) origin in
-    let all = ap told_marks c.deref-2.ensures.value ∙ marks in
+    let all = ap departures_of c.deref-2.ensures.value ∙ marks in
     let listed = c.in_ok-is_der.ensures.text ∙ ap (λ z. none ++ marks_text z origin) all in
     let right = c.both.ensures
     ∙ (ap (λ z. z && c.in_ok-is_right.is_right) (c.in_ok-is_der.ensures.right ∙ ap is_der all)

@@ -27,7 +27,7 @@ push_encodings-loop-walk-preserved g t c =
     let octets = c.args.octets.now in
     let found = c.loop-walk.found in
     let piece = c.in-Some.piece in
-    let p : Passes c.loop-walk.walk c.next.new.self piece = rw c.in-Some.is at c.in_ok-piece.ensures in
+    let p : Passes c.loop-walk.walk c.next.new.self piece = rw c.in-Some.is at c.in_ok-piece.ensures.passes in
     let k = c.in_ok-keep.ensures in
     let all = IsPrinted-append g.W.Write.contents _ _ (ShownTo place octets c.next.new.self
     (earlier_fault found.fault piece.fault) _)
@@ -40,7 +40,7 @@ push_encodings-loop-walk-preserved g t c =
 
 pub push_encodings-returns : goal.push_encodings-returns
 push_encodings-returns g t c =
-    let ended : IsAhead c.loop-walk.walk.cursor [] [] = rw c.in_default.is at c.in_ok-piece.ensures in
+    let ended : IsAhead c.loop-walk.walk.cursor [] [] = rw c.in_default.is at c.in_ok-piece.ensures.passes in
     IsPrinted-weaker g.W.Write.contents _ _ c.args.printer.now c.loop-walk.printer
     (λ text. shown_all c.args.place c.args.octets.now c.loop-walk.walk c.loop-walk.found text ended)
     c.loop-walk.invariant

@@ -3,7 +3,7 @@ use Rattle.std.proofs.Common.{◌≡◌, ◌∙◌, ◌∷◌, [], ◌++◌, ap,
 use Rattle.std.specs.Option.{is_some}
 use Rattle.der_pieces.specs.Fronts.{is_too_deep}
 use Rattle.der_lines.specs.MarkText.{mark_text}
-use Rattle.der_pieces.specs.Marks.{told_rules}
+use Rattle.der_pieces.specs.Marks.{breaches_of}
 use Rattle.der_lines.specs.PieceRows.{shown_front}
 use Rattle.der_lines.proofs.Dumps.{nothing_deep, row_line_of, row_printed}
 use Rattle.der_lines.proofs.Shown.{mark_shown, type_shown}
@@ -40,7 +40,7 @@ returns g c =
       mark = c.deref-3.result;
     } in
     let fault : is_some row.fault ≡ is_some piece.fault = c.as_deref.ensures.variant ∙ c.requires.fault in
-    let text = mark_text (told_rules piece.breaches.rules.items piece.breaches.has_spare_bits) in
+    let text = mark_text (breaches_of piece.breaches.rules.items piece.breaches.has_spare_bits) in
     let mark = c.deref-3.ensures.value ∙ (c.in_ok-push_mark.ensures ∙ ap (λ z. z ++ text) c.new-mark.ensures.items) in
     let mark_line = ap on_one_line mark
     ∙ on_one_line-shown text (mark_shown piece.breaches.rules.items piece.breaches.has_spare_bits) in

@@ -12,6 +12,6 @@ returns g c =
       (
         _,
         c.in_ok-push_fault.ensures,
-        (line, refl, record { said = on_one_line words; line_is = refl; one = IsOneLine-on_one_line words }),
+        (line, refl, record { text = on_one_line words; line_is = refl; one = IsOneLine-on_one_line words }),
       ),
     )

@@ -1,9 +1,9 @@
 -- For `lines::push_words`: its loop keeps its invariant and what it returns is right.
 use Rattle.std.proofs.Common.{◌≡◌, ◌++◌, append-nil, arith, false, map, refl, subst, sym}
 use Rattle.std.proofs.lemmas.List.{take_all}
-use Rattle.der_pieces.specs.Marks.{told_of}
+use Rattle.der_pieces.specs.Marks.{breach_of}
 use Rattle.der_lines.specs.MarkText.{words_text}
-use Rattle.der_lines.proofs.Told.{put_at}
+use Rattle.der_lines.proofs.Breach.{put_at}
 use Rattle.der_lines.proofs.lines.push_words.Goals as goal
 
 pub loop-rule-init : goal.loop-rule-init
@@ -12,7 +12,7 @@ loop-rule-init c = record { some = refl; put = sym (append-nil c.args.out.now.it
 pub loop-rule-preserved : goal.loop-rule-preserved
 loop-rule-preserved c =
     let (some, put) =
-    put_at told_of c.args.told.now c.loop-rule.rule-index _ c.loop-rule.is_later c.args.out.now.items
+    put_at breach_of c.args.told.now c.loop-rule.rule-index _ c.loop-rule.is_later c.args.out.now.items
     c.loop-rule.out.items c.push_separator.new.out.items c.push_text.new.out.items c.loop-rule-test.true
     c.loop-rule.invariant.some c.loop-rule.invariant.put c.in_ok-push_separator.ensures c.in_ok-push_text.ensures
     in
@@ -21,5 +21,5 @@ loop-rule-preserved c =
 pub returns : goal.returns
 returns c =
     let told = c.args.told.now in
-    subst (λ z. c.loop-rule.out.items ≡ c.args.out.now.items ++ words_text false (map told_of z))
+    subst (λ z. c.loop-rule.out.items ≡ c.args.out.now.items ++ words_text false (map breach_of z))
     (take_all c.loop-rule.rule-index told (omega arith)) c.loop-rule.invariant.put

@@ -1,12 +1,12 @@
 -- For `lines::push_words`: what each turn of its loop keeps.
 use Rattle.std.proofs.Common.{◌≡◌, ◌++◌, false, map, take}
-use Rattle.der_pieces.specs.Marks.{are_some, told_of}
+use Rattle.der_pieces.specs.Marks.{are_some, breach_of}
 use Rattle.der_lines.specs.MarkText.{words_text}
 use Rattle.der_lines.proofs.lines.push_words.Given as goal
 
 -- the words of those before this one are put
 abbrev pub invariant-loop-rule : goal.invariant-loop-rule
 invariant-loop-rule l = record {
-  some : l.is_later ≡ are_some (map told_of (take l.rule-index l.told));
-  put : l.out.items ≡ l.fn.out.items ++ words_text false (map told_of (take l.rule-index l.told));
+  some : l.is_later ≡ are_some (map breach_of (take l.rule-index l.told));
+  put : l.out.items ≡ l.fn.out.items ++ words_text false (map breach_of (take l.rule-index l.told));
 }

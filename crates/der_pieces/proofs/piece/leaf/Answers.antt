@@ -11,11 +11,11 @@ returns c =
     let header = c.args.header in
     let rules = c.in_ok-breaches.breaches.rules.items in
     let first = whole_rules left header rules r.whole c.in_ok-breaches.ensures.rules in
-    let read = c.in_ok-meaning.ensures r.front in
+    let read = c.in_ok-value.ensures r.front in
     record {
       starts = λ depth. whole_starts left offset depth rules header c.size_of.result c.step_of-step.result _ r.front
           r.form
-          (leaf_judged left offset depth rules header c.in_ok-meaning.field-0.meaning _ r.front r.whole r.closed read)
+          (leaf_judged left offset depth rules header c.in_ok-value.field-0.value _ r.front r.whole r.closed read)
           first c.step_of-step.ensures c.size_of.ensures;
       kind = (r.front, r.whole, r.closed, refl, read);
       offset_is = refl;

@@ -17,7 +17,14 @@ returns c =
           r.front
           r.form (opened_judged left offset depth rules header _ r.front r.whole r.opened fault) first
           c.step_of-step.ensures c.size_of-size.ensures;
-      kind = (r.front, r.whole, r.opened, ap (λ z. slice_range left header.size z) c.size_of-size.ensures, fault);
+      kind = (
+        r.front,
+        r.whole,
+        r.opened,
+        ap (λ z. slice_range left header.size z) c.size_of-size.ensures,
+        c.in_ok-joined.ensures,
+        fault,
+      );
       offset_is = refl;
       place_is = refl;
       holding = tt;

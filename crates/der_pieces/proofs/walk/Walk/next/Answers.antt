@@ -1,6 +1,7 @@
 -- For `walk::Walk::next`: what it returns is right.
 use Rattle.std.proofs.Common.{◌∙◌, ◌<◌, ◌≤◌, ◌+◌, ap, arith, length, refl, subst, sym}
 use Rattle.der_pieces.specs.Fronts.{StandAt}
+use Rattle.der_pieces.specs.PieceFields.{IsSpotIn}
 use Rattle.der_pieces.specs.Pieces.{IsHolding, IsKind, fault_offset, front_of}
 use Rattle.der_elements.specs.Steps.{to_go}
 use Rattle.der_pieces.proofs.Walks.{ahead_back, ahead_none, next_takes, step_goes}
@@ -8,13 +9,13 @@ use Rattle.der_elements.proofs.Cursors.{length-ends, octets-step, to_go-left_le,
 use Rattle.der_pieces.proofs.Walks.{left_stands}
 use Rattle.der_pieces.proofs.walk.Walk.next.Goals as goal
 
-pub returns-in_default : goal.returns-in_default
-returns-in_default c =
+pub returns-in_default-clause-passes : goal.returns-in_default-clause-passes
+returns-in_default-clause-passes c =
     ahead_none c.args.self.now.cursor c.next.new.self c.next.ensures.octets c.next.ensures.offset c.next.ensures.ended
     c.in_default.ensures.none
 
-pub returns : goal.returns
-returns c =
+pub returns-clause-passes : goal.returns-clause-passes
+returns-clause-passes c =
     let k = c.args.self.now.cursor in
     let m = c.next.new.self in
     let n = c.go.new.self in
@@ -53,3 +54,12 @@ returns c =
       same_octets = octets-step m n piece.step goes ∙ e.octets;
       same_place = refl;
     }
+
+pub returns-clause-field : goal.returns-clause-field
+returns-clause-field c =
+    let h = c.in_ok-place.ensures in
+    let p = c.in_ok-piece.ensures in (
+      _,
+      ap (λ z. z.depth) p.place_is ∙ h.depth,
+      subst (IsSpotIn c.args.self.now.fields _) (sym (ap (λ z. z.spot) p.place_is ∙ h.spot)) c.in_ok-spot.ensures.spot,
+    )

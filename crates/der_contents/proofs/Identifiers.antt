@@ -1,0 +1,16 @@
+-- Which contents octets have the first two components in one octet, for `value::components_of`.
+use Rattle.std.proofs.Common.{◌≡◌, ℕ, ◌+◌, ◌*◌, ◌≤◌, List, [], ◌∷◌, ap, arith, get_or, sym, ◌∙◌}
+use Rattle.asn1_leaves.specs.Contents.ObjectIdentifier.{ObjectIdentifierContents}
+use Rattle.der_contents.specs.Values.{HasShortFront}
+
+-- an octet that others of its subidentifier follow is none
+pub no_short_front :
+    (components contents : List ℕ) (octet : ℕ) (rest : List ℕ) → ObjectIdentifierContents components contents →
+    contents ≡ octet ∷ rest → 128 ≤ octet → HasShortFront components → ⊥
+no_short_front [] contents octet rest is e long short = absurd is
+no_short_front (x ∷ []) contents octet rest is e long short = absurd is
+no_short_front (x ∷ y ∷ ns) contents octet rest (b, more, same, (sum, few, small), others) e long
+    (first, later, f, less) =
+    let p : b ≡ octet = ap (λ z. get_or z 0 0) (sym same ∙ e) in
+    let q : 40 * x + y ≡ first = ap (λ z. get_or z 0 0) f in
+    omega (arith, p, q, sum, long, less)

@@ -1,0 +1,3 @@
+pub mod Identifiers
+pub mod Values
+pub mod Wide

@@ -1,0 +1,27 @@
+-- Which contents octets have no wide characters, and what is wrong with those of text, for `leaf::utf8_value` and its
+-- like.
+use Rattle.std.proofs.Common.{◌≡◌, ℕ, Bool, true, false, Err, IfErr, IsErr, IsErrAnd, List, Ok, Result, inl, inr, length, refl, subst, sym, ◌∙◌}
+use Rattle.std.specs.Prelude.{◌&&◌, ◌==◌, not}
+use Rattle.asn1_headers.specs.Fault.{OutOfMemoryOr, fault_of}
+use Rattle.asn1_headers.specs.declared.error.ASN1DecodeErr.{ASN1DecodeErr}
+use Rattle.asn1_leaves.specs.Contents.Text.{TextFault, text_form}
+use Rattle.asn1_leaves.specs.StringKind.{StringKind}
+use Rattle.asn1_blocks.specs.Contents.{LeafFault, of_text, string_tag}
+
+and_false : (b : Bool) → (b && false) ≡ false
+and_false true = refl
+and_false false = refl
+
+-- those of no tag of a UniversalString or a BMPString
+pub no_wide : (contents : List ℕ) → (not (length contents == 0) && false) ≡ false
+no_wide contents = and_false (not (length contents == 0))
+
+-- the fault of a string of characters goes on
+pub IfErr-text_fault :
+    {A : Type 0} (kind : StringKind) (contents : List ℕ) (d : ASN1DecodeErr) (r : Result A ASN1DecodeErr) →
+    IsErr r × IsErrAnd r (λ e. e ≡ d) → OutOfMemoryOr (TextFault (text_form kind) contents) d →
+    IfErr r (OutOfMemoryOr (LeafFault (string_tag kind) contents))
+IfErr-text_fault kind contents d (Ok x) h f = tt
+IfErr-text_fault kind contents d (Err e) h (inl memory) = inl (h.1 ∙ memory)
+IfErr-text_fault kind contents d (Err e) h (inr f) =
+    inr (of_text kind refl (subst (λ z. TextFault (text_form kind) contents (fault_of z)) (sym h.1) f))

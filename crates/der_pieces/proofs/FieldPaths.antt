@@ -1,0 +1,39 @@
+-- Which fields pieces are, for `fields::Fields::next` and `fields::Fields::see`.
+use Rattle.std.proofs.Common.{◌≡◌, ◌∙◌, ℕ, List, Option, None, Some, subst, sym}
+use Rattle.std.proofs.Math.Logic.{∥∥₁_map, ∥∥₁_map₂}
+use Rattle.std.specs.Prelude.{IfSome}
+use Rattle.der_shapes.specs.Spots.{IsPath}
+use Rattle.der_shapes.specs.Walks.{IsReached, path_of}
+use Rattle.der_shapes.specs.declared.shapes.Shapes.{Shapes}
+use Rattle.der_shapes.specs.declared.take.Spot.{Spot}
+use Rattle.der_shapes.specs.declared.walk.FieldWalk.{FieldWalk}
+use Rattle.der_shapes.specs.declared.walk.Frame.{Frame}
+use Rattle.der_pieces.specs.Fields.{EndsPath, GoesOver, StandsAround}
+use Rattle.der_pieces.specs.declared.place.Around.{Around}
+
+-- what follows from what holds of something that may be there
+pub IfSome-weaker : {A : Type 0} (o : Option A) (P Q : A → Type 0) → ((x : A) → P x → Q x) → IfSome o P → IfSome o Q
+IfSome-weaker (Some x) P Q f h = f x h
+IfSome-weaker None P Q f h = tt
+
+-- a walk that went on goes over the same fields
+pub GoesOver-after :
+    (shapes : Shapes) (around : Around) (old new : FieldWalk) → new.shapes.now ≡ old.shapes.now →
+    new.all ≡ old.all → ∥ GoesOver shapes around old ∥₁ → ∥ GoesOver shapes around new ∥₁
+GoesOver-after shapes around old new same_shapes same_all over =
+    ∥∥₁_map over (λ g. (same_shapes ∙ g.0, subst (StandsAround around) (sym same_all) g.1))
+
+-- a field that is reached ends a path
+pub EndsPath-reached :
+    (old shapes : Shapes) (old_around around : Around) (walk : FieldWalk) (depth : ℕ) (frames : List Frame)
+    (spot : Spot) → shapes ≡ old → around ≡ old_around → ∥ GoesOver shapes around walk ∥₁ →
+    IsReached walk.shapes.now walk.all depth frames spot → EndsPath old old_around depth spot
+EndsPath-reached old shapes old_around around walk depth frames spot same_shapes same_around over r =
+    ∥∥₁_map₂ over r.3 (λ g path. (
+      walk.all,
+      r.0,
+      subst (λ a. StandsAround a walk.all) same_around g.1,
+      r.2,
+      subst (IsPath old walk.all) r.1
+          (subst (λ s. IsPath s walk.all (path_of frames)) (g.0 ∙ same_shapes) path),
+    ))

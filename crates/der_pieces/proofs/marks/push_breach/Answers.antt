@@ -1,0 +1,13 @@
+-- For `marks::push_breach`: what it returns is right.
+use Rattle.std.proofs.Common.{◌≡◌, ◌++◌, ◌∷◌, ◌∙◌, [], List, ap, map}
+use Rattle.std.proofs.lemmas.List.{map-append}
+use Rattle.der_pieces.specs.Marks.{breach_of}
+use Rattle.der_pieces.specs.declared.marks.BrokenRule.{BrokenRule}
+use Rattle.der_pieces.proofs.marks.push_breach.Goals as goal
+
+one_told : (old new : List BrokenRule) (rule : BrokenRule) → new ≡ old ++ rule ∷ [] →
+    map breach_of new ≡ map breach_of old ++ breach_of rule ∷ []
+one_told old new rule e = ap (map breach_of) e ∙ map-append breach_of old (rule ∷ [])
+
+pub returns : goal.returns
+returns c = one_told _ _ c.args.rule c.in_ok-push.ensures.items
