@@ -34,7 +34,8 @@ use organizations::ORGANIZATIONS;
 pub use own::{NamesFault, OwnNames};
 use std::alloc::{AllocError, Global};
 
-/// The names of object identifiers, by their numbers, and of fields, by their shapes: tables, which are made once.
+/// The names of object identifiers, by their numbers, and of fields, by their shapes: tables, which are made once. At
+/// first fields have no names.
 #[derive(Drop)]
 pub struct Names {
     // in the order of the table
@@ -46,7 +47,7 @@ pub struct Names {
 }
 
 impl Names {
-    /// The table of the crate, a row a name; it takes 16 octets of memory a row.
+    /// The table of object identifiers of the crate, a row a name; it takes 16 octets of memory a row.
     ///
     /// # Errors
     /// Memory ran out.
@@ -65,8 +66,14 @@ impl Names {
                 rows.push(row)?;
             }
         }
-        let shapes = Shapes::new(alloc)?;
+        let shapes = Shapes::none(alloc);
         Ok(Names { rows, own, shapes })
+    }
+
+    /// The same names of object identifiers, and names of fields by these shapes.
+    pub fn with_fields(self, shapes: Shapes) -> Names {
+        let Names { rows, own, .. } = self;
+        Names { rows, own, shapes }
     }
 
     /// The name of an object identifier and the standard, or another comment on it, by its components in decimal with

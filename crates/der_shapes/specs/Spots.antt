@@ -63,7 +63,8 @@ IsAlternative shapes field tag inside =
 abbrev pub IsChosen : Shapes → ℕ → Spot → Type 0
 IsChosen shapes shape spot =
     (found : Shape) × (i : ℕ) × (field : Field) × (slice_get shapes.shapes.items shape ≡ Some found)
-    × (found.form ≡ Choice) × (found.first ≤ i) × (i < found.end) × (slice_get shapes.fields.items i ≡ Some field)
+    × (found.form ≡ Choice) × (found.first ≤ i) × (i < found.end)
+    × (slice_get shapes.fields.items i ≡ Some field)
     × (spot.alternative ≡ Some i) × IsAlternative shapes field spot.tag spot.inside
 
 -- the element is of the shape, which is not open

@@ -49,8 +49,8 @@ impl Shapes {
         }
     }
 
-    // No shapes.
-    fn none(alloc: Global) -> Shapes {
+    /// No shapes: no element has a name.
+    pub fn none(alloc: Global) -> Shapes {
         Shapes {
             shapes: Vec::new(alloc),
             fields: Vec::new(alloc),

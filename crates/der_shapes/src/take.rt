@@ -124,7 +124,8 @@ impl Shapes {
 
     // The row of a shape for the identifier.
     fn row(&self, shape: Shape, identifier: usize) -> Option<Row>
-        ensures { IfSome result (λ row. (row.identifier ≡ identifier) × (k : ℕ) × (shape.first ≤ k) × (k < shape.end)
+        ensures { IfSome result (λ row. (row.identifier ≡ identifier)
+            × (k : ℕ) × (shape.first ≤ k) × (k < shape.end)
             × (slice_get self.now.rows.items k ≡ Some row)) }
     {
         for k in shape.first..shape.end {

@@ -42,7 +42,7 @@ ExtensionValue ::= KNOWN
   1.3.6.1.4.1.311.21.10 CertificatePolicies
   1.2.840.113533.7.65.0 EntrustVersInfo
   1.2.840.113549.1.9.15 SMIMECapabilities
-  2.23.42.7.0 HashedRootKey
+  2.23.42.7.0 RootKeyThumb
   2.16.840.1.113730.1.1 NetscapeCertType
   2.16.840.1.113730.1.2 IA5String
   2.16.840.1.113730.1.3 IA5String
@@ -216,7 +216,7 @@ SMIMECapability ::= SEQUENCE
   parameters ANY OPTIONAL
 
 -- SET 1.0, book 3; the fields of DigestedData are those of RFC 5652, 7
-HashedRootKey ::= SEQUENCE
+RootKeyThumb ::= SEQUENCE
   rootKeyThumbprint DigestedData
 
 -- Netscape; MS-WCCE, 2.2.2.7.7; Entrust

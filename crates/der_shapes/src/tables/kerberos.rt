@@ -3,9 +3,9 @@ pub const KERBEROS: &str = "\
 -- RFC 4120, 5.2
 Realm ::= GeneralString
 PrincipalName ::= SEQUENCE
-  name-type [0] EXPLICIT NameType
+  name-type [0] EXPLICIT NameType.Int32
   name-string [1] EXPLICIT SEQUENCE OF KerberosString
-NameType ::= INTEGER
+NameType.Int32 ::= INTEGER
   0 NT-UNKNOWN
   1 NT-PRINCIPAL
   2 NT-SRV-INST
@@ -33,15 +33,15 @@ HostAddress ::= SEQUENCE
 
 -- RFC 4120, 5.3 and 5.4
 Ticket ::= CHOICE
-  ticket [APPLICATION 1] EXPLICIT TicketFields
-TicketFields ::= SEQUENCE
+  ticket [APPLICATION 1] EXPLICIT Kerberos.Ticket
+Kerberos.Ticket ::= SEQUENCE
   tkt-vno [0] EXPLICIT INTEGER
   realm [1] EXPLICIT Realm
   sname [2] EXPLICIT PrincipalName
   enc-part [3] EXPLICIT Kerberos.EncryptedData
 SEQUENCE OF Ticket
 KerberosMessage ::= CHOICE
-  ticket [APPLICATION 1] EXPLICIT TicketFields
+  ticket [APPLICATION 1] EXPLICIT Kerberos.Ticket
   as-req [APPLICATION 10] EXPLICIT KDC-REQ
   as-rep [APPLICATION 11] EXPLICIT KDC-REP
   tgs-req [APPLICATION 12] EXPLICIT KDC-REQ
@@ -49,7 +49,7 @@ KerberosMessage ::= CHOICE
   ap-req [APPLICATION 14] EXPLICIT AP-REQ
   ap-rep [APPLICATION 15] EXPLICIT AP-REP
   krb-error [APPLICATION 30] EXPLICIT KRB-ERROR
-MessageType ::= INTEGER
+MessageType.INTEGER ::= INTEGER
   10 AS-REQ
   11 AS-REP
   12 TGS-REQ
@@ -59,7 +59,7 @@ MessageType ::= INTEGER
   30 KRB-ERROR
 KDC-REQ ::= SEQUENCE
   pvno [1] EXPLICIT INTEGER
-  msg-type [2] EXPLICIT MessageType
+  msg-type [2] EXPLICIT MessageType.INTEGER
   padata [3] EXPLICIT SEQUENCE OF PA-DATA OPTIONAL
   req-body [4] EXPLICIT KDC-REQ-BODY
 KDC-REQ-BODY ::= SEQUENCE
@@ -77,7 +77,7 @@ KDC-REQ-BODY ::= SEQUENCE
   additional-tickets [11] EXPLICIT SEQUENCE OF Ticket OPTIONAL
 KDC-REP ::= SEQUENCE
   pvno [0] EXPLICIT INTEGER
-  msg-type [1] EXPLICIT MessageType
+  msg-type [1] EXPLICIT MessageType.INTEGER
   padata [2] EXPLICIT SEQUENCE OF PA-DATA OPTIONAL
   crealm [3] EXPLICIT Realm
   cname [4] EXPLICIT PrincipalName
@@ -87,17 +87,17 @@ KDC-REP ::= SEQUENCE
 -- RFC 4120, 5.5 and 5.9
 AP-REQ ::= SEQUENCE
   pvno [0] EXPLICIT INTEGER
-  msg-type [1] EXPLICIT MessageType
+  msg-type [1] EXPLICIT MessageType.INTEGER
   ap-options [2] EXPLICIT BIT STRING
   ticket [3] EXPLICIT Ticket
   authenticator [4] EXPLICIT Kerberos.EncryptedData
 AP-REP ::= SEQUENCE
   pvno [0] EXPLICIT INTEGER
-  msg-type [1] EXPLICIT MessageType
+  msg-type [1] EXPLICIT MessageType.INTEGER
   enc-part [2] EXPLICIT Kerberos.EncryptedData
 KRB-ERROR ::= SEQUENCE
   pvno [0] EXPLICIT INTEGER
-  msg-type [1] EXPLICIT MessageType
+  msg-type [1] EXPLICIT MessageType.INTEGER
   ctime [2] EXPLICIT KerberosTime OPTIONAL
   cusec [3] EXPLICIT INTEGER OPTIONAL
   stime [4] EXPLICIT KerberosTime
