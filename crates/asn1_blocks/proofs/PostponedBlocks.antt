@@ -4,7 +4,7 @@ use Rattle.std.proofs.Math.Seq.{take-append_seam, drop-append_seam}
 use Rattle.std.proofs.lemmas.List.{take-map, drop-map, map-append, length-map}
 use Rattle.asn1_blocks.specs.declared.block.GroupKind.{GroupKind}
 use Rattle.asn1_blocks.specs.declared.block.ASN1Block.{ASN1Block}
-use Rattle.asn1_blocks.specs.declared.reading.Attempt.{Attempt}
+use Rattle.asn1_blocks.specs.declared.read_loop.Attempt.{Attempt}
 use Rattle.asn1_blocks.specs.declared.postponed.Postponed.{Postponed}
 use Rattle.asn1_blocks.specs.declared.postponed.Postponed.TheVariants.{Ready, Group, Explicit, AsItCame}
 use Rattle.asn1_blocks.specs.Tree.{Tree, group, trees_of}

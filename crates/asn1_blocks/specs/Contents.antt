@@ -3,6 +3,7 @@
 use Rattle.std.specs.Prelude.{◌≡◌, ◌≢◌, ◌==◌, ◌||◌, ℕ, Bool, List, [], Option, None}
 use Rattle.asn1_blocks.specs.declared.block.GroupKind.{GroupKind}
 use Rattle.asn1_blocks.specs.declared.block.GroupKind.TheVariants.{Sequence, Set}
+use Rattle.asn1_headers.specs.declared.tags.TheConstants.{BOOLEAN, INTEGER, BIT_STRING, OCTET_STRING, NULL, OBJECT_IDENTIFIER, UTF8_STRING, SEQUENCE, SET, PRINTABLE_STRING, TELETEX_STRING, IA5_STRING, UTC_TIME, GENERALIZED_TIME, UNIVERSAL_STRING, BMP_STRING}
 use Rattle.asn1_headers.specs.declared.error.ASN1EncodeErr.{ASN1EncodeErr}
 use Rattle.asn1_leaves.specs.StringKind.{StringKind, utf8, printable, teletex, ia5, universal, bmp}
 use Rattle.asn1_blocks.specs.Tree.{Leaf, boolean, integer, bit_string, octet_string, null, object_identifier, text, utc_time, generalized_time}
@@ -18,44 +19,46 @@ use Rattle.asn1_leaves.specs.Contents.Text.{text_form, HasCharacters, TextConten
 
 -- the tag number of a string of characters (X.680 table 8)
 abbrev pub string_tag : StringKind → ℕ
-string_tag utf8 = 12
-string_tag printable = 19
-string_tag teletex = 20
-string_tag ia5 = 22
-string_tag universal = 28
-string_tag bmp = 30
+string_tag utf8 = UTF8_STRING
+string_tag printable = PRINTABLE_STRING
+string_tag teletex = TELETEX_STRING
+string_tag ia5 = IA5_STRING
+string_tag universal = UNIVERSAL_STRING
+string_tag bmp = BMP_STRING
 
 -- the tag number of a leaf (X.680 table 1)
 abbrev pub leaf_tag : Leaf → ℕ
-leaf_tag (boolean b) = 1
-leaf_tag (integer n) = 2
-leaf_tag (bit_string n v) = 3
-leaf_tag (octet_string v) = 4
-leaf_tag null = 5
-leaf_tag (object_identifier ns) = 6
+leaf_tag (boolean b) = BOOLEAN
+leaf_tag (integer n) = INTEGER
+leaf_tag (bit_string n v) = BIT_STRING
+leaf_tag (octet_string v) = OCTET_STRING
+leaf_tag null = NULL
+leaf_tag (object_identifier ns) = OBJECT_IDENTIFIER
 leaf_tag (text kind cs) = string_tag kind
-leaf_tag (utc_time m) = 23
-leaf_tag (generalized_time m) = 24
+leaf_tag (utc_time m) = UTC_TIME
+leaf_tag (generalized_time m) = GENERALIZED_TIME
 
 -- the tag number of a SEQUENCE or SET
 abbrev pub group_tag : GroupKind → ℕ
-group_tag Sequence = 16
-group_tag Set = 17
+group_tag Sequence = SEQUENCE
+group_tag Set = SET
 
 -- the tag number of no leaf, no SEQUENCE and no SET: what has it is read as `Unknown`
 abbrev pub IsUnknownTag : ℕ → Type 0
 IsUnknownTag tag = ((l : Leaf) → tag ≢ leaf_tag l) × ((g : GroupKind) → tag ≢ group_tag g)
 
 abbrev pub is_string_tag : ℕ → Bool
-is_string_tag n = (n == 12) || (n == 19) || (n == 20) || (n == 22) || (n == 28) || (n == 30)
+is_string_tag n =
+    (n == UTF8_STRING) || (n == PRINTABLE_STRING) || (n == TELETEX_STRING) || (n == IA5_STRING)
+    || (n == UNIVERSAL_STRING) || (n == BMP_STRING)
 
 abbrev pub is_leaf_tag : ℕ → Bool
 is_leaf_tag n =
-    (n == 1) || (n == 2) || (n == 3) || (n == 4) || (n == 5) || (n == 6) || (n == 23) || (n == 24)
-    || is_string_tag n
+    (n == BOOLEAN) || (n == INTEGER) || (n == BIT_STRING) || (n == OCTET_STRING) || (n == NULL)
+    || (n == OBJECT_IDENTIFIER) || (n == UTC_TIME) || (n == GENERALIZED_TIME) || is_string_tag n
 
 abbrev pub is_group_tag : ℕ → Bool
-is_group_tag n = (n == 16) || (n == 17)
+is_group_tag n = (n == SEQUENCE) || (n == SET)
 
 -- the tag numbers that are read as more than `Unknown`
 abbrev pub is_known_tag : ℕ → Bool
@@ -76,11 +79,11 @@ LeafContents (generalized_time m) contents = GeneralizedTimeContents m contents
 
 -- the contents octets of this tag mean no leaf, with this fault
 pub data LeafFault (tag : ℕ) (contents : List ℕ) (fault : DecodeFault) : Type 0 where
-  of_boolean : tag ≡ 1 → BooleanFault contents fault → LeafFault tag contents fault
-  of_bit_string : tag ≡ 3 → BitStringFault contents fault → LeafFault tag contents fault
-  of_object_identifier : tag ≡ 6 → ObjectIdentifierFault contents fault → LeafFault tag contents fault
-  of_utc_time : tag ≡ 23 → UtcTimeFault contents fault → LeafFault tag contents fault
-  of_generalized_time : tag ≡ 24 → GeneralizedTimeFault contents fault → LeafFault tag contents fault
+  of_boolean : tag ≡ BOOLEAN → BooleanFault contents fault → LeafFault tag contents fault
+  of_bit_string : tag ≡ BIT_STRING → BitStringFault contents fault → LeafFault tag contents fault
+  of_object_identifier : tag ≡ OBJECT_IDENTIFIER → ObjectIdentifierFault contents fault → LeafFault tag contents fault
+  of_utc_time : tag ≡ UTC_TIME → UtcTimeFault contents fault → LeafFault tag contents fault
+  of_generalized_time : tag ≡ GENERALIZED_TIME → GeneralizedTimeFault contents fault → LeafFault tag contents fault
   of_text : (kind : StringKind) → tag ≡ string_tag kind → TextFault (text_form kind) contents fault
       → LeafFault tag contents fault
 

@@ -3,6 +3,7 @@
 use Rattle.std.specs.Prelude.{◌==◌, ◌||◌, ◌&&◌, ℕ, ℤ, Bool, true, false, not, List, [], ◌∷◌, nat_lt, if◌then◌else◌, Option, Some, None}
 use Rattle.std.specs.Int.{is_in_range}
 use Rattle.std.specs.List.{list_all}
+use Rattle.asn1_headers.specs.declared.tags.TheConstants.{ENUMERATED, NUMERIC_STRING, VISIBLE_STRING, GENERAL_STRING}
 use Rattle.asn1_headers.specs.declared.header.ASN1Class.TheVariants.{Universal}
 use Rattle.asn1_numbers.specs.TwosComplement.{signed_number}
 use Rattle.asn1_blocks.specs.Tree.{Tree, unknown}
@@ -16,11 +17,11 @@ is_shortest_integer (a ∷ b ∷ octets) = if nat_lt b 128 then not (a == 0) els
 -- the number of an ENUMERATED, which has tag number 10 and the contents octets of an INTEGER (X.690 8.4)
 abbrev pub primitive_enumerated : ℕ → List ℕ → Option ℤ
 primitive_enumerated tag contents =
-    if (tag == 10) && is_shortest_integer contents then Some (signed_number contents) else None
+    if (tag == ENUMERATED) && is_shortest_integer contents then Some (signed_number contents) else None
 
 -- the tag number of a NumericString, a VisibleString or a GeneralString (X.680 table 8)
 abbrev pub is_ascii_tag : ℕ → Bool
-is_ascii_tag tag = (tag == 18) || (tag == 26) || (tag == 27)
+is_ascii_tag tag = (tag == NUMERIC_STRING) || (tag == VISIBLE_STRING) || (tag == GENERAL_STRING)
 
 -- a digit or the space (X.680 41.2)
 abbrev pub is_numeric : ℕ → Bool
@@ -38,7 +39,7 @@ is_general c = nat_lt c 128 && not ((c == 14) || (c == 15) || (c == 27))
 -- the characters of a string of ASCII with the tag number
 abbrev pub is_ascii_character : ℕ → ℕ → Bool
 is_ascii_character tag c =
-    if tag == 18 then is_numeric c else if tag == 26 then is_visible c else is_general c
+    if tag == NUMERIC_STRING then is_numeric c else if tag == VISIBLE_STRING then is_visible c else is_general c
 
 -- the text of a string of ASCII, which has an octet for each character (X.690 8.23)
 abbrev pub primitive_ascii_text : ℕ → List ℕ → Option (List ℕ)

@@ -10,6 +10,11 @@ pub mod parts;
 mod same;
 
 use asn1_headers::header::ASN1Class;
+use asn1_headers::tags::{
+    BIT_STRING, BMP_STRING, BOOLEAN, GENERALIZED_TIME, IA5_STRING, INTEGER, NULL,
+    OBJECT_IDENTIFIER, OCTET_STRING, PRINTABLE_STRING, SEQUENCE, SET, TELETEX_STRING,
+    UNIVERSAL_STRING, UTC_TIME, UTF8_STRING,
+};
 use asn1_leaves::oid::OID;
 use asn1_numbers::number::big_int::BigInt;
 use asn1_numbers::number::big_uint::BigUint;
@@ -144,22 +149,22 @@ impl ASN1Block {
         ensures { SomeIff result (tree_tag (view self.now) < 2 ^ 64) (tree_tag (view self.now)) }
     {
         match self {
-            ASN1Block::Boolean(_, _) => Some(1),
-            ASN1Block::Integer(_, _) => Some(2),
-            ASN1Block::BitString(_, _, _) => Some(3),
-            ASN1Block::OctetString(_, _) => Some(4),
-            ASN1Block::Null(_) => Some(5),
-            ASN1Block::ObjectIdentifier(_, _) => Some(6),
-            ASN1Block::UTF8String(_, _) => Some(12),
-            ASN1Block::Sequence(_, _) => Some(16),
-            ASN1Block::Set(_, _) => Some(17),
-            ASN1Block::PrintableString(_, _) => Some(19),
-            ASN1Block::TeletexString(_, _) => Some(20),
-            ASN1Block::IA5String(_, _) => Some(22),
-            ASN1Block::UTCTime(_, _) => Some(23),
-            ASN1Block::GeneralizedTime(_, _) => Some(24),
-            ASN1Block::UniversalString(_, _) => Some(28),
-            ASN1Block::BMPString(_, _) => Some(30),
+            ASN1Block::Boolean(_, _) => Some(BOOLEAN),
+            ASN1Block::Integer(_, _) => Some(INTEGER),
+            ASN1Block::BitString(_, _, _) => Some(BIT_STRING),
+            ASN1Block::OctetString(_, _) => Some(OCTET_STRING),
+            ASN1Block::Null(_) => Some(NULL),
+            ASN1Block::ObjectIdentifier(_, _) => Some(OBJECT_IDENTIFIER),
+            ASN1Block::UTF8String(_, _) => Some(UTF8_STRING),
+            ASN1Block::Sequence(_, _) => Some(SEQUENCE),
+            ASN1Block::Set(_, _) => Some(SET),
+            ASN1Block::PrintableString(_, _) => Some(PRINTABLE_STRING),
+            ASN1Block::TeletexString(_, _) => Some(TELETEX_STRING),
+            ASN1Block::IA5String(_, _) => Some(IA5_STRING),
+            ASN1Block::UTCTime(_, _) => Some(UTC_TIME),
+            ASN1Block::GeneralizedTime(_, _) => Some(GENERALIZED_TIME),
+            ASN1Block::UniversalString(_, _) => Some(UNIVERSAL_STRING),
+            ASN1Block::BMPString(_, _) => Some(BMP_STRING),
             ASN1Block::Explicit(_, _, tag, _) | ASN1Block::Unknown(_, _, _, tag, _) => tag.to_u64(),
         }
     }

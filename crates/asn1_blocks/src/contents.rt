@@ -25,6 +25,11 @@ use crate::held::{HeldBlocks, boxed};
 use crate::parsed::PlacedHeader;
 use asn1_headers::error::{ASN1DecodeErr, ASN1EncodeErr};
 use asn1_headers::header::ASN1Class;
+use asn1_headers::tags::{
+    BIT_STRING, BMP_STRING, BOOLEAN, GENERALIZED_TIME, IA5_STRING, INTEGER, NULL,
+    OBJECT_IDENTIFIER, OCTET_STRING, PRINTABLE_STRING, SEQUENCE, SET, TELETEX_STRING,
+    UNIVERSAL_STRING, UTC_TIME, UTF8_STRING,
+};
 use asn1_leaves::contents::text::TextForm;
 use asn1_leaves::contents::{
     bit_string, boolean, generalized_time, integer, object_identifier, text, utc_time,
@@ -72,27 +77,42 @@ fn universal_leaf(
     ensures refused { IfErr result (OutOfMemoryOr (LeafFault tag.now contents.now)) }
 {
     let block = match tag.to_u64() {
-        Some(1) => ASN1Block::Boolean(offset, boolean::read(contents)?),
-        Some(2) => ASN1Block::Integer(offset, integer::read(alloc, contents)?),
-        Some(3) => {
+        Some(BOOLEAN) => ASN1Block::Boolean(offset, boolean::read(contents)?),
+        Some(INTEGER) => ASN1Block::Integer(offset, integer::read(alloc, contents)?),
+        Some(BIT_STRING) => {
             let (bits, octets) = bit_string::read(alloc, contents)?;
             ASN1Block::BitString(offset, bits, octets)
         }
-        Some(4) => ASN1Block::OctetString(offset, Vec::from_slice(alloc, contents)?),
-        Some(5) => ASN1Block::Null(offset),
-        Some(6) => ASN1Block::ObjectIdentifier(offset, oid::read(alloc, contents)?),
-        Some(12) => ASN1Block::UTF8String(offset, text::read(alloc, TextForm::Utf8, contents)?),
-        Some(19) => {
+        Some(OCTET_STRING) => ASN1Block::OctetString(offset, Vec::from_slice(alloc, contents)?),
+        Some(NULL) => ASN1Block::Null(offset),
+        Some(OBJECT_IDENTIFIER) => ASN1Block::ObjectIdentifier(offset, oid::read(alloc, contents)?),
+        Some(UTF8_STRING) => ASN1Block::UTF8String(
+            offset,
+            text::read(alloc, TextForm::Utf8, contents)?,
+        ),
+        Some(PRINTABLE_STRING) => {
             ASN1Block::PrintableString(offset, text::read(alloc, TextForm::Printable, contents)?)
         }
-        Some(20) => ASN1Block::TeletexString(offset, text::read(alloc, TextForm::Utf8, contents)?),
-        Some(22) => ASN1Block::IA5String(offset, text::read(alloc, TextForm::Octets, contents)?),
-        Some(23) => ASN1Block::UTCTime(offset, utc_time::read(alloc, contents)?),
-        Some(24) => ASN1Block::GeneralizedTime(offset, generalized_time::read(alloc, contents)?),
-        Some(28) => {
+        Some(TELETEX_STRING) => ASN1Block::TeletexString(
+            offset,
+            text::read(alloc, TextForm::Utf8, contents)?,
+        ),
+        Some(IA5_STRING) => ASN1Block::IA5String(
+            offset,
+            text::read(alloc, TextForm::Octets, contents)?,
+        ),
+        Some(UTC_TIME) => ASN1Block::UTCTime(offset, utc_time::read(alloc, contents)?),
+        Some(GENERALIZED_TIME) => ASN1Block::GeneralizedTime(
+            offset,
+            generalized_time::read(alloc, contents)?,
+        ),
+        Some(UNIVERSAL_STRING) => {
             ASN1Block::UniversalString(offset, text::read(alloc, TextForm::Utf8, contents)?)
         }
-        Some(30) => ASN1Block::BMPString(offset, text::read(alloc, TextForm::Utf8, contents)?),
+        Some(BMP_STRING) => ASN1Block::BMPString(
+            offset,
+            text::read(alloc, TextForm::Utf8, contents)?,
+        ),
         _ => return Ok(None),
     };
     Ok(Some(block))
@@ -142,20 +162,20 @@ fn are_meant(tag: u64, contents: &[u8]) -> bool
     ensures { IsTrue result → IsNoLeafOrMeant tag contents.now }
 {
     match tag {
-        1 => boolean::are_meant(contents),
-        2 => true,
-        3 => bit_string::are_meant(contents),
-        4 => true,
-        5 => true,
-        6 => object_identifier::are_meant(contents),
-        12 => text::are_meant(TextForm::Utf8, contents),
-        19 => text::are_meant(TextForm::Printable, contents),
-        20 => text::are_meant(TextForm::Utf8, contents),
-        22 => true,
-        23 => utc_time::are_meant(contents),
-        24 => generalized_time::are_meant(contents),
-        28 => text::are_meant(TextForm::Utf8, contents),
-        30 => text::are_meant(TextForm::Utf8, contents),
+        BOOLEAN => boolean::are_meant(contents),
+        INTEGER => true,
+        BIT_STRING => bit_string::are_meant(contents),
+        OCTET_STRING => true,
+        NULL => true,
+        OBJECT_IDENTIFIER => object_identifier::are_meant(contents),
+        UTF8_STRING => text::are_meant(TextForm::Utf8, contents),
+        PRINTABLE_STRING => text::are_meant(TextForm::Printable, contents),
+        TELETEX_STRING => text::are_meant(TextForm::Utf8, contents),
+        IA5_STRING => true,
+        UTC_TIME => utc_time::are_meant(contents),
+        GENERALIZED_TIME => generalized_time::are_meant(contents),
+        UNIVERSAL_STRING => text::are_meant(TextForm::Utf8, contents),
+        BMP_STRING => text::are_meant(TextForm::Utf8, contents),
         _ => true,
     }
 }
@@ -226,7 +246,19 @@ pub fn is_known(tag: &BigUint) -> bool
 {
     matches!(
         tag.to_u64(),
-        Some(1..=6 | 12 | 16 | 17 | 19 | 20 | 22 | 23 | 24 | 28 | 30)
+        Some(
+            BOOLEAN..=OBJECT_IDENTIFIER
+                | UTF8_STRING
+                | SEQUENCE
+                | SET
+                | PRINTABLE_STRING
+                | TELETEX_STRING
+                | IA5_STRING
+                | UTC_TIME
+                | GENERALIZED_TIME
+                | UNIVERSAL_STRING
+                | BMP_STRING
+        )
     )
 }
 
@@ -237,12 +269,12 @@ pub fn form_of(tag: u64) -> Option<TextForm>
         (λ form. (kind : StringKind) × (tag ≡ string_tag kind) × (form ≡ text_form kind)) }
 {
     match tag {
-        12 => Some(TextForm::Utf8),
-        19 => Some(TextForm::Printable),
-        20 => Some(TextForm::Utf8),
-        22 => Some(TextForm::Octets),
-        28 => Some(TextForm::Utf8),
-        30 => Some(TextForm::Utf8),
+        UTF8_STRING => Some(TextForm::Utf8),
+        PRINTABLE_STRING => Some(TextForm::Printable),
+        TELETEX_STRING => Some(TextForm::Utf8),
+        IA5_STRING => Some(TextForm::Octets),
+        UNIVERSAL_STRING => Some(TextForm::Utf8),
+        BMP_STRING => Some(TextForm::Utf8),
         _ => None,
     }
 }

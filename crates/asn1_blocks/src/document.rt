@@ -1,5 +1,6 @@
 // The blocks of a document under an owner that drops them by a loop.
 ghost use Rattle.std.specs.Prelude.{◌<◌, length};
+ghost use Rattle.asn1_headers.specs.Reading.{OutOfMemoryOrAt, ReadsEach, ReadsEachLocated, RejectsAt, RejectsWith};
 
 use crate::block::ASN1Block;
 use crate::held::HeldBlocks;
@@ -37,7 +38,7 @@ impl Document {
     /// Reads a document as the function [`from_der`] does.
     ///
     /// # Errors
-    /// Those of [`from_der`].
+    /// The errors of [`from_der`].
     ///
     /// ```rust
     /// use simple_asn1::{ASN1DecodeErr, Document};
@@ -52,12 +53,9 @@ impl Document {
     pub fn from_der(alloc: Global, i: &[u8]) -> Result<Document, ASN1DecodeErr>
         ensures document { IfOk result (λ document. IsDocument i.now (document_trees document)) }
         ensures fault { IfErr result (OutOfMemoryOr (FirstFault i.now)) }
-        ensures accepts { (bs : Trees ℕ) → IsDocument i.now bs
-            → MatchResult result
-            (λ document. document_trees document ≡ bs)
-            (λ e. e ≡ OutOfMemory) }
-        ensures refuses { (fault : DecodeFault) → FirstFault i.now fault
-            → IsErrAnd result (OutOfMemoryOr (λ e. e ≡ fault)) }
+        ensures accepts { ReadsEach result (IsDocument i.now)
+            (λ bs document. document_trees document ≡ bs) }
+        ensures refuses { RejectsWith result (FirstFault i.now) }
     {
         let blocks = from_der(alloc, i)?;
         Ok(Document {
@@ -68,7 +66,7 @@ impl Document {
     /// Reads a document as the function [`from_der_located`] does.
     ///
     /// # Errors
-    /// Those of [`from_der`], each with the offset of the innermost block at fault.
+    /// The errors of [`from_der`], each with the offset of the innermost block at fault.
     ///
     /// ```rust
     /// use simple_asn1::Document;
@@ -84,15 +82,10 @@ impl Document {
     /// ```
     pub fn from_der_located(alloc: Global, i: &[u8]) -> Result<Document, LocatedErr>
         ensures document { IfOk result (λ document. IsDocument i.now (document_trees document)) }
-        ensures fault { IfErr result
-            (λ e. OutOfMemoryOr (λ fault. FirstFaultAt i.now fault e.offset) e.error) }
-        ensures accepts { (bs : Trees ℕ) → IsDocument i.now bs
-            → MatchResult result
-            (λ document. document_trees document ≡ bs)
-            (λ e. e.error ≡ OutOfMemory) }
-        ensures refuses { (fault : DecodeFault) (offset : ℕ) → FirstFaultAt i.now fault offset
-            → IsErrAnd result
-            (λ e. OutOfMemoryOr (λ found. (found ≡ fault) × (e.offset ≡ offset)) e.error) }
+        ensures fault { IfErr result (OutOfMemoryOrAt (FirstFaultAt i.now)) }
+        ensures accepts { ReadsEachLocated result (IsDocument i.now)
+            (λ bs document. document_trees document ≡ bs) }
+        ensures refuses { RejectsAt result (FirstFaultAt i.now) }
     {
         match from_der_located(alloc, i) {
             Ok(blocks) => Ok(Document {

@@ -10,7 +10,7 @@ ghost use Rattle.asn1_blocks.specs.View.{view, views};
 use crate::block::ASN1Block;
 use crate::contents::{is_faithful_leaf, is_known};
 use crate::document::Document;
-use crate::walk::TreeWalk;
+use crate::tree_walk::TreeWalk;
 use asn1_headers::error::ASN1DecodeErr;
 use asn1_headers::header::ASN1Class;
 use asn1_numbers::number::big_uint::BigUint;

@@ -1,10 +1,10 @@
 //! The tree of blocks, and how octets are read into it: a layer of `simple_asn1`, which is the crate for users.
 //!
 //! - [`block`]: the tree; its equality, copies, dropping, and what is taken out of a block;
-//! - [`reading`]: documents are read, in one loop over the frames that are open, whatever is built of the blocks;
+//! - [`read_loop`]: documents are read, in one loop over the frames that are open, whatever is built of the blocks;
 //!   [`parsed`] is part of it; [`encoding`] finds an encoding by its header;
 //! - [`read`]: trees are built; [`postponed`] and [`held`] are parts of it;
-//! - [`document`]: the owner of a document's blocks; [`walk`]: blocks in tree order;
+//! - [`document`]: the owner of a document's blocks; [`tree_walk`]: blocks in tree order;
 //! - [`contents`]: which contents octets a tag has; [`faithful`]: which blocks are read back as they are;
 //! - [`unknown_values`]: contents octets of types that have no variant of a block.
 //!
@@ -21,6 +21,6 @@ pub mod held;
 pub mod parsed;
 pub mod postponed;
 pub mod read;
-pub mod reading;
+pub mod read_loop;
+pub mod tree_walk;
 pub mod unknown_values;
-pub mod walk;

@@ -8,7 +8,7 @@ ghost use Rattle.asn1_blocks.specs.Inner.Postponed.{trees_after, trees_after_all
 use crate::block::discard::discard_one;
 use crate::block::{ASN1Block, GroupKind};
 use crate::held::{HeldBlocks, boxed};
-use crate::reading::Attempt;
+use crate::read_loop::Attempt;
 use std::alloc::{AllocError, Global};
 
 // A postponed block: how it is built of those before it, once the encoding has ended.

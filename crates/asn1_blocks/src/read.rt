@@ -1,14 +1,14 @@
 // Documents into trees of blocks.
-ghost use Rattle.std.specs.Prelude.{◌≡◌, ℕ, ◌+◌, ◌<◌, ◌≤◌, ◌^◌, ◌⊎◌, ◌++◌, ◌∷◌, [], length, map, IfOk, IfErr, IsErrAnd, MatchResult, OnOk};
+ghost use Rattle.std.specs.Prelude.{◌≡◌, ℕ, ◌+◌, ◌<◌, ◌≤◌, ◌^◌, ◌⊎◌, ◌++◌, ◌∷◌, [], length, map, IfOk, IfErr, MatchResult, OnOk};
 ghost use Rattle.asn1_blocks.specs.declared.block.ASN1Block.{ASN1Block};
 ghost use Rattle.asn1_headers.specs.declared.error.ASN1DecodeErr.TheVariants.{OutOfMemory};
-ghost use Rattle.asn1_headers.specs.Fault.{DecodeFault, OutOfMemoryOr, UnlessOutOfMemory};
+ghost use Rattle.asn1_headers.specs.Fault.{OutOfMemoryOr, UnlessOutOfMemory};
+ghost use Rattle.asn1_headers.specs.Reading.{OutOfMemoryOrAt, ReadsEach, ReadsEachLocated, RejectsAt, RejectsWith};
 ghost use Rattle.asn1_blocks.specs.Grammar.{IsDocument, FirstFault, FirstFaultAt};
 ghost use Rattle.asn1_blocks.specs.HeadersBegun.{HeadersBegun};
 ghost use Rattle.asn1_blocks.specs.Inner.OpenFrames.{IsAttemptAlone, around};
 ghost use Rattle.asn1_blocks.specs.Inner.Postponed.{trees_after_all};
 ghost use Rattle.asn1_blocks.specs.Inner.TreeBuilding.{IsAddedAsItCame, IsPostponed, IsAdded, builder_holds};
-ghost use Rattle.asn1_blocks.specs.Tree.{Trees};
 ghost use Rattle.asn1_blocks.specs.View.{view, views};
 
 use crate::block::ASN1Block;
@@ -17,7 +17,7 @@ use crate::encoding::encoding_count;
 use crate::held::HeldBlocks;
 use crate::parsed::{PlacedHeader, header_within};
 use crate::postponed::{Postponed, build, explicit_block, group_block, unknown_block};
-use crate::reading::{Attempt, Builder, Extent, FrameKind, out_of_memory, read_into};
+use crate::read_loop::{Attempt, Builder, Extent, FrameKind, out_of_memory, read_into};
 use asn1_headers::error::{ASN1DecodeErr, LocatedErr};
 use asn1_headers::header::{ASN1Class, HeaderCount};
 use std::alloc::{AllocError, Global};
@@ -57,10 +57,8 @@ pub fn from_der(alloc: Global, i: &[u8]) -> Result<Vec<ASN1Block>, ASN1DecodeErr
     ensures fault { IfErr result (OutOfMemoryOr (FirstFault i.now)) }
 
     // Memory aside, each document is read as its trees, and other octets are refused with their first fault.
-    ensures accepts { (bs : Trees ℕ) → IsDocument i.now bs
-        → MatchResult result (λ blocks. views blocks.items ≡ bs) (λ e. e ≡ OutOfMemory) }
-    ensures refuses { (fault : DecodeFault) → FirstFault i.now fault
-        → IsErrAnd result (OutOfMemoryOr (λ e. e ≡ fault)) }
+    ensures accepts { ReadsEach result (IsDocument i.now) (λ bs blocks. views blocks.items ≡ bs) }
+    ensures refuses { RejectsWith result (FirstFault i.now) }
 {
     match read_uncounted(alloc, i) {
         Ok(document) => Ok(document),
@@ -73,7 +71,7 @@ pub fn from_der(alloc: Global, i: &[u8]) -> Result<Vec<ASN1Block>, ASN1DecodeErr
 /// that the count has room for the number of bytes.
 ///
 /// # Errors
-/// Those of [`from_der`].
+/// The errors of [`from_der`].
 ///
 /// ```rust
 /// use simple_asn1::{HeaderCount, discard, from_der_counted};
@@ -96,10 +94,8 @@ pub fn from_der_counted(
     requires room { count.old + length i.now < 2 ^ 64 }
     ensures document { IfOk result (λ blocks. IsDocument i.now (views blocks.items)) }
     ensures fault { IfErr result (OutOfMemoryOr (FirstFault i.now)) }
-    ensures accepts { (bs : Trees ℕ) → IsDocument i.now bs
-        → MatchResult result (λ blocks. views blocks.items ≡ bs) (λ e. e ≡ OutOfMemory) }
-    ensures refuses { (fault : DecodeFault) → FirstFault i.now fault
-        → IsErrAnd result (OutOfMemoryOr (λ e. e ≡ fault)) }
+    ensures accepts { ReadsEach result (IsDocument i.now) (λ bs blocks. views blocks.items ≡ bs) }
+    ensures refuses { RejectsWith result (FirstFault i.now) }
 
     ensures counted { UnlessOutOfMemory result ((n : ℕ) × HeadersBegun i.now n
         × (count.new ≡ count.old + n)) }
@@ -115,7 +111,7 @@ pub fn from_der_counted(
 /// Reads a document as [`from_der`] does, and says where an error is.
 ///
 /// # Errors
-/// Those of [`from_der`], each with the offset of the innermost block that the fault belongs to: the block whose
+/// The errors of [`from_der`], each with the offset of the innermost block that the fault belongs to: the block whose
 /// header or contents octets are at fault, and not the SEQUENCE or SET around it. For an empty input it is 0.
 ///
 /// ```rust
@@ -132,13 +128,10 @@ pub fn from_der_counted(
 /// ```
 pub fn from_der_located(alloc: Global, i: &[u8]) -> Result<Vec<ASN1Block>, LocatedErr>
     ensures document { IfOk result (λ blocks. IsDocument i.now (views blocks.items)) }
-    ensures fault { IfErr result
-        (λ e. OutOfMemoryOr (λ fault. FirstFaultAt i.now fault e.offset) e.error) }
-    ensures accepts { (bs : Trees ℕ) → IsDocument i.now bs
-        → MatchResult result (λ blocks. views blocks.items ≡ bs) (λ e. e.error ≡ OutOfMemory) }
-    ensures refuses { (fault : DecodeFault) (offset : ℕ) → FirstFaultAt i.now fault offset
-        → IsErrAnd result
-        (λ e. OutOfMemoryOr (λ found. (found ≡ fault) × (e.offset ≡ offset)) e.error) }
+    ensures fault { IfErr result (OutOfMemoryOrAt (FirstFaultAt i.now)) }
+    ensures accepts { ReadsEachLocated result (IsDocument i.now)
+        (λ bs blocks. views blocks.items ≡ bs) }
+    ensures refuses { RejectsAt result (FirstFaultAt i.now) }
 {
     read_uncounted(alloc, i)
 }
@@ -146,8 +139,7 @@ pub fn from_der_located(alloc: Global, i: &[u8]) -> Result<Vec<ASN1Block>, Locat
 // Reads a document with a count that nobody asks for: the one place where the reader makes a count of its own.
 fn read_uncounted(alloc: Global, i: &[u8]) -> Result<Vec<ASN1Block>, LocatedErr>
     ensures document { IfOk result (λ blocks. IsDocument i.now (views blocks.items)) }
-    ensures refused { IfErr result
-        (λ e. OutOfMemoryOr (λ fault. FirstFaultAt i.now fault e.offset) e.error) }
+    ensures refused { IfErr result (OutOfMemoryOrAt (FirstFaultAt i.now)) }
 {
     let mut count = HeaderCount::new();
     read_blocks(alloc, i, &mut count)
@@ -160,8 +152,7 @@ fn read_blocks(
 ) -> Result<Vec<ASN1Block>, LocatedErr>
     requires room { count.old + length i.now < 2 ^ 64 }
     ensures document { IfOk result (λ blocks. IsDocument i.now (views blocks.items)) }
-    ensures refused { IfErr result
-        (λ e. OutOfMemoryOr (λ fault. FirstFaultAt i.now fault e.offset) e.error) }
+    ensures refused { IfErr result (OutOfMemoryOrAt (FirstFaultAt i.now)) }
     ensures counted { MatchResult result
         (λ _. (n : ℕ) × HeadersBegun i.now n × (count.new ≡ count.old + n))
         (λ e. (e.error ≡ OutOfMemory)

@@ -4,6 +4,7 @@ ghost use Rattle.std.specs.List.{list_all};
 ghost use Rattle.std.specs.Str.{IsAscii, chars};
 ghost use Rattle.asn1_blocks.specs.UnknownValues.{is_ascii_character, is_ascii_tag, is_general, is_numeric, is_shortest_integer, is_visible, primitive_ascii_text, primitive_enumerated};
 
+use asn1_headers::tags::{ENUMERATED, GENERAL_STRING, NUMERIC_STRING, VISIBLE_STRING};
 use asn1_numbers::number::big_int::BigInt;
 use std::alloc::{AllocError, Global};
 
@@ -30,7 +31,7 @@ pub fn enumerated(alloc: Global, tag: u64, contents: &[u8]) -> Result<Option<Big
         (primitive_enumerated tag contents.now ≡ None)
         (λ n. primitive_enumerated tag contents.now ≡ Some n)) }
 {
-    if tag != 10 || !is_shortest_integer(contents) {
+    if tag != ENUMERATED || !is_shortest_integer(contents) {
         return Ok(None);
     }
     let n = BigInt::from_signed_bytes_be(alloc, contents)?;
@@ -41,7 +42,7 @@ pub fn enumerated(alloc: Global, tag: u64, contents: &[u8]) -> Result<Option<Big
 pub fn is_ascii_tag(tag: u64) -> bool
     ensures { result ≡ is_ascii_tag tag }
 {
-    tag == 18 || tag == 26 || tag == 27
+    tag == NUMERIC_STRING || tag == VISIBLE_STRING || tag == GENERAL_STRING
 }
 
 fn is_numeric(octet: u8) -> bool
@@ -67,8 +68,8 @@ fn is_ascii_character(tag: u64, octet: u8) -> bool
     ensures { result ≡ is_ascii_character tag octet }
 {
     match tag {
-        18 => is_numeric(octet),
-        26 => is_visible(octet),
+        NUMERIC_STRING => is_numeric(octet),
+        VISIBLE_STRING => is_visible(octet),
         _ => is_general(octet),
     }
 }

@@ -1,5 +1,6 @@
 -- The rules of DER: which clauses say them, and which of them an encoding breaks where it is not DER.
 use Rattle.std.specs.Prelude.{◌==◌, ◌&&◌, ◌||◌, ℕ, nat_lt, Bool, true, false, if◌then◌else◌, Option, None, Some, List, [], ◌∷◌, codes, length}
+use Rattle.asn1_headers.specs.declared.tags.TheConstants.{BOOLEAN, INTEGER, BIT_STRING, OCTET_STRING, NULL, OBJECT_IDENTIFIER, OBJECT_DESCRIPTOR, REAL, ENUMERATED, UTF8_STRING, RELATIVE_OID, TIME, NUMERIC_STRING, PRINTABLE_STRING, TELETEX_STRING, VIDEOTEX_STRING, IA5_STRING, UTC_TIME, GENERALIZED_TIME, GRAPHIC_STRING, VISIBLE_STRING, GENERAL_STRING, UNIVERSAL_STRING, BMP_STRING, OID_IRI, RELATIVE_OID_IRI}
 use Rattle.std.specs.List.{list_any}
 use Rattle.std.specs.Option.{unwrap_or}
 use Rattle.asn1_der.specs.Der.{is_constructed_type, is_reserved}
@@ -71,11 +72,12 @@ text_of NotEncodings = codes "contents that are not encodings"
 abbrev pub identifier_rule : ℕ → Rule
 identifier_rule tag = if nat_lt tag 31 then LongIdentifier else PaddedTag
 
--- the types of which BER has constructed encodings too, which DER has not (10.2): BIT STRING, OCTET STRING,
--- ObjectDescriptor, the strings of characters, UTCTime and GeneralizedTime
+-- the types of which BER has constructed encodings too, which DER has not (10.2)
 abbrev pub is_string : ℕ → Bool
 is_string tag = list_any (λ t. tag == t)
-    (3 ∷ 4 ∷ 7 ∷ 12 ∷ 18 ∷ 19 ∷ 20 ∷ 21 ∷ 22 ∷ 23 ∷ 24 ∷ 25 ∷ 26 ∷ 27 ∷ 28 ∷ 30 ∷ [])
+    (BIT_STRING ∷ OCTET_STRING ∷ OBJECT_DESCRIPTOR ∷ UTF8_STRING ∷ NUMERIC_STRING ∷ PRINTABLE_STRING ∷ TELETEX_STRING
+    ∷ VIDEOTEX_STRING ∷ IA5_STRING ∷ UTC_TIME ∷ GENERALIZED_TIME ∷ GRAPHIC_STRING ∷ VISIBLE_STRING ∷ GENERAL_STRING
+    ∷ UNIVERSAL_STRING ∷ BMP_STRING ∷ [])
 
 -- what an encoding of class Universal breaks already by being primitive or constructed with its tag
 abbrev pub form_rule : Bool → ℕ → Option Rule
@@ -104,16 +106,16 @@ real_rule (first ∷ more) =
 -- what contents octets break that are not those of DER with the tag number
 abbrev pub contents_rule : ℕ → List ℕ → Rule
 contents_rule tag contents =
-    if tag == 1 then (if length contents == 1 then BooleanValue else BooleanSize)
-    else if (tag == 2) || (tag == 10) then (if length contents == 0 then NoInteger else PaddedInteger)
-    else if tag == 3 then bits_rule contents
-    else if tag == 5 then NullContents
-    else if (tag == 6) || (tag == 13) then Subidentifiers
-    else if tag == 9 then real_rule contents
-    else if tag == 23 then UtcTime
-    else if tag == 24 then GeneralizedTime
-    else if (tag == 14) || (nat_lt 30 tag && nat_lt tag 35) then Time
-    else if (tag == 35) || (tag == 36) then Iri
+    if tag == BOOLEAN then (if length contents == 1 then BooleanValue else BooleanSize)
+    else if (tag == INTEGER) || (tag == ENUMERATED) then (if length contents == 0 then NoInteger else PaddedInteger)
+    else if tag == BIT_STRING then bits_rule contents
+    else if tag == NULL then NullContents
+    else if (tag == OBJECT_IDENTIFIER) || (tag == RELATIVE_OID) then Subidentifiers
+    else if tag == REAL then real_rule contents
+    else if tag == UTC_TIME then UtcTime
+    else if tag == GENERALIZED_TIME then GeneralizedTime
+    else if (tag == TIME) || (nat_lt BMP_STRING tag && nat_lt tag OID_IRI) then Time
+    else if (tag == OID_IRI) || (tag == RELATIVE_OID_IRI) then Iri
     else Characters
 
 -- what an encoding of class Universal breaks by its tag, its form and its contents octets, where it breaks one: a

@@ -50,7 +50,7 @@ fn begins_with_end(octets: &[u8]) -> bool
     matches!(octets, [0, 0, ..])
 }
 
-// Whether they are those of an encoding that is open.
+// Whether end-of-contents octets of an encoding that is open stand at the front.
 pub fn is_at_end(unended: usize, octets: &[u8]) -> bool
     ensures { result ≡ is_at_end_is unended octets.now }
 {

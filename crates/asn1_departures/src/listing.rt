@@ -11,7 +11,7 @@ use crate::encodings::{are_encodings, check_headers, is_at_end, is_open, split_h
 use crate::own::push_own;
 use crate::rule::{Departure, Rule};
 use asn1_blocks::parsed::{PlacedHeader, header_within};
-use asn1_blocks::reading::out_of_memory;
+use asn1_blocks::read_loop::out_of_memory;
 use asn1_headers::error::LocatedErr;
 use asn1_headers::header::HeaderCount;
 use std::alloc::{AllocError, Global};

@@ -12,10 +12,15 @@ use crate::encodings::is_indefinite;
 use crate::rule::{Departure, Rule};
 use asn1_blocks::parsed::PlacedHeader;
 use asn1_der::contents::has_der_contents;
-use asn1_der::header::{is_constructed_type, is_reserved};
+use asn1_der::header_rules::{is_constructed_type, is_reserved};
 use asn1_der::is_der;
 use asn1_der::order::is_in_order;
 use asn1_headers::header::{ASN1Class, identifier_size, length_size, push_identifier, push_length};
+use asn1_headers::tags::{
+    BIT_STRING, BMP_STRING, BOOLEAN, DATE, DURATION, ENUMERATED, GENERALIZED_TIME, INTEGER, NULL,
+    NUMERIC_STRING, OBJECT_DESCRIPTOR, OBJECT_IDENTIFIER, OCTET_STRING, OID_IRI, REAL,
+    RELATIVE_OID, RELATIVE_OID_IRI, SET, TIME, UNIVERSAL_STRING, UTC_TIME, UTF8_STRING,
+};
 use asn1_numbers::number::big_uint::BigUint;
 use asn1_numbers::sink::Comparison;
 use std::alloc::{AllocError, Global};
@@ -172,7 +177,7 @@ fn is_right(alloc: Global, constructed: bool, tag: u64, contents: &[u8]) -> Resu
     if !constructed {
         return Ok(is_right_primitive(tag, contents));
     }
-    if tag == 17 {
+    if tag == SET {
         return is_set_in_order(alloc, contents);
     }
     Ok(is_constructed_type(tag))
@@ -186,7 +191,7 @@ fn is_right_primitive(tag: u64, contents: &[u8]) -> bool
 
 // Whether the items are in order, if they are DER.
 fn is_set_in_order(alloc: Global, contents: &[u8]) -> Result<bool, AllocError>
-    ensures { IfOk result (λ found. IsTrue found ↔ IsRightAlone Universal true 17 contents.now) }
+    ensures { IfOk result (λ found. IsTrue found ↔ IsRightAlone Universal true SET contents.now) }
 {
     if is_in_order(contents) {
         return Ok(true);
@@ -221,25 +226,32 @@ fn form_rule(constructed: bool, tag: u64) -> Option<Rule>
 fn is_string(tag: u64) -> bool
     ensures { result ≡ is_string_is tag }
 {
-    matches!(tag, 3 | 4 | 7 | 12 | 18..=28 | 30)
+    matches!(
+        tag,
+        BIT_STRING
+            | OCTET_STRING
+            | OBJECT_DESCRIPTOR
+            | UTF8_STRING
+            | NUMERIC_STRING..=UNIVERSAL_STRING | BMP_STRING
+    )
 }
 
 fn contents_rule(tag: u64, contents: &[u8]) -> Rule
     ensures { result ≡ contents_rule_is tag contents.now }
 {
     match tag {
-        1 if contents.len() == 1 => Rule::BooleanValue,
-        1 => Rule::BooleanSize,
-        2 | 10 if contents.is_empty() => Rule::NoInteger,
-        2 | 10 => Rule::PaddedInteger,
-        3 => bits_rule(contents),
-        5 => Rule::NullContents,
-        6 | 13 => Rule::Subidentifiers,
-        9 => real_rule(contents),
-        23 => Rule::UtcTime,
-        24 => Rule::GeneralizedTime,
-        14 | 31..=34 => Rule::Time,
-        35 | 36 => Rule::Iri,
+        BOOLEAN if contents.len() == 1 => Rule::BooleanValue,
+        BOOLEAN => Rule::BooleanSize,
+        INTEGER | ENUMERATED if contents.is_empty() => Rule::NoInteger,
+        INTEGER | ENUMERATED => Rule::PaddedInteger,
+        BIT_STRING => bits_rule(contents),
+        NULL => Rule::NullContents,
+        OBJECT_IDENTIFIER | RELATIVE_OID => Rule::Subidentifiers,
+        REAL => real_rule(contents),
+        UTC_TIME => Rule::UtcTime,
+        GENERALIZED_TIME => Rule::GeneralizedTime,
+        TIME | DATE..=DURATION => Rule::Time,
+        OID_IRI | RELATIVE_OID_IRI => Rule::Iri,
         _ => Rule::Characters,
     }
 }

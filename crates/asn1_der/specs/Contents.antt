@@ -1,5 +1,6 @@
 -- Contents octets of primitive encodings of class Universal, as DER has them, by the tag number.
 use Rattle.std.specs.Prelude.{◌≡◌, ◌==◌, ◌&&◌, ◌||◌, ◌++◌, ℕ, ◌+◌, ◌*◌, ◌%◌, ◌^◌, nat_lt, Bool, true, false, not, MatchBool, if◌then◌else◌, List, [], ◌∷◌, length, codes}
+use Rattle.asn1_headers.specs.declared.tags.TheConstants.{BOOLEAN, INTEGER, BIT_STRING, NULL, OBJECT_IDENTIFIER, REAL, ENUMERATED, UTF8_STRING, RELATIVE_OID, TIME, NUMERIC_STRING, PRINTABLE_STRING, IA5_STRING, UTC_TIME, GENERALIZED_TIME, VISIBLE_STRING, UNIVERSAL_STRING, BMP_STRING, DATE, TIME_OF_DAY, DATE_TIME, DURATION, OID_IRI, RELATIVE_OID_IRI}
 use Rattle.std.specs.Char.{is_ascii, is_ascii_digit}
 use Rattle.std.specs.List.{list_all, list_any}
 use Rattle.std.specs.Str.{byte, is_utf8}
@@ -93,32 +94,32 @@ is_iri (first ∷ more) = (first == byte "/") && is_utf8 (first ∷ more)
 -- GeneralString (8.23.5, by escapes of ISO 2022) any octets are right
 abbrev pub has_der_octets : ℕ → List ℕ → Bool
 has_der_octets tag octets =
-    if tag == 1 then is_boolean octets
-    else if (tag == 2) || (tag == 10) then is_integer octets
-    else if tag == 3 then is_bit_string octets
-    else if tag == 5 then length octets == 0
-    else if (tag == 6) || (tag == 13) then are_subidentifiers octets
-    else if tag == 9 then is_real octets
-    else if tag == 12 then is_utf8 octets
-    else if (tag == 14) || (tag == 34) then are_of_time octets
-    else if tag == 18 then list_all is_numeric octets
-    else if tag == 19 then list_all is_printable octets
-    else if tag == 22 then list_all is_ascii octets
-    else if tag == 26 then list_all is_visible octets
-    else if tag == 28 then are_universal octets
-    else if tag == 30 then are_bmp octets
-    else if tag == 35 then is_iri octets
-    else if tag == 36 then nat_lt 0 (length octets) && is_utf8 octets
+    if tag == BOOLEAN then is_boolean octets
+    else if (tag == INTEGER) || (tag == ENUMERATED) then is_integer octets
+    else if tag == BIT_STRING then is_bit_string octets
+    else if tag == NULL then length octets == 0
+    else if (tag == OBJECT_IDENTIFIER) || (tag == RELATIVE_OID) then are_subidentifiers octets
+    else if tag == REAL then is_real octets
+    else if tag == UTF8_STRING then is_utf8 octets
+    else if (tag == TIME) || (tag == DURATION) then are_of_time octets
+    else if tag == NUMERIC_STRING then list_all is_numeric octets
+    else if tag == PRINTABLE_STRING then list_all is_printable octets
+    else if tag == IA5_STRING then list_all is_ascii octets
+    else if tag == VISIBLE_STRING then list_all is_visible octets
+    else if tag == UNIVERSAL_STRING then are_universal octets
+    else if tag == BMP_STRING then are_bmp octets
+    else if tag == OID_IRI then is_iri octets
+    else if tag == RELATIVE_OID_IRI then nat_lt 0 (length octets) && is_utf8 octets
     else true
 
 -- the types that are times
 abbrev pub HasDerTime : ℕ → List ℕ → Type 0
 HasDerTime tag octets =
-    MatchBool (tag == 23) (IsUtcTime octets)
-    (MatchBool (tag == 24) (IsGeneralizedTime octets)
-    (MatchBool (tag == 31) (IsWithinMoment 8 [] octets (codes "000000Z"))
-    (MatchBool (tag == 32) (IsWithinMoment 6 (codes "20000101") octets (codes "Z"))
-    (MatchBool (tag == 33) (IsWithinMoment 14 [] octets (codes "Z")) (Unit {0})))))
+    MatchBool (tag == UTC_TIME) (IsUtcTime octets)
+    (MatchBool (tag == GENERALIZED_TIME) (IsGeneralizedTime octets)
+    (MatchBool (tag == DATE) (IsWithinMoment 8 [] octets (codes "000000Z"))
+    (MatchBool (tag == TIME_OF_DAY) (IsWithinMoment 6 (codes "20000101") octets (codes "Z"))
+    (MatchBool (tag == DATE_TIME) (IsWithinMoment 14 [] octets (codes "Z")) (Unit {0})))))
 
 -- contents octets of a primitive encoding with the tag number are DER
 abbrev pub HasDerContents : ℕ → List ℕ → Type 0

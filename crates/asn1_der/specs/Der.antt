@@ -4,6 +4,7 @@
 use Rattle.std.specs.Ordering.{is_gt, nat_cmp}
 use Rattle.std.specs.Cmp.Lexicographic.{slice_cmp}
 use Rattle.std.specs.Prelude.{◌≡◌, ◌≢◌, ◌==◌, ◌&&◌, ◌||◌, ◌⊎◌, ◌++◌, ℕ, ◌<◌, nat_lt, Bool, true, false, not, List, [], ◌∷◌, length}
+use Rattle.asn1_headers.specs.declared.tags.TheConstants.{END_OF_CONTENTS, EXTERNAL, EMBEDDED_PDV, RESERVED, SEQUENCE, SET, CHARACTER_STRING, RELATIVE_OID_IRI}
 use Rattle.asn1_headers.specs.declared.header.ASN1Class.{ASN1Class}
 use Rattle.asn1_headers.specs.declared.header.ASN1Class.TheVariants.{Universal}
 use Rattle.asn1_headers.specs.Header.{Encoding, class_number, shortest_identifier, shortest_length}
@@ -17,11 +18,12 @@ pub record IsShortest (octets : List ℕ) (class : ASN1Class) (constructed : Boo
 
 -- tag numbers of class Universal that no type has (X.680 8.4, table 1): 0, 15, and those above 36
 abbrev pub is_reserved : ℕ → Bool
-is_reserved tag = (tag == 0) || (tag == 15) || nat_lt 36 tag
+is_reserved tag = (tag == END_OF_CONTENTS) || (tag == RESERVED) || nat_lt RELATIVE_OID_IRI tag
 
 -- a type that is always constructed: EXTERNAL, EMBEDDED PDV, SEQUENCE, SET, CHARACTER STRING
 abbrev pub is_constructed_type : ℕ → Bool
-is_constructed_type tag = (tag == 8) || (tag == 11) || (tag == 16) || (tag == 17) || (tag == 29)
+is_constructed_type tag = (tag == EXTERNAL) || (tag == EMBEDDED_PDV) || (tag == SEQUENCE) || (tag == SET)
+    || (tag == CHARACTER_STRING)
 
 -- an encoding with this tag
 pub record HasTag (octets : List ℕ) (class : ASN1Class) (tag : ℕ) : Type 0 where
@@ -68,10 +70,10 @@ mutual
         → is_constructed_type tag ≡ false → HasDerContents tag contents → IsDerEncoding octets
     -- SEQUENCE (8.9, 8.10), EXTERNAL (8.18), EMBEDDED PDV (8.17), CHARACTER STRING (8.24)
     of_sequence : {octets contents : List ℕ} {tag : ℕ}
-        → IsShortest octets Universal true tag contents → is_constructed_type tag ≡ true → tag ≢ 17
+        → IsShortest octets Universal true tag contents → is_constructed_type tag ≡ true → tag ≢ SET
         → (items : List (List ℕ)) → AreDerEncodings contents items → IsDerEncoding octets
     -- SET (8.11, 8.12)
-    of_set : {octets contents : List ℕ} → IsShortest octets Universal true 17 contents
+    of_set : {octets contents : List ℕ} → IsShortest octets Universal true SET contents
         → (items : List (List ℕ)) → AreDerEncodings contents items → IsInOrder items → IsDerEncoding octets
     -- another class: constructed around encodings (8.14), as explicit tags are and SEQUENCE and SET behind implicit
     -- ones
@@ -99,7 +101,7 @@ pub record IsDer (octets : List ℕ) : Type 0 where
 abbrev pub IsRightAlone : ASN1Class → Bool → ℕ → List ℕ → Type 0
 IsRightAlone Universal true tag contents =
     (is_constructed_type tag ≡ true)
-    × (tag ≡ 17 → (items : List (List ℕ)) → AreDerEncodings contents items → IsInOrder items)
+    × (tag ≡ SET → (items : List (List ℕ)) → AreDerEncodings contents items → IsInOrder items)
 IsRightAlone Universal false tag contents =
     (is_reserved tag ≡ false) × (is_constructed_type tag ≡ false) × HasDerContents tag contents
 IsRightAlone class constructed tag contents = Unit {0}

@@ -7,6 +7,12 @@ ghost use Rattle.asn1_der.specs.Contents.{HasDerContents, HasDerTime, IsGenerali
 
 use crate::padding::{has_padded_component, has_padded_fraction, is_padded_number, last_octet};
 use crate::real::is_real;
+use asn1_headers::tags::{
+    BIT_STRING, BMP_STRING, BOOLEAN, DATE, DATE_TIME, DURATION, ENUMERATED, GENERALIZED_TIME,
+    IA5_STRING, INTEGER, NULL, NUMERIC_STRING, OBJECT_IDENTIFIER, OID_IRI, PRINTABLE_STRING, REAL,
+    RELATIVE_OID, RELATIVE_OID_IRI, TIME, TIME_OF_DAY, UNIVERSAL_STRING, UTC_TIME, UTF8_STRING,
+    VISIBLE_STRING,
+};
 use asn1_leaves::contents::text::are_printable;
 use asn1_leaves::contents::{generalized_time, utc_time};
 
@@ -21,22 +27,22 @@ fn has_der_octets(tag: u64, contents: &[u8]) -> bool
     ensures { result ≡ has_der_octets_is tag contents.now }
 {
     match tag {
-        1 => is_boolean(contents),
-        2 | 10 => !is_padded_number(contents),
-        3 => is_bit_string(contents),
-        5 => contents.is_empty(),
-        6 | 13 => are_subidentifiers(contents),
-        9 => is_real(contents),
-        12 => is_utf8(contents),
-        14 | 34 => are_of_time(contents),
-        18 => are_numeric(contents),
-        19 => are_printable(contents),
-        22 => are_ascii(contents),
-        26 => are_visible(contents),
-        28 => are_universal(contents),
-        30 => are_bmp(contents),
-        35 => is_iri(contents),
-        36 => !contents.is_empty() && is_utf8(contents),
+        BOOLEAN => is_boolean(contents),
+        INTEGER | ENUMERATED => !is_padded_number(contents),
+        BIT_STRING => is_bit_string(contents),
+        NULL => contents.is_empty(),
+        OBJECT_IDENTIFIER | RELATIVE_OID => are_subidentifiers(contents),
+        REAL => is_real(contents),
+        UTF8_STRING => is_utf8(contents),
+        TIME | DURATION => are_of_time(contents),
+        NUMERIC_STRING => are_numeric(contents),
+        PRINTABLE_STRING => are_printable(contents),
+        IA5_STRING => are_ascii(contents),
+        VISIBLE_STRING => are_visible(contents),
+        UNIVERSAL_STRING => are_universal(contents),
+        BMP_STRING => are_bmp(contents),
+        OID_IRI => is_iri(contents),
+        RELATIVE_OID_IRI => !contents.is_empty() && is_utf8(contents),
         _ => true,
     }
 }
@@ -179,11 +185,11 @@ fn has_der_time(tag: u64, contents: &[u8]) -> bool
     ensures { IsTrue result ↔ HasDerTime tag contents.now }
 {
     match tag {
-        23 => is_utc_time(contents),
-        24 => is_generalized_time(contents),
-        31 => is_date(contents),
-        32 => is_time_of_day(contents),
-        33 => is_date_time(contents),
+        UTC_TIME => is_utc_time(contents),
+        GENERALIZED_TIME => is_generalized_time(contents),
+        DATE => is_date(contents),
+        TIME_OF_DAY => is_time_of_day(contents),
+        DATE_TIME => is_date_time(contents),
         _ => true,
     }
 }

@@ -4,9 +4,9 @@ ghost use Rattle.asn1_blocks.specs.Places.{HeaderFound};
 ghost use Rattle.asn1_der.specs.Der.{IsDer};
 ghost use Rattle.asn1_der.specs.Turns.{HasTurned, IsPlaced};
 
-use crate::header::is_der_alone;
+use crate::header_rules::is_der_alone;
 use asn1_blocks::parsed::{PlacedHeader, header_within};
-use asn1_blocks::reading::is_out_of_memory;
+use asn1_blocks::read_loop::is_out_of_memory;
 use asn1_headers::header::HeaderCount;
 use std::alloc::{AllocError, Global};
 

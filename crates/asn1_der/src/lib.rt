@@ -6,7 +6,7 @@
 
 pub mod contents;
 mod der;
-pub mod header;
+pub mod header_rules;
 pub mod order;
 pub mod padding;
 mod real;

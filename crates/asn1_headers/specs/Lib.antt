@@ -3,3 +3,4 @@ pub mod Front
 pub mod Header
 pub mod HeaderFault
 pub mod Names
+pub mod Reading

@@ -3,6 +3,7 @@
 //!
 //! - [`header`]: identifier octets and length octets, read, sized and pushed; the classes; the count of headers;
 //! - [`front`]: the header at the front of octets;
+//! - [`tags`]: the numbers of the tags of class Universal;
 //! - [`types`]: the names of types;
 //! - [`error`]: why octets were not read, why a block was not written.
 //!
@@ -15,4 +16,5 @@
 pub mod error;
 pub mod front;
 pub mod header;
+pub mod tags;
 pub mod types;

@@ -1,5 +1,6 @@
 -- Contents octets that are DER, and that this library writes otherwise. Three kinds of leaves have such.
 use Rattle.std.specs.Prelude.{◌≡◌, ◌==◌, ◌&&◌, ℕ, nat_lt, Bool, false, if◌then◌else◌, List, ◌∷◌, length}
+use Rattle.asn1_headers.specs.declared.tags.TheConstants.{BIT_STRING, OBJECT_IDENTIFIER, GENERALIZED_TIME}
 use Rattle.asn1_headers.specs.Header.{Encoding}
 use Rattle.asn1_headers.specs.declared.header.ASN1Class.TheVariants.{Universal}
 use Rattle.asn1_blocks.specs.Contents.{leaf_tag}
@@ -23,14 +24,13 @@ has_many_digits contents = nat_lt 25 (length contents)
 
 abbrev pub is_written_otherwise : ℕ → List ℕ → Bool
 is_written_otherwise tag contents =
-    if tag == 3 then has_no_bits contents
-    else if tag == 6 then goes_on_with_80 contents
-    else if tag == 24 then has_many_digits contents
+    if tag == BIT_STRING then has_no_bits contents
+    else if tag == OBJECT_IDENTIFIER then goes_on_with_80 contents
+    else if tag == GENERALIZED_TIME then has_many_digits contents
     else false
 
 -- no leaf of the document, at any depth, has such contents octets
 abbrev pub HasNoOtherSpelling : List ℕ → Trees ℕ → Type 0
 HasNoOtherSpelling document bs =
     (o : ℕ) (l : Leaf) (octets contents : List ℕ) (header : ℕ) → HasOctets document bs (leaf o l) octets
-    → Encoding octets Universal false (leaf_tag l) contents header
-    → is_written_otherwise (leaf_tag l) contents ≡ false
+    → Encoding octets Universal false (leaf_tag l) contents header → is_written_otherwise (leaf_tag l) contents ≡ false

@@ -7,11 +7,11 @@ use Rattle.asn1_headers.specs.Header.{Encoding}
 use Rattle.asn1_headers.proofs.Prefixes.{encoding_alone}
 use Rattle.asn1_leaves.proofs.SliceSplit.{drop-slice_range}
 use Rattle.asn1_blocks.specs.declared.parsed.PlacedHeader.{PlacedHeader}
-use Rattle.asn1_blocks.specs.declared.reading.Attempt as other
-use Rattle.asn1_blocks.specs.declared.reading.Extent.{Extent}
-use Rattle.asn1_blocks.specs.declared.reading.FrameKind.{FrameKind}
-use Rattle.asn1_blocks.specs.declared.reading.FrameKind.TheVariants.{Attempt, Group, Whole}
-use Rattle.asn1_blocks.specs.declared.reading.OpenFrame.{OpenFrame}
+use Rattle.asn1_blocks.specs.declared.read_loop.Attempt as other
+use Rattle.asn1_blocks.specs.declared.read_loop.Extent.{Extent}
+use Rattle.asn1_blocks.specs.declared.read_loop.FrameKind.{FrameKind}
+use Rattle.asn1_blocks.specs.declared.read_loop.FrameKind.TheVariants.{Attempt, Group, Whole}
+use Rattle.asn1_blocks.specs.declared.read_loop.OpenFrame.{OpenFrame}
 use Rattle.asn1_blocks.specs.BlockParts.{tree_items}
 use Rattle.asn1_blocks.specs.Grammar.{Encodes, EncodesAll, IsDocument}
 use Rattle.asn1_blocks.specs.HeadersBegun.{IsReadInside}
@@ -23,7 +23,7 @@ use Rattle.asn1_blocks.specs.Tree.{Tree, Trees, explicit, group, leaf, no_trees,
 use Rattle.asn1_blocks.specs.View.{tree_offset}
 use Rattle.asn1_blocks.proofs.Slices.{tree_offset-encodes}
 use Rattle.asn1_outline.specs.Entries.{AreEntries, AreEntriesOf, no_entry}
-use Rattle.asn1_outline.specs.Listing.{AllHold, AreOfTrees, IsBegun, all_hold, builder_holds, sealed, with_items}
+use Rattle.asn1_outline.specs.Listing.{AllHold, AreOfTrees, IsBegun, all_hold, builder_holds, with_items_at, with_items}
 use Rattle.asn1_outline.specs.Structure.{Holds, IsNode, IsTaggedAt, Node, no_nodes, node, node_depths, node_in_order, node_tree, nodes_depths, nodes_in_order, nodes_of, nodes_trees}
 use Rattle.asn1_outline.specs.declared.entry.Entry.{Entry}
 use Rattle.asn1_outline.specs.declared.listing.EntryBuilder.{EntryBuilder}
@@ -151,9 +151,10 @@ take-behind_front [] r own = refl
 take-behind_front (y ∷ front) r own = ap (λ z. y ∷ z) (take-behind_front front r own)
 
 -- to set the items of an entry behind others changes it alone
-pub sealed-behind_front : (front : List Entry) (r : Entry) (own : List Entry) (items : ℕ)
-    → sealed (front ++ r ∷ own) (length front) items ≡ front ++ with_items items (length (front ++ r ∷ own)) r ∷ own
-sealed-behind_front front r own items =
+pub with_items_at-behind_front : (front : List Entry) (r : Entry) (own : List Entry) (items : ℕ)
+    → with_items_at (front ++ r ∷ own) (length front) items
+    ≡ front ++ with_items items (length (front ++ r ∷ own)) r ∷ own
+with_items_at-behind_front front r own items =
     ap (λ z. set (front ++ r ∷ own) (length front) (with_items items (length (front ++ r ∷ own)) z))
     (get_or-append_seam front r own no_entry)
     ∙ set-append_seam front r own (with_items items (length (front ++ r ∷ own)) r)
@@ -219,7 +220,7 @@ entry-lt_length x rs f h gs (ts ∷ us ∷ rest) a =
 
 -- an entry whose items are set is that of the tree that ended
 pub HasEndedIn-entry_builder : (x : List ℕ) (a b : EntryBuilder) (f : OpenFrame EntryItems) (i : EntryItems) (depth : ℕ)
-    → b.entries.items ≡ sealed a.entries.items f.items.entry f.items.count →
+    → b.entries.items ≡ with_items_at a.entries.items f.items.entry f.items.count →
     HasEndedIn builder_holds x f depth a i b (with_one_more i)
 HasEndedIn-entry_builder x a b f i depth is = record {
   holds = λ e fs ts us rest t d ends w.
@@ -242,10 +243,10 @@ HasEndedIn-entry_builder x a b f i depth is = record {
       w.head w.own place count size
       begun own in
       let new = with_items f.items.count (length rs) w.head ∷ w.own in
-      let made : sealed rs f.items.entry f.items.count ≡ w.front ++ new =
-      ap (λ z. sealed z f.items.entry f.items.count) w.whole
-      ∙ ap (λ z. sealed (w.front ++ w.head ∷ w.own) z f.items.count) w.entry
-      ∙ sealed-behind_front w.front w.head w.own f.items.count
+      let made : with_items_at rs f.items.entry f.items.count ≡ w.front ++ new =
+      ap (λ z. with_items_at z f.items.entry f.items.count) w.whole
+      ∙ ap (λ z. with_items_at (w.front ++ w.head ∷ w.own) z f.items.count) w.entry
+      ∙ with_items_at-behind_front w.front w.head w.own f.items.count
       ∙ ap (λ z. w.front ++ with_items f.items.count (length z) w.head ∷ w.own) (sym w.whole) in
       subst (λ z. AllHold x z (in_frame e (with_one_more i)) fs (us ++ t ∷ []) rest) (sym (is ∙ made))
       (AllHold-add x w.front new e i fs us rest n (holds, blocks.structure) entries w.around);

@@ -10,19 +10,19 @@ use Rattle.asn1_blocks.specs.Inner.OpenFrames.{IsKindOf, is_attempt}
 use Rattle.asn1_blocks.specs.Inner.ReaderSteps.{IsEntered, in_frame, work_left, opened_at}
 use Rattle.asn1_blocks.specs.Places.{HeaderFound}
 use Rattle.asn1_blocks.specs.declared.parsed.PlacedHeader.{PlacedHeader}
-use Rattle.asn1_blocks.specs.declared.reading.FrameKind.{FrameKind}
-use Rattle.asn1_blocks.specs.declared.reading.FrameKind.TheVariants.{Whole, Group, Attempt}
-use Rattle.asn1_blocks.specs.declared.reading.OpenFrame.{OpenFrame}
-use Rattle.asn1_blocks.specs.declared.reading.Reader.{Reader}
-use Rattle.asn1_blocks.specs.declared.reading.Turn.{Turn}
+use Rattle.asn1_blocks.specs.declared.read_loop.FrameKind.{FrameKind}
+use Rattle.asn1_blocks.specs.declared.read_loop.FrameKind.TheVariants.{Whole, Group, Attempt}
+use Rattle.asn1_blocks.specs.declared.read_loop.OpenFrame.{OpenFrame}
+use Rattle.asn1_blocks.specs.declared.read_loop.Reader.{Reader}
+use Rattle.asn1_blocks.specs.declared.read_loop.Turn.{Turn}
 use Rattle.asn1_blocks.proofs.Reader.Popping.{reverse-append_last}
-use Rattle.asn1_outline.specs.Listing.{sealed, with_items}
+use Rattle.asn1_outline.specs.Listing.{with_items_at, with_items}
 use Rattle.asn1_outline.specs.Shapes.{AreShapes, HasItems, HeadersFaultAt, Shapes, as_it_came, entries_of, in_item, in_later, more_shapes, no_more, no_shapes, one_more, read_inside, shape_count, shape_entry}
 use Rattle.asn1_outline.specs.Walking.{AreOpen, GoesOn, HasTurned, IsFaulty, IsReadTo, IsReading, Leads}
 use Rattle.asn1_outline.specs.declared.entry.Entry.{Entry}
 use Rattle.asn1_outline.specs.declared.listing.EntryBuilder.{EntryBuilder}
 use Rattle.asn1_outline.specs.declared.listing.EntryItems.{EntryItems}
-use Rattle.asn1_outline.proofs.Listed.{sealed-behind_front, take-behind_front, with_one_more}
+use Rattle.asn1_outline.proofs.Listed.{with_items_at-behind_front, take-behind_front, with_one_more}
 
 abbrev pub EntryFrame : Type 0
 EntryFrame = OpenFrame EntryItems
@@ -178,7 +178,7 @@ AreOpen-enter x f g gs p rs h w found inside start end entry none kind =
 pub AreOpen-close : (x : List ℕ) (f g : EntryFrame) (gs : List EntryFrame) (p : ℕ) (rs : List Entry) →
     p ≡ f.extent.end →
     AreOpen x f (g ∷ gs) p rs
-    → AreOpen x (with_one_counted g) gs p (sealed rs f.items.entry f.items.count)
+    → AreOpen x (with_one_counted g) gs p (with_items_at rs f.items.entry f.items.count)
 AreOpen-close x f g gs p rs ended w =
     let h = w.header in
     let n = f.items.count in
@@ -206,12 +206,12 @@ AreOpen-close x f g gs p rs ended w =
     ∙ ap (λ z. w.front ++ shape_entry w.offset h n z d ∷ entries_of (suc (length w.front)) (suc d) all) next
     ∙ ap (λ z. w.front ++ shape_entry w.offset h n (length rs) d ∷ z) own in
     let head = shape_entry w.offset h 0 (suc f.items.entry) d in
-    let seal : sealed rs f.items.entry n ≡ w.front ++ shape_entry w.offset h n (length rs) d ∷ w.own =
-    ap (λ z. sealed z f.items.entry n) w.whole
-    ∙ ap (λ z. sealed (w.front ++ head ∷ w.own) z n) w.entry
-    ∙ sealed-behind_front w.front head w.own n
+    let set : with_items_at rs f.items.entry n ≡ w.front ++ shape_entry w.offset h n (length rs) d ∷ w.own =
+    ap (λ z. with_items_at z f.items.entry n) w.whole
+    ∙ ap (λ z. with_items_at (w.front ++ head ∷ w.own) z n) w.entry
+    ∙ with_items_at-behind_front w.front head w.own n
     ∙ ap (λ z. w.front ++ with_items n (length z) head ∷ w.own) (sym w.whole) in
-    subst (AreOpen x (with_one_counted g) gs p) (same ∙ sym seal) at
+    subst (AreOpen x (with_one_counted g) gs p) (same ∙ sym set) at
 
 -- there is an entry of the innermost frame
 pub entry-lt_length : (x : List ℕ) (f g : EntryFrame) (gs : List EntryFrame) (p : ℕ) (rs : List Entry) →

@@ -1,6 +1,6 @@
 -- What the builder of entries holds. Private contracts alone name this.
 use Rattle.std.specs.Prelude.{◌≡◌, ℕ, suc, ◌++◌, List, [], ◌∷◌, get_or, length, map, set}
-use Rattle.asn1_blocks.specs.declared.reading.OpenFrame.{OpenFrame}
+use Rattle.asn1_blocks.specs.declared.read_loop.OpenFrame.{OpenFrame}
 use Rattle.asn1_blocks.specs.Tree.{Tree}
 use Rattle.asn1_outline.specs.Entries.{AreEntries, HasHeaderAt, no_entry}
 use Rattle.asn1_outline.specs.Structure.{AreNodes, Node, node_tree, nodes_depths, nodes_in_order, nodes_of}
@@ -69,5 +69,5 @@ with_items items next r = record {
 }
 
 -- the entries, where the one at the index holds so many, and all entries after it
-abbrev pub sealed : List Entry → ℕ → ℕ → List Entry
-sealed rs entry items = set rs entry (with_items items (length rs) (get_or rs entry no_entry))
+abbrev pub with_items_at : List Entry → ℕ → ℕ → List Entry
+with_items_at rs entry items = set rs entry (with_items items (length rs) (get_or rs entry no_entry))

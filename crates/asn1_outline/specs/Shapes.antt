@@ -1,5 +1,5 @@
--- Encodings by their headers alone (X.690 8.1.1). Contents octets of a SEQUENCE or SET are encodings (8.9 to 8.12).
--- Those of a constructed encoding of another class are (8.14), or stay as they came. Of any others nothing is read.
+-- Encodings by their headers alone (X.690 8.1.1). Contents octets of a SEQUENCE or SET are encodings (8.9 to 8.12);
+-- contents octets of a constructed encoding of another class are (8.14), or stay as they came. No others are read.
 use Rattle.std.specs.Prelude.{◌≡◌, ◌≢◌, ℕ, suc, ◌+◌, ◌-◌, ◌<◌, ◌^◌, ◌⊎◌, ◌++◌, true, List, [], ◌∷◌, length, min, slice_range}
 use Rattle.asn1_headers.specs.Fault.{DecodeFault, empty_buffer}
 use Rattle.asn1_headers.specs.HeaderFault.{HeaderFault}

@@ -1,5 +1,6 @@
 -- A signed triple, as a certificate (X.509) is one, by the entries of its encodings.
 use Rattle.std.specs.Prelude.{◌≡◌, ℕ, ◌+◌, ◌<◌, List, get_or}
+use Rattle.asn1_headers.specs.declared.tags.TheConstants.{BIT_STRING, OBJECT_IDENTIFIER, SEQUENCE}
 use Rattle.asn1_headers.specs.declared.header.ASN1Class.TheVariants.{Universal}
 use Rattle.asn1_outline.specs.Entries.{no_entry}
 use Rattle.asn1_outline.specs.declared.entry.Entry.{Entry}
@@ -15,12 +16,12 @@ IsUniversal tag entry = (entry.class ≡ Universal) × (entry.tag ≡ tag)
 -- the entries begin with a SEQUENCE of three: what was signed; a SEQUENCE that begins with an OBJECT IDENTIFIER, the
 -- algorithm; and a BIT STRING, the signature
 pub record BeginWithTriple (entries : List Entry) : Type 0 where
-  pub whole : IsUniversal 16 (entry_at entries 0)
+  pub whole : IsUniversal SEQUENCE (entry_at entries 0)
   pub three : (entry_at entries 0).items ≡ 3
-  pub algorithm : IsUniversal 16 (entry_at entries (entry_at entries 1).next)
+  pub algorithm : IsUniversal SEQUENCE (entry_at entries (entry_at entries 1).next)
   pub some : 0 < (entry_at entries (entry_at entries 1).next).items
-  pub identifier : IsUniversal 6 (entry_at entries ((entry_at entries 1).next + 1))
-  pub signature : IsUniversal 3 (entry_at entries (entry_at entries (entry_at entries 1).next).next)
+  pub identifier : IsUniversal OBJECT_IDENTIFIER (entry_at entries ((entry_at entries 1).next + 1))
+  pub signature : IsUniversal BIT_STRING (entry_at entries (entry_at entries (entry_at entries 1).next).next)
 
 -- the parts of a triple are these entries
 pub record AreParts (entries : List Entry) (parts : TripleEntries) : Type 0 where

@@ -1,5 +1,6 @@
 -- A signed triple by the headers of its encodings. Private contracts alone name this.
 use Rattle.std.specs.Prelude.{◌≡◌, ℕ, List, length, slice_range}
+use Rattle.asn1_headers.specs.declared.tags.TheConstants.{BIT_STRING, OBJECT_IDENTIFIER, SEQUENCE}
 use Rattle.asn1_headers.specs.declared.header.ASN1Class.TheVariants.{Universal}
 use Rattle.asn1_blocks.specs.Places.{HeaderFound}
 use Rattle.asn1_blocks.specs.declared.parsed.PlacedHeader.{PlacedHeader}
@@ -16,11 +17,11 @@ IsUniversalAt document offset limit tag h = HeaderFound document offset limit h 
 -- a BIT STRING
 pub record HasTripleHeaders (document : List ℕ) (whole content algorithm identifier signature : PlacedHeader)
     : Type 0 where
-  pub is_whole : IsUniversalAt document 0 (length document) 16 whole
+  pub is_whole : IsUniversalAt document 0 (length document) SEQUENCE whole
   pub is_content : HeaderFound document whole.start whole.end content
-  pub is_algorithm : IsUniversalAt document content.end whole.end 16 algorithm
-  pub is_identifier : IsUniversalAt document algorithm.start algorithm.end 6 identifier
-  pub is_signature : IsUniversalAt document algorithm.end whole.end 3 signature
+  pub is_algorithm : IsUniversalAt document content.end whole.end SEQUENCE algorithm
+  pub is_identifier : IsUniversalAt document algorithm.start algorithm.end OBJECT_IDENTIFIER identifier
+  pub is_signature : IsUniversalAt document algorithm.end whole.end BIT_STRING signature
   pub to_the_end : signature.end ≡ whole.end
 
 -- it begins with none

@@ -15,9 +15,10 @@ use asn1_blocks::contents::leaf_block;
 use asn1_blocks::held::HeldBlocks;
 use asn1_blocks::parsed::{PlacedHeader, header_within};
 use asn1_blocks::postponed::{explicit_block, group_block, unknown_block};
-use asn1_blocks::reading::Attempt;
+use asn1_blocks::read_loop::Attempt;
 use asn1_headers::error::ASN1DecodeErr;
 use asn1_headers::header::{ASN1Class, HeaderCount};
+use asn1_headers::tags::{SEQUENCE, SET};
 use std::alloc::{AllocError, Global};
 
 impl<'a> Outline<'a> {
@@ -107,8 +108,8 @@ fn block_around(
     let contents = &octets[header.start..header.end];
     match header.class {
         ASN1Class::Universal => match header.tag.to_u64() {
-            Some(16) => Ok(group_block(GroupKind::Sequence, offset, inside)),
-            Some(17) => Ok(group_block(GroupKind::Set, offset, inside)),
+            Some(SEQUENCE) => Ok(group_block(GroupKind::Sequence, offset, inside)),
+            Some(SET) => Ok(group_block(GroupKind::Set, offset, inside)),
             _ => leaf_block(alloc, header, contents, offset),
         },
         _ => {

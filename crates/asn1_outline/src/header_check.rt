@@ -1,11 +1,12 @@
 // Whether octets are encodings by their headers. A loop over open contents octets, which keeps no entries.
 ghost use Rattle.std.specs.Prelude.{◌≢◌, IfErr, OnOk, length};
 ghost use Rattle.asn1_headers.specs.Fault.{OutOfMemoryOr};
+ghost use Rattle.asn1_headers.specs.Reading.{OutOfMemoryOrAt};
 ghost use Rattle.asn1_outline.specs.Checking.{HasRead, HasRecovered, HasTurned, IsAttemptAt, IsFaulty, IsWalked, to_do};
 ghost use Rattle.asn1_outline.specs.Shapes.{FirstHeaderFaultAt, HasShapes, Shapes};
 
 use asn1_blocks::parsed::{PlacedHeader, header_within};
-use asn1_blocks::reading::{is_out_of_memory, is_read_inside};
+use asn1_blocks::read_loop::{is_out_of_memory, is_read_inside};
 use asn1_headers::error::{ASN1DecodeErr, LocatedErr};
 use asn1_headers::header::{ASN1Class, HeaderCount};
 use std::alloc::Global;
@@ -20,8 +21,7 @@ use std::alloc::Global;
 /// [`Headers::read`]: crate::headers::Headers::read
 pub fn check_headers(alloc: Global, octets: &[u8]) -> Result<(), LocatedErr>
     ensures document { OnOk result ((all : Shapes) × HasShapes octets.now all) }
-    ensures fault { IfErr result
-        (λ e. OutOfMemoryOr (λ fault. FirstHeaderFaultAt octets.now fault e.offset) e.error) }
+    ensures fault { IfErr result (OutOfMemoryOrAt (FirstHeaderFaultAt octets.now)) }
 {
     if octets.is_empty() {
         return Err(LocatedErr {

@@ -1,14 +1,13 @@
 // How headers are read, and what they lend.
-ghost use Rattle.std.specs.Prelude.{◌≡◌, ◌<◌, ◌≤◌, ℕ, IfErr, IfOk, IsErrAnd, IsNone, IsSomeAnd, MatchResult, get_or, length};
-ghost use Rattle.asn1_headers.specs.Fault.{DecodeFault, OutOfMemoryOr};
-ghost use Rattle.asn1_headers.specs.declared.error.ASN1DecodeErr.TheVariants.{OutOfMemory};
+ghost use Rattle.std.specs.Prelude.{◌≡◌, ◌<◌, ◌≤◌, IfErr, IfOk, IsNone, IsSomeAnd, get_or, length};
+ghost use Rattle.asn1_headers.specs.Reading.{OutOfMemoryOrAt, ReadsEachLocated, RejectsAt};
 ghost use Rattle.asn1_outline.specs.Entries.{no_entry};
 ghost use Rattle.asn1_outline.specs.Walked.{walked_entries, walked_octets};
 ghost use Rattle.asn1_outline.specs.Shapes.{FirstHeaderFaultAt, HasShapes, Shapes, contents_octets, encoding_octets, entries_of};
 
 use crate::entry::Entry;
+use crate::header_walk::list_headers;
 use crate::headers::Headers;
-use crate::walk::list_headers;
 use asn1_headers::error::LocatedErr;
 use std::alloc::Global;
 
@@ -23,15 +22,10 @@ impl<'a> Headers<'a> {
         ensures document { IfOk result (λ headers. (all : Shapes) × HasShapes octets.now all
             × (walked_entries headers ≡ entries_of 0 0 all)) }
         ensures lent { IfOk result (λ headers. walked_octets headers ≡ octets.now) }
-        ensures fault { IfErr result
-            (λ e. OutOfMemoryOr (λ fault. FirstHeaderFaultAt octets.now fault e.offset) e.error) }
-        ensures accepts { (all : Shapes) → HasShapes octets.now all
-            → MatchResult result
-            (λ headers. walked_entries headers ≡ entries_of 0 0 all)
-            (λ e. e.error ≡ OutOfMemory) }
-        ensures refuses { (fault : DecodeFault) (offset : ℕ) → FirstHeaderFaultAt octets.now fault offset
-            → IsErrAnd result
-            (λ e. OutOfMemoryOr (λ found. (found ≡ fault) × (e.offset ≡ offset)) e.error) }
+        ensures fault { IfErr result (OutOfMemoryOrAt (FirstHeaderFaultAt octets.now)) }
+        ensures accepts { ReadsEachLocated result (HasShapes octets.now)
+            (λ all headers. walked_entries headers ≡ entries_of 0 0 all) }
+        ensures refuses { RejectsAt result (FirstHeaderFaultAt octets.now) }
     {
         match list_headers(alloc, octets) {
             Ok(entries) => Ok(Headers { octets, entries }),

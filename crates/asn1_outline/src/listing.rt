@@ -1,19 +1,19 @@
 // Documents into entries, straight from their octets: no block is made.
 ghost use Rattle.std.specs.Prelude.{◌≡◌, ◌+◌, ◌⊎◌, ◌++◌, ◌^◌, ◌<◌, ◌≤◌, ◌∷◌, [], ℕ, IfErr, IfOk, MatchResult, OnOk, length, suc, take, vec_capacity, vec_len};
-ghost use Rattle.asn1_headers.specs.Fault.{OutOfMemoryOr};
+ghost use Rattle.asn1_headers.specs.Reading.{OutOfMemoryOrAt};
 ghost use Rattle.asn1_headers.specs.declared.error.ASN1DecodeErr.TheVariants.{OutOfMemory};
 ghost use Rattle.asn1_blocks.specs.Grammar.{FirstFaultAt, IsDocument};
 ghost use Rattle.asn1_blocks.specs.HeadersBegun.{HeadersBegun};
 ghost use Rattle.asn1_blocks.specs.Places.{HeaderFound};
 ghost use Rattle.asn1_blocks.specs.Tree.{Trees};
 ghost use Rattle.asn1_outline.specs.Entries.{AreEntriesOf, HasTag};
-ghost use Rattle.asn1_outline.specs.Listing.{IsBegun, builder_holds, sealed};
+ghost use Rattle.asn1_outline.specs.Listing.{IsBegun, builder_holds, with_items_at};
 ghost use Rattle.asn1_outline.specs.Shapes.{shape_entry};
 
 use crate::entry::Entry;
 use asn1_blocks::contents::check_contents;
 use asn1_blocks::parsed::PlacedHeader;
-use asn1_blocks::reading::{Builder, Extent, out_of_memory, read_into};
+use asn1_blocks::read_loop::{Builder, Extent, out_of_memory, read_into};
 use asn1_headers::error::{ASN1DecodeErr, LocatedErr};
 use asn1_headers::header::HeaderCount;
 use asn1_numbers::number::big_uint::BigUint;
@@ -27,8 +27,7 @@ pub fn list(alloc: Global, octets: &[u8], count: &mut HeaderCount) -> Result<Vec
     requires room { count.old + length octets.now < 2 ^ 64 }
     ensures document { IfOk result (λ entries. (bs : Trees ℕ) × IsDocument octets.now bs
         × AreEntriesOf octets.now bs entries.items) }
-    ensures refused { IfErr result
-        (λ e. OutOfMemoryOr (λ fault. FirstFaultAt octets.now fault e.offset) e.error) }
+    ensures refused { IfErr result (OutOfMemoryOrAt (FirstFaultAt octets.now)) }
     ensures counted { MatchResult result
         (λ _. (n : ℕ) × HeadersBegun octets.now n × (count.new ≡ count.old + n))
         (λ e. (e.error ≡ OutOfMemory)
@@ -88,7 +87,7 @@ impl Builder for EntryBuilder {
         depth: usize,
     ) -> Result<EntryItems, AllocError> {
         let entry = self.entries.len();
-        let block = started(octets, header, offset, entry, depth);
+        let block = encoding_entry(octets, header, offset, entry, depth);
         self.push(block, octets.len())?;
         Ok(EntryItems { entry, count: 0 })
     }
@@ -103,7 +102,7 @@ impl Builder for EntryBuilder {
         offset: usize,
         depth: usize,
     ) -> Result<(), ASN1DecodeErr> {
-        let block = started(octets, &header, offset, self.entries.len(), depth);
+        let block = encoding_entry(octets, &header, offset, self.entries.len(), depth);
         check_contents(alloc, &header, &octets[header.start..header.end])?;
         self.push(block, octets.len())?;
         Ok(items.add()?)
@@ -119,7 +118,7 @@ impl Builder for EntryBuilder {
         parent: &mut EntryItems,
         _depth: usize,
     ) -> Result<(), AllocError> {
-        self.seal(items);
+        self.set_items(items);
         parent.add()
     }
 
@@ -188,9 +187,9 @@ impl EntryBuilder {
 
     // The entry of a frame holds its blocks, whose entries are all those after it.
     #[inline(always)]
-    pub fn seal(&mut self, items: EntryItems)
+    pub fn set_items(&mut self, items: EntryItems)
         requires { items.entry < length self.old.entries.items }
-        ensures { self.new.entries.items ≡ sealed self.old.entries.items items.entry items.count }
+        ensures { self.new.entries.items ≡ with_items_at self.old.entries.items items.entry items.count }
     {
         let next = self.entries.len();
         let entry = &mut self.entries[items.entry];
@@ -208,7 +207,7 @@ impl EntryBuilder {
 
 // The entry of an encoding, which holds no blocks so far.
 #[inline(always)]
-fn started(
+fn encoding_entry(
     _octets: &[u8],
     header: &PlacedHeader,
     offset: usize,
@@ -220,12 +219,12 @@ fn started(
     requires next { suc entry < 2 ^ 64 }
     ensures { IsBegun _octets.now offset entry depth result }
 {
-    begun(header, offset, entry, depth)
+    header_entry(header, offset, entry, depth)
 }
 
 // The entry of a header that stands at the offset, whatever octets it was found in.
 #[inline(always)]
-pub fn begun(header: &PlacedHeader, offset: usize, entry: usize, depth: usize) -> Entry
+pub fn header_entry(header: &PlacedHeader, offset: usize, entry: usize, depth: usize) -> Entry
     requires after { offset ≤ header.now.start }
     requires order { header.now.start ≤ header.now.end }
     requires next { suc entry < 2 ^ 64 }

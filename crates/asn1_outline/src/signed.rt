@@ -1,6 +1,6 @@
 // What was signed of a signed triple, found by headers. No entries are kept.
 ghost use Rattle.std.specs.Prelude.{◌≡◌, ◌↔◌, ◌≤◌, IfErr, IfOk, IsTrue, List, MatchOption, length};
-ghost use Rattle.asn1_headers.specs.Fault.{OutOfMemoryOr};
+ghost use Rattle.asn1_headers.specs.Reading.{OutOfMemoryOrAt};
 ghost use Rattle.asn1_blocks.specs.Places.{HeaderFound};
 ghost use Rattle.asn1_blocks.specs.declared.parsed.PlacedHeader.{PlacedHeader};
 ghost use Rattle.asn1_outline.specs.Shapes.{AreEntriesOfShapes, FirstHeaderFaultAt, encoding_octets};
@@ -10,9 +10,10 @@ ghost use Rattle.asn1_outline.specs.declared.entry.Entry.{Entry};
 
 use crate::header_check::check_headers;
 use asn1_blocks::parsed::{PlacedHeader, header_within};
-use asn1_blocks::reading::{is_out_of_memory, out_of_memory};
+use asn1_blocks::read_loop::{is_out_of_memory, out_of_memory};
 use asn1_headers::error::LocatedErr;
 use asn1_headers::header::{ASN1Class, HeaderCount};
+use asn1_headers::tags::{BIT_STRING, OBJECT_IDENTIFIER, SEQUENCE};
 use std::alloc::{AllocError, Global};
 
 /// The octets of what was signed in a document that is encodings by their headers, of which the first is a signed
@@ -20,13 +21,12 @@ use std::alloc::{AllocError, Global};
 /// `None` if the first is another encoding. Memory is taken for the encodings that are open at a time alone.
 ///
 /// # Errors
-/// Those of [`check_headers`].
+/// The errors of [`check_headers`].
 pub fn signed_content<'a>(alloc: Global, octets: &'a [u8]) -> Result<Option<&'a [u8]>, LocatedErr>
     ensures content { IfOk result (λ found. (entries : List Entry) × AreEntriesOfShapes octets.now entries
         × MatchOption found (BeginWithTriple entries → ⊥) (λ content. BeginWithTriple entries
         × (content.now ≡ encoding_octets octets.now (entry_at entries 1)))) }
-    ensures fault { IfErr result
-        (λ e. OutOfMemoryOr (λ fault. FirstHeaderFaultAt octets.now fault e.offset) e.error) }
+    ensures fault { IfErr result (OutOfMemoryOrAt (FirstHeaderFaultAt octets.now)) }
 {
     check_headers(alloc, octets)?;
     match signed_in(alloc, octets) {
@@ -40,19 +40,27 @@ fn signed_in<'a>(alloc: Global, octets: &'a [u8]) -> Result<Option<&'a [u8]>, Al
     ensures { IfOk result (λ found. MatchOption found
         (HasNoTriple octets.now) (λ content. IsSignedIn octets.now content.now)) }
 {
-    let Some(whole) = universal_header(alloc, octets, 0, octets.len(), 16)? else {
+    let Some(whole) = universal_header(alloc, octets, 0, octets.len(), SEQUENCE)? else {
         return Ok(None);
     };
     let Some(content) = header_at(alloc, octets, whole.start, whole.end)? else {
         return Ok(None);
     };
-    let Some(algorithm) = universal_header(alloc, octets, content.end, whole.end, 16)? else {
+    let Some(algorithm) = universal_header(alloc, octets, content.end, whole.end, SEQUENCE)? else {
         return Ok(None);
     };
-    let Some(_) = universal_header(alloc, octets, algorithm.start, algorithm.end, 6)? else {
+    let Some(_) = universal_header(
+        alloc,
+        octets,
+        algorithm.start,
+        algorithm.end,
+        OBJECT_IDENTIFIER,
+    )?
+    else {
         return Ok(None);
     };
-    let Some(signature) = universal_header(alloc, octets, algorithm.end, whole.end, 3)? else {
+    let Some(signature) = universal_header(alloc, octets, algorithm.end, whole.end, BIT_STRING)?
+    else {
         return Ok(None);
     };
     if signature.end != whole.end {

@@ -4,6 +4,7 @@ ghost use Rattle.asn1_outline.specs.Triple.{AreParts, BeginWithTriple, IsUnivers
 
 use crate::entry::Entry;
 use asn1_headers::header::ASN1Class;
+use asn1_headers::tags::{BIT_STRING, OBJECT_IDENTIFIER, SEQUENCE};
 
 /// The entries of a signed triple's parts: what was signed, the OBJECT IDENTIFIER of the algorithm, and the signature.
 #[derive(Clone, Copy, Drop)]
@@ -20,7 +21,7 @@ pub fn triple_entries(entries: &[Entry]) -> Option<TripleEntries<'_>>
         (BeginWithTriple entries.now → ⊥)
         (λ parts. BeginWithTriple entries.now × AreParts entries.now parts) }
 {
-    let Some(whole) = with_tag(entries, 0, 16) else {
+    let Some(whole) = with_tag(entries, 0, SEQUENCE) else {
         return None;
     };
     if whole.items != 3 {
@@ -29,7 +30,7 @@ pub fn triple_entries(entries: &[Entry]) -> Option<TripleEntries<'_>>
     let Some(content) = entries.get(1) else {
         return None;
     };
-    let Some(algorithm) = with_tag(entries, content.next, 16) else {
+    let Some(algorithm) = with_tag(entries, content.next, SEQUENCE) else {
         return None;
     };
     if algorithm.items == 0 {
@@ -38,10 +39,10 @@ pub fn triple_entries(entries: &[Entry]) -> Option<TripleEntries<'_>>
     let Some(inside) = content.next.checked_add(1) else {
         return None;
     };
-    let Some(identifier) = with_tag(entries, inside, 6) else {
+    let Some(identifier) = with_tag(entries, inside, OBJECT_IDENTIFIER) else {
         return None;
     };
-    let Some(signature) = with_tag(entries, algorithm.next, 3) else {
+    let Some(signature) = with_tag(entries, algorithm.next, BIT_STRING) else {
         return None;
     };
     Some(TripleEntries {

@@ -24,6 +24,10 @@ use asn1_blocks::contents::form_of;
 use asn1_blocks::unknown_values::{ascii_text, enumerated, is_ascii_tag};
 use asn1_headers::error::ASN1DecodeErr;
 use asn1_headers::header::{ASN1Class, HeaderCount, decode_tag};
+use asn1_headers::tags::{
+    BIT_STRING, BOOLEAN, ENUMERATED, GENERALIZED_TIME, INTEGER, OBJECT_IDENTIFIER, OCTET_STRING,
+    UTC_TIME,
+};
 use asn1_headers::types::type_name;
 use asn1_leaves::contents::text::TextForm;
 use asn1_leaves::contents::{bit_string, boolean, generalized_time, integer, text, utc_time};
@@ -135,7 +139,7 @@ impl Entry {
         ensures { (b : Tree ℕ) → IsEntryOf document.now b self.now → IsOkAnd result
             (λ found. MatchOption found (tree_boolean b ≡ None) (λ yes. tree_boolean b ≡ Some yes)) }
     {
-        let Some(contents) = self.leaf_in(document, 1) else {
+        let Some(contents) = self.leaf_in(document, BOOLEAN) else {
             return Ok(None);
         };
         match boolean::read(contents) {
@@ -150,7 +154,7 @@ impl Entry {
             (λ found. MatchOption found (tree_oid b ≡ None) (λ oid. tree_oid b ≡ Some oid))
             (λ e. e ≡ OutOfMemory) }
     {
-        let Some(contents) = self.leaf_in(document, 6) else {
+        let Some(contents) = self.leaf_in(document, OBJECT_IDENTIFIER) else {
             return Ok(None);
         };
         match oid::read(alloc, contents) {
@@ -171,7 +175,7 @@ impl Entry {
             (λ bits. tree_bits b ≡ Some (bits.0, bits.1.items)))
             (λ e. e ≡ OutOfMemory) }
     {
-        let Some(contents) = self.leaf_in(document, 3) else {
+        let Some(contents) = self.leaf_in(document, BIT_STRING) else {
             return Ok(None);
         };
         match bit_string::read(alloc, contents) {
@@ -192,13 +196,13 @@ impl Entry {
             (λ d. tree_moment b ≡ Some (moment_of d)))
             (λ e. e ≡ OutOfMemory) }
     {
-        if let Some(contents) = self.leaf_in(document, 23) {
+        if let Some(contents) = self.leaf_in(document, UTC_TIME) {
             return match utc_time::read(alloc, contents) {
                 Ok(d) => Ok(Some(d)),
                 Err(e) => Err(e),
             };
         }
-        let Some(contents) = self.leaf_in(document, 24) else {
+        let Some(contents) = self.leaf_in(document, GENERALIZED_TIME) else {
             return Ok(None);
         };
         match generalized_time::read(alloc, contents) {
@@ -216,7 +220,7 @@ impl Entry {
         ensures { (b : Tree ℕ) → IsEntryOf document.now b self.now → IfOk result
             (λ found. MatchOption found (tree_integer b ≡ None) (λ n. tree_integer b ≡ Some n)) }
     {
-        if !self.is_universal(2) {
+        if !self.is_universal(INTEGER) {
             return Ok(None);
         }
         let Some(contents) = self.contents_in(document) else {
@@ -258,7 +262,7 @@ impl Entry {
             (tree_octets b ≡ None)
             (λ octets. tree_octets b ≡ Some octets.now) }
     {
-        self.leaf_in(document, 4)
+        self.leaf_in(document, OCTET_STRING)
     }
 
     // The contents octets of a primitive encoding of class Universal of the document whose entry this is, if its tag
@@ -290,11 +294,11 @@ impl Entry {
         ensures { (b : Tree ℕ) → IsEntryOf document.now b self.now → IfOk result
             (λ found. MatchOption found (tree_enumerated b ≡ None) (λ n. tree_enumerated b ≡ Some n)) }
     {
-        if self.tag != 10 {
+        if self.tag != ENUMERATED {
             return Ok(None);
         }
         match self.primitive_in(document) {
-            Some(contents) => enumerated(alloc, 10, contents),
+            Some(contents) => enumerated(alloc, ENUMERATED, contents),
             None => Ok(None),
         }
     }
@@ -331,16 +335,16 @@ impl Entry {
 // The moment of contents octets behind the tag number of a UTCTime or a GeneralizedTime.
 pub fn time_of(alloc: Global, tag: u64, contents: &[u8]) -> Result<Option<DateTime>, ASN1DecodeErr>
     ensures found { IfOk result (λ found. MatchOption found
-        ((tag ≡ 23) ⊎ (tag ≡ 24) → ⊥)
-        (λ d. ((tag ≡ 23) × UtcTimeContents (moment_of d) contents.now)
-        ⊎ ((tag ≡ 24) × GeneralizedTimeContents (moment_of d) contents.now))) }
+        ((tag ≡ UTC_TIME) ⊎ (tag ≡ GENERALIZED_TIME) → ⊥)
+        (λ d. ((tag ≡ UTC_TIME) × UtcTimeContents (moment_of d) contents.now)
+        ⊎ ((tag ≡ GENERALIZED_TIME) × GeneralizedTimeContents (moment_of d) contents.now))) }
     ensures refused { IfErr result (OutOfMemoryOr (λ e.
-        ((tag ≡ 23) × UtcTimeFault contents.now e)
-        ⊎ ((tag ≡ 24) × GeneralizedTimeFault contents.now e))) }
+        ((tag ≡ UTC_TIME) × UtcTimeFault contents.now e)
+        ⊎ ((tag ≡ GENERALIZED_TIME) × GeneralizedTimeFault contents.now e))) }
 {
     match tag {
-        23 => Ok(Some(utc_time::read(alloc, contents)?)),
-        24 => Ok(Some(generalized_time::read(alloc, contents)?)),
+        UTC_TIME => Ok(Some(utc_time::read(alloc, contents)?)),
+        GENERALIZED_TIME => Ok(Some(generalized_time::read(alloc, contents)?)),
         _ => Ok(None),
     }
 }

@@ -3,9 +3,9 @@ use Rattle.std.proofs.Common.{◌≡◌, ◌≢◌, ℕ, suc, ◌+◌, ◌-◌, 
 use Rattle.std.specs.List.{slice_range}
 use Rattle.asn1_blocks.specs.declared.block.GroupKind.{GroupKind}
 use Rattle.asn1_headers.specs.declared.header.ASN1Class.TheVariants.{Universal}
-use Rattle.asn1_blocks.specs.declared.reading.Attempt as declared
-use Rattle.asn1_blocks.specs.declared.reading.FrameKind.{FrameKind}
-use Rattle.asn1_blocks.specs.declared.reading.FrameKind.TheVariants.{Attempt, Group, Whole}
+use Rattle.asn1_blocks.specs.declared.read_loop.Attempt as declared
+use Rattle.asn1_blocks.specs.declared.read_loop.FrameKind.{FrameKind}
+use Rattle.asn1_blocks.specs.declared.read_loop.FrameKind.TheVariants.{Attempt, Group, Whole}
 use Rattle.asn1_blocks.specs.Contents.{group_tag}
 use Rattle.asn1_blocks.specs.Grammar.{Encodes, EncodesAll, IsBlock, of_group, of_other_class}
 use Rattle.asn1_headers.specs.Header.{Encoding}

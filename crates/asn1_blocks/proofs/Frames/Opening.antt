@@ -6,9 +6,9 @@ use Rattle.asn1_headers.specs.declared.error.ASN1DecodeErr.TheVariants.{OutOfMem
 use Rattle.asn1_headers.specs.declared.header.ASN1Class.{ASN1Class}
 use Rattle.asn1_headers.specs.declared.header.ASN1Class.TheVariants.{Universal}
 use Rattle.asn1_blocks.specs.declared.parsed.PlacedHeader.{PlacedHeader}
-use Rattle.asn1_blocks.specs.declared.reading.Attempt as declared
-use Rattle.asn1_blocks.specs.declared.reading.FrameKind.{FrameKind}
-use Rattle.asn1_blocks.specs.declared.reading.FrameKind.TheVariants.{Whole, Group, Attempt}
+use Rattle.asn1_blocks.specs.declared.read_loop.Attempt as declared
+use Rattle.asn1_blocks.specs.declared.read_loop.FrameKind.{FrameKind}
+use Rattle.asn1_blocks.specs.declared.read_loop.FrameKind.TheVariants.{Whole, Group, Attempt}
 use Rattle.asn1_headers.specs.Fault.{DecodeFault, OutOfMemoryOr, fault_of}
 use Rattle.asn1_blocks.specs.Contents.{group_tag, LeafFault}
 use Rattle.asn1_headers.specs.HeaderFault.{HeaderFault}

@@ -2,9 +2,9 @@
 use Rattle.std.proofs.Common.{◌≡◌, ℕ, ◌+◌, ◌-◌, ◌<◌, ◌≤◌, ◌^◌, true, List, [], ◌∷◌, ◌++◌, inl, inr, length, refl, sym, ap, ◌∙◌, subst, arith}
 use Rattle.std.specs.List.{slice_range}
 use Rattle.asn1_blocks.specs.declared.block.GroupKind.{GroupKind}
-use Rattle.asn1_blocks.specs.declared.reading.Attempt as declared
-use Rattle.asn1_blocks.specs.declared.reading.FrameKind.{FrameKind}
-use Rattle.asn1_blocks.specs.declared.reading.FrameKind.TheVariants.{Whole, Group, Attempt}
+use Rattle.asn1_blocks.specs.declared.read_loop.Attempt as declared
+use Rattle.asn1_blocks.specs.declared.read_loop.FrameKind.{FrameKind}
+use Rattle.asn1_blocks.specs.declared.read_loop.FrameKind.TheVariants.{Whole, Group, Attempt}
 use Rattle.asn1_headers.specs.Fault.{DecodeFault}
 use Rattle.asn1_blocks.specs.Grammar.{AreBlocks, BlocksFaultAt, IsBlock, of_other_class}
 use Rattle.asn1_blocks.specs.Inner.BlockFault.{BlockFaultAt, at_item}

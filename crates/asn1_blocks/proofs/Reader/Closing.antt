@@ -2,9 +2,9 @@
 use Rattle.std.proofs.Common.{◌≡◌, ℕ, suc, ◌<◌, ◌++◌, List, [], ◌∷◌, Global, Vec, length, reverse, refl, sym, subst, arith}
 use Rattle.std.proofs.lemmas.List.{length-reverse}
 use Rattle.asn1_headers.specs.declared.error.ASN1DecodeErr.{ASN1DecodeErr}
-use Rattle.asn1_blocks.specs.declared.reading.Extent.{Extent}
-use Rattle.asn1_blocks.specs.declared.reading.OpenFrame.{OpenFrame}
-use Rattle.asn1_blocks.specs.declared.reading.Reader.{Reader}
+use Rattle.asn1_blocks.specs.declared.read_loop.Extent.{Extent}
+use Rattle.asn1_blocks.specs.declared.read_loop.OpenFrame.{OpenFrame}
+use Rattle.asn1_blocks.specs.declared.read_loop.Reader.{Reader}
 use Rattle.asn1_blocks.specs.Inner.OpenFrames.{AreOpen}
 use Rattle.asn1_blocks.specs.Inner.ReaderSteps.{CanEnd, EndsAs, GoesOn, HasEnded, HasEndedIn, Holding, Reads, frame, frames, work_left}
 use Rattle.asn1_blocks.specs.Tree.{Tree}

@@ -2,7 +2,7 @@
 use Rattle.std.proofs.Common.{◌≡◌, ℕ, List, Result, Ok, Err, IsErr, IsErrAnd, inl}
 use Rattle.asn1_headers.specs.declared.error.ASN1DecodeErr.{ASN1DecodeErr}
 use Rattle.asn1_headers.specs.declared.error.ASN1DecodeErr.TheVariants.{OutOfMemory}
-use Rattle.asn1_blocks.specs.declared.reading.Reader.{Reader}
+use Rattle.asn1_blocks.specs.declared.read_loop.Reader.{Reader}
 use Rattle.asn1_blocks.specs.Inner.ReaderSteps.{HasStepped, Holding}
 
 -- a step that ran out of memory leads to nothing else

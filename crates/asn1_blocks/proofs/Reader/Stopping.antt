@@ -4,11 +4,11 @@ use Rattle.std.proofs.lemmas.Bool.{false≢true}
 use Rattle.std.proofs.lemmas.List.{length-reverse}
 use Rattle.asn1_headers.specs.declared.error.ASN1DecodeErr.{ASN1DecodeErr}
 use Rattle.asn1_headers.specs.Fault.{DecodeFault}
-use Rattle.asn1_blocks.specs.declared.reading.Attempt as declared
-use Rattle.asn1_blocks.specs.declared.reading.Extent.{Extent}
-use Rattle.asn1_blocks.specs.declared.reading.FrameKind.{FrameKind}
-use Rattle.asn1_blocks.specs.declared.reading.FrameKind.TheVariants.{Whole, Group, Attempt}
-use Rattle.asn1_blocks.specs.declared.reading.OpenFrame.{OpenFrame}
+use Rattle.asn1_blocks.specs.declared.read_loop.Attempt as declared
+use Rattle.asn1_blocks.specs.declared.read_loop.Extent.{Extent}
+use Rattle.asn1_blocks.specs.declared.read_loop.FrameKind.{FrameKind}
+use Rattle.asn1_blocks.specs.declared.read_loop.FrameKind.TheVariants.{Whole, Group, Attempt}
+use Rattle.asn1_blocks.specs.declared.read_loop.OpenFrame.{OpenFrame}
 use Rattle.asn1_blocks.specs.Inner.OpenFrames.{IsAttemptAt, IsHeaded, IsStopping, is_attempt}
 use Rattle.asn1_blocks.specs.Inner.ReaderSteps.{CanBeKept, GoesOn, HasKept, Holding, IsFaultyDocument, IsRefused, frame, frames, work_left}
 use Rattle.asn1_blocks.proofs.Frames.Stopping.{StoppingPlaces, IsClosed-failed_attempt, IsFaultyDocument-stopping, IsStopping-not_blocks, IsStopping-leave_frame, IsStopping-places}

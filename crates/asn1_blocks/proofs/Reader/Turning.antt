@@ -2,9 +2,9 @@
 use Rattle.std.proofs.Common.{◌≡◌, ℕ, Bool, true, false, List, [], Option, Some, None, Result, Ok, Err, length, reverse, refl, sym, subst, arith}
 use Rattle.asn1_headers.specs.declared.error.ASN1DecodeErr.{ASN1DecodeErr}
 use Rattle.asn1_headers.specs.Fault.{OutOfMemoryOr}
-use Rattle.asn1_blocks.specs.declared.reading.FrameKind.TheVariants.{Whole}
-use Rattle.asn1_blocks.specs.declared.reading.OpenFrame.{OpenFrame}
-use Rattle.asn1_blocks.specs.declared.reading.Reader.{Reader}
+use Rattle.asn1_blocks.specs.declared.read_loop.FrameKind.TheVariants.{Whole}
+use Rattle.asn1_blocks.specs.declared.read_loop.OpenFrame.{OpenFrame}
+use Rattle.asn1_blocks.specs.declared.read_loop.Reader.{Reader}
 use Rattle.asn1_blocks.specs.HeadersBegun.{begun_none}
 use Rattle.asn1_blocks.specs.Inner.ReaderSteps.{GoesOn, HasEnded, HasRecovered, Holding, IsFaulty, IsFaultyDocument, IsStepped, Reads, StartsEmpty}
 use Rattle.asn1_blocks.proofs.Frames.Slices.{slice_range-empty}

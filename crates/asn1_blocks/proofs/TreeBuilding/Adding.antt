@@ -3,9 +3,9 @@ use Rattle.std.proofs.Common.{◌≡◌, ℕ, List, [], ◌∷◌, ◌++◌, inl
 use Rattle.std.proofs.lemmas.List.{take-append-drop}
 use Rattle.asn1_blocks.specs.declared.block.ASN1Block.{ASN1Block}
 use Rattle.asn1_blocks.specs.declared.block.GroupKind.{GroupKind}
-use Rattle.asn1_blocks.specs.declared.reading.Attempt.{Attempt}
-use Rattle.asn1_blocks.specs.declared.reading.Extent.{Extent}
-use Rattle.asn1_blocks.specs.declared.reading.OpenFrame.{OpenFrame}
+use Rattle.asn1_blocks.specs.declared.read_loop.Attempt.{Attempt}
+use Rattle.asn1_blocks.specs.declared.read_loop.Extent.{Extent}
+use Rattle.asn1_blocks.specs.declared.read_loop.OpenFrame.{OpenFrame}
 use Rattle.asn1_blocks.specs.declared.postponed.Postponed.{Postponed}
 use Rattle.asn1_blocks.specs.declared.postponed.Postponed.TheVariants as PostponedAs
 use Rattle.asn1_blocks.specs.declared.read.FrameBlocks.{FrameBlocks}

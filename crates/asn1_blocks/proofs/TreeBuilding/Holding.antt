@@ -4,7 +4,7 @@ use Rattle.std.proofs.Math.Seq.{take-length, drop-length}
 use Rattle.std.proofs.lemmas.List.{map-append, take-append-drop, take-append-le, drop-append-le, nil_from_length}
 use Rattle.asn1_blocks.specs.declared.block.ASN1Block.{ASN1Block}
 use Rattle.asn1_blocks.specs.declared.postponed.Postponed.{Postponed}
-use Rattle.asn1_blocks.specs.declared.reading.OpenFrame.{OpenFrame}
+use Rattle.asn1_blocks.specs.declared.read_loop.OpenFrame.{OpenFrame}
 use Rattle.asn1_blocks.specs.declared.read.FrameBlocks.{FrameBlocks}
 use Rattle.asn1_blocks.specs.Tree.{Tree}
 use Rattle.asn1_blocks.specs.View.{view}

@@ -2,11 +2,11 @@
 use Rattle.std.specs.Prelude.{◌≡◌, ◌≢◌, ℕ, ◌+◌, ◌-◌, ◌<◌, ◌≤◌, Bool, true, false, List, [], ◌∷◌, length, slice_range}
 use Rattle.asn1_blocks.specs.declared.block.GroupKind.{GroupKind}
 use Rattle.asn1_headers.specs.declared.header.ASN1Class.TheVariants.{Universal}
-use Rattle.asn1_blocks.specs.declared.reading.Attempt as declared
+use Rattle.asn1_blocks.specs.declared.read_loop.Attempt as declared
 use Rattle.asn1_blocks.specs.declared.parsed.PlacedHeader.{PlacedHeader}
-use Rattle.asn1_blocks.specs.declared.reading.Extent.{Extent}
-use Rattle.asn1_blocks.specs.declared.reading.FrameKind.{FrameKind}
-use Rattle.asn1_blocks.specs.declared.reading.FrameKind.TheVariants.{Whole, Group, Attempt}
+use Rattle.asn1_blocks.specs.declared.read_loop.Extent.{Extent}
+use Rattle.asn1_blocks.specs.declared.read_loop.FrameKind.{FrameKind}
+use Rattle.asn1_blocks.specs.declared.read_loop.FrameKind.TheVariants.{Whole, Group, Attempt}
 use Rattle.asn1_headers.specs.Fault.{DecodeFault}
 use Rattle.asn1_blocks.specs.Tree.{Tree, explicit, group, trees_of, unknown}
 use Rattle.asn1_blocks.specs.Contents.{group_tag}

@@ -1,6 +1,6 @@
 -- Postponed blocks, and the trees that they build. Only private contracts name these.
 use Rattle.std.specs.Prelude.{◌≡◌, ℕ, ◌-◌, List, [], ◌∷◌, ◌++◌, length, map, take, drop}
-use Rattle.asn1_blocks.specs.declared.reading.Attempt.{Attempt}
+use Rattle.asn1_blocks.specs.declared.read_loop.Attempt.{Attempt}
 use Rattle.asn1_blocks.specs.declared.postponed.Postponed.{Postponed}
 use Rattle.asn1_blocks.specs.declared.postponed.Postponed.TheVariants.{Ready, Group, Explicit, AsItCame}
 use Rattle.asn1_blocks.specs.Inner.OpenFrames.{around, as_it_came}

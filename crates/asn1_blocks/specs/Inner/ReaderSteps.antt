@@ -3,12 +3,12 @@ use Rattle.std.specs.Prelude.{◌≡◌, ◌≢◌, ℕ, ◌+◌, ◌*◌, ◌-�
 use Rattle.asn1_headers.specs.declared.header.ASN1Class.TheVariants.{Universal}
 use Rattle.asn1_blocks.specs.declared.parsed.PlacedHeader.{PlacedHeader}
 use Rattle.asn1_headers.specs.declared.error.ASN1DecodeErr.{ASN1DecodeErr}
-use Rattle.asn1_blocks.specs.declared.reading.Attempt as declared
-use Rattle.asn1_blocks.specs.declared.reading.Extent.{Extent}
-use Rattle.asn1_blocks.specs.declared.reading.FrameKind.{FrameKind}
-use Rattle.asn1_blocks.specs.declared.reading.FrameKind.TheVariants.{Whole}
-use Rattle.asn1_blocks.specs.declared.reading.OpenFrame.{OpenFrame}
-use Rattle.asn1_blocks.specs.declared.reading.Reader.{Reader}
+use Rattle.asn1_blocks.specs.declared.read_loop.Attempt as declared
+use Rattle.asn1_blocks.specs.declared.read_loop.Extent.{Extent}
+use Rattle.asn1_blocks.specs.declared.read_loop.FrameKind.{FrameKind}
+use Rattle.asn1_blocks.specs.declared.read_loop.FrameKind.TheVariants.{Whole}
+use Rattle.asn1_blocks.specs.declared.read_loop.OpenFrame.{OpenFrame}
+use Rattle.asn1_blocks.specs.declared.read_loop.Reader.{Reader}
 use Rattle.asn1_headers.specs.Fault.{DecodeFault, OutOfMemoryOr}
 use Rattle.asn1_blocks.specs.Contents.{LeafFault}
 use Rattle.asn1_blocks.specs.Grammar.{AreBlocks, BlocksFaultAt, Encodes, EncodesAll, IsDocument}

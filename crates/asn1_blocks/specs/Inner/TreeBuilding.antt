@@ -1,8 +1,8 @@
 -- What the builder of trees holds, and what its steps do.
 use Rattle.std.specs.Prelude.{◌≡◌, ℕ, ◌+◌, ◌≤◌, ◌⊎◌, ◌++◌, List, [], ◌∷◌, length, map, take, drop}
 use Rattle.asn1_blocks.specs.declared.block.ASN1Block.{ASN1Block}
-use Rattle.asn1_blocks.specs.declared.reading.Attempt.{Attempt}
-use Rattle.asn1_blocks.specs.declared.reading.OpenFrame.{OpenFrame}
+use Rattle.asn1_blocks.specs.declared.read_loop.Attempt.{Attempt}
+use Rattle.asn1_blocks.specs.declared.read_loop.OpenFrame.{OpenFrame}
 use Rattle.asn1_blocks.specs.declared.postponed.Postponed.{Postponed}
 use Rattle.asn1_blocks.specs.declared.postponed.Postponed.TheVariants.{Ready, AsItCame}
 use Rattle.asn1_blocks.specs.declared.read.FrameBlocks.{FrameBlocks}

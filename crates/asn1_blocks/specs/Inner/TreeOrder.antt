@@ -1,7 +1,7 @@
 -- The blocks of trees in a list.
 use Rattle.std.specs.Prelude.{◌≡◌, List, [], ◌∷◌, ◌++◌, map}
 use Rattle.asn1_blocks.specs.declared.block.ASN1Block.{ASN1Block}
-use Rattle.asn1_blocks.specs.declared.walk.TreeWalk.{TreeWalk}
+use Rattle.asn1_blocks.specs.declared.tree_walk.TreeWalk.{TreeWalk}
 use Rattle.asn1_blocks.specs.Tree.{Tree, Trees, leaf, group, explicit, unknown, null}
 use Rattle.asn1_blocks.specs.Tree.{no_trees, more_trees}
 use Rattle.asn1_blocks.specs.View.{view, views}

@@ -6,7 +6,7 @@ ghost use Rattle.asn1_blocks.specs.View.{view};
 use crate::block::ASN1Block;
 use crate::contents::copy_over;
 use crate::held::HeldBlocks;
-use crate::walk::{blocks_inside, in_tree_order};
+use crate::tree_walk::{blocks_inside, in_tree_order};
 use std::alloc::{AllocError, Global};
 use std::slice;
 

@@ -8,8 +8,8 @@ ghost use Rattle.asn1_headers.specs.Names.{type_name as name_of_type};
 ghost use Rattle.asn1_leaves.specs.Contents.Moment.{moment_of};
 
 use crate::block::ASN1Block;
+use crate::tree_walk::in_tree_order;
 use crate::unknown_values::{ascii_text, enumerated};
-use crate::walk::in_tree_order;
 use asn1_headers::header::ASN1Class;
 use asn1_headers::types::type_name;
 use asn1_leaves::oid::OID;

@@ -7,7 +7,7 @@ ghost use Rattle.asn1_blocks.specs.View.{view, views};
 
 use crate::block::ASN1Block;
 use crate::contents::same_own;
-use crate::walk::blocks_inside;
+use crate::tree_walk::blocks_inside;
 use std::slice;
 
 #[cycle(same)]

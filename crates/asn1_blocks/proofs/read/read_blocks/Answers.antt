@@ -1,6 +1,6 @@
 -- For `read::read_blocks`: `read_into` may be called.
 use Rattle.std.proofs.Common.{None, length, refl}
-use Rattle.asn1_blocks.specs.declared.reading.FrameKind.TheVariants.{Whole}
+use Rattle.asn1_blocks.specs.declared.read_loop.FrameKind.TheVariants.{Whole}
 use Rattle.asn1_blocks.proofs.TreeBuilding.Ending.{AllHold-empty}
 use Rattle.asn1_blocks.proofs.read.read_blocks.Goals as goal
 

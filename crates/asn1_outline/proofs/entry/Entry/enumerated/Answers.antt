@@ -4,8 +4,8 @@ use Rattle.std.proofs.lemmas.Grind.{common_steps}
 use Rattle.asn1_outline.proofs.Values.{tree_enumerated-none, tree_enumerated-other_tag}
 use Rattle.asn1_outline.proofs.entry.Entry.enumerated.Goals as goal
 
-pub returns-then-self-ne10 : goal.returns-then-self-ne10
-returns-then-self-ne10 c b e =
+pub returns-then-self-ne-ENUMERATED : goal.returns-then-self-ne-ENUMERATED
+returns-then-self-ne-ENUMERATED c b e =
     let other : c.args.self.now.tag ≡ 10 → ⊥ = grind (arith, common_steps) in
     tree_enumerated-other_tag c.args.document.now b c.args.self.now e other
 

@@ -1,4 +1,4 @@
--- For `listing::EntryBuilderBuilder::close`: what it returns is right and `seal` may be called.
+-- For `listing::EntryBuilderBuilder::close`: what it returns is right and `set_items` may be called.
 use Rattle.std.proofs.Common.{subst, sym}
 use Rattle.std.proofs.lemmas.Result.{on_ok_weaker}
 use Rattle.asn1_blocks.specs.Inner.ReaderSteps.{HasEndedIn, in_frame}
@@ -6,8 +6,8 @@ use Rattle.asn1_outline.specs.Listing.{builder_holds}
 use Rattle.asn1_outline.proofs.Listed.{HasEndedIn-entry_builder, entry-lt_length}
 use Rattle.asn1_outline.proofs.listing.EntryBuilderBuilder.close.Goals as goal
 
-pub seal-requires : goal.seal-requires
-seal-requires c =
+pub set_items-requires : goal.set_items-requires
+set_items-requires c =
     entry-lt_length c.args._octets.now c.args.self.now.entries.items (in_frame c.args._extent c.args.items)
     (in_frame c.requires.extent c.args.parent.now)
     c.requires.outer c.requires.trees c.requires.holds
@@ -17,8 +17,8 @@ returns c =
     let x = c.args._octets.now in
     let f = in_frame c.args._extent c.args.items in
     let a = c.args.self.now in
-    let b = c.seal.new.self in
+    let b = c.set_items.new.self in
     let i = c.args.parent.now in
     on_ok_weaker c.add.result (λ u. subst (λ z. HasEndedIn builder_holds x f c.args._depth a i b z) (sym u)
-    (HasEndedIn-entry_builder x a b f i c.args._depth c.seal.ensures))
+    (HasEndedIn-entry_builder x a b f i c.args._depth c.set_items.ensures))
     c.add.ensures

@@ -18,10 +18,12 @@ returns c =
     let i = c.args.items.now in
     let (limit, found, within) = c.requires.found in
     let at : c.len.result ≡ length a.entries.items = grind (arith, common_steps) in
-    let begun = subst (λ z. IsBegun x o z c.args.depth c.started-block.result) at c.started-block.ensures in
+    let begun =
+    subst (λ z. IsBegun x o z c.args.depth c.encoding_entry-block.result) at c.encoding_entry-block.ensures in
     let single = c.in_ok-check_contents.ensures.encoded o (slice_range x o h.end) (h.start - o) found.encoding in
     let built =
-    HasLeaf-entry_builder x h o limit c.args.depth a b i c.started-block.result found c.requires.leaf single begun
+    HasLeaf-entry_builder x h o limit c.args.depth a b i c.encoding_entry-block.result found c.requires.leaf single
+    begun
     c.in_ok-push.ensures in
     record {
       built = subst (λ z. HasLeaf builder_holds x o h.end c.args.depth a i b z) (sym c.in_ok-add.ensures) built;

@@ -9,5 +9,6 @@ returns c =
     let at : c.len-entry.result ≡ length c.args.self.now.entries.items = grind (arith, common_steps) in
     HasOpened-entry_builder c.args.octets.now c.args.header.now c.args.offset c.args.depth c.args.self.now
     c.push.new.self
-    (record { entry = c.len-entry.result; count = 0 }) c.started-block.result c.started-block.ensures at refl
+    (record { entry = c.len-entry.result; count = 0 }) c.encoding_entry-block.result
+    c.encoding_entry-block.ensures at refl
     c.in_ok-push.ensures

@@ -1,7 +1,0 @@
--- For `walk::TreeWalk::over`: what it returns is right.
-use Rattle.std.proofs.Common.{arith}
-use Rattle.std.proofs.lemmas.Grind.{common_steps}
-use Rattle.asn1_blocks.proofs.walk.TreeWalk.over.Goals as goal
-
-pub returns : goal.returns
-returns c = grind (arith, common_steps)
