@@ -58,7 +58,7 @@ def main():
             y += STEP
     grid = [f'<path d="M{across(m):.1f} {top + 8}V{y}" stroke="#d5d9de"/>'
             f'<text x="{across(m):.1f}" y="{y + 16}" text-anchor="middle" fill="#555">{m:g}</text>' for m in marks]
-    date = (RESULTS / "machine").read_text().split(",")[0]
+    date = ",".join((RESULTS / "machine").read_text().split(",")[:2])
     print(f'<svg xmlns="http://www.w3.org/2000/svg" width="{WIDTH}" height="{y + 30}" viewBox="0 0 {WIDTH} {y + 30}" '
           'font-family="sans-serif" font-size="13">')
     print(f'<rect width="{WIDTH}" height="{y + 30}" fill="#fff"/>')

@@ -6,8 +6,12 @@ import sys
 RESULTS = pathlib.Path(sys.argv[1])
 PEERS = ["Rust crate", "here", "here, Document", "here, Outline", "here, is_der", "here, departures", "here, C",
          "here, C, all values", "der-parser", "libtasn1", "OpenSSL tree", "OpenSSL types"]
+# whose instructions alone are counted
+CALLS = [f"here, C, {call}" for call in ("outline", "three values", "check", "departures", "signed")]
 OPERATIONS = ["Read", "Strict", "Write", "Rewrite"]
 RUNS = sorted(RESULTS.glob("time.*"))
+MACHINE = (RESULTS / "machine").read_text().rstrip(", ")
+DATE, COMMIT, *_ = MACHINE.split(", ")
 
 
 def rows(file):
@@ -22,7 +26,7 @@ def table(title, head, lines):
     lines = [line for line in lines if any(line[1:])]
     if not lines:
         return
-    print(f"### {title}\n")
+    print(f"### {title} ({DATE}, {COMMIT})\n")
     print("| " + " | ".join(head) + " |\n|---" + "|---:" * (len(head) - 1) + "|")
     for line in lines:
         print("| " + " | ".join(line) + " |")
@@ -68,7 +72,7 @@ def growth_cell(item, peer, operation):
     return ", ".join(f"{GROWTH[key]:.2f}" for key in keys)
 
 
-print((RESULTS / "machine").read_text().rstrip(", ") + ".\n")
+print(f"{MACHINE}.\n")
 loads = "; ".join((RESULTS / "load").read_text().splitlines())
 print(f"Runs: {len(RUNS)}. Load over 1, 5 and 15 minutes before each, and after the last: {loads}.\n")
 print((RESULTS / "same").read_text())
@@ -99,4 +103,5 @@ table("Memory of reading: allocations a block, and the most octets that are live
 
 counts = {(peer, operation): int(count) for peer, operation, count in rows(RESULTS / "instructions") if int(count) > 0}
 table("Instructions for a certificate, on the mean", ["", "read", "read strictly", "write", "rewrite"],
-      [[peer, *(f"{counts[peer, it]:,}" if (peer, it) in counts else "" for it in OPERATIONS)] for peer in PEERS])
+      [[peer, *(f"{counts[peer, it]:,}" if (peer, it) in counts else "" for it in OPERATIONS)]
+       for peer in PEERS + CALLS])

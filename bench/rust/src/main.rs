@@ -7,7 +7,7 @@
 mod peers;
 mod records;
 
-use peers::{peers, Document, Peer, HERE, RUST_CRATE};
+use peers::{calls, peers, Document, Peer, HERE, RUST_CRATE};
 use std::{env, ffi::CString, fs, thread};
 
 const ITEMS: [&str; 11] = [
@@ -198,7 +198,7 @@ fn time(corpus: &str, wanted: &[String]) {
 }
 
 fn repeat(corpus: &str, item: &str, name: &str, operation: &str, times: u64) {
-    let peer = peers().into_iter().find(|it| it.name == name).expect("a peer");
+    let peer = peers().into_iter().chain(calls()).find(|it| it.name == name).expect("a peer");
     let documents = documents(corpus, item, LARGEST);
     let operation =
         *[Read, Strict, Write, Rewrite].iter().find(|it| format!("{it:?}") == operation).expect("an operation");

@@ -113,6 +113,18 @@ pub fn peers() -> Vec<Peer> {
     ]
 }
 
+/// Calls for C whose instructions are counted, and no time is taken. They are asked of certificates.
+pub fn calls() -> Vec<Peer> {
+    let call = |name, read| Peer { name, read, read_strictly: None, write: None, rewrite: None };
+    vec![
+        call("here, C, outline", |it| records::outline(&it.octets)),
+        call("here, C, three values", |it| records::facts(&it.octets)),
+        call("here, C, check", |it| records::check(&it.octets)),
+        call("here, C, departures", |it| records::departures(&it.octets)),
+        call("here, C, signed", |it| records::signed(&it.octets)),
+    ]
+}
+
 fn crate_write(it: &Document, times: u64) -> bool {
     let Ok(blocks) = simple_asn1::from_der(&it.octets) else {
         return false;

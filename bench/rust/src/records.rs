@@ -24,6 +24,41 @@ struct Outcome {
     count: usize,
 }
 
+/// Where the item numbers of a path begin, and how many they are.
+#[repr(C)]
+struct Path {
+    start: usize,
+    length: usize,
+}
+
+#[repr(C)]
+#[derive(Clone, Copy, Default)]
+struct Found {
+    tag: u64,
+    offset: usize,
+    header: usize,
+    contents: usize,
+    number: i64,
+    kind: u32,
+    tag_class: u8,
+    constructed: u8,
+}
+
+#[repr(C)]
+#[derive(Clone, Copy, Default)]
+struct Departure {
+    offset: usize,
+    rule: u32,
+}
+
+#[repr(C)]
+#[allow(dead_code)]
+struct Signed {
+    status: u32,
+    offset: usize,
+    parts: [Block; 3],
+}
+
 #[repr(C)]
 #[allow(dead_code)]
 struct Integer {
@@ -46,6 +81,20 @@ const NO_ROOM: u32 = 11;
 extern "C" {
     fn simple_asn1_read(octets: *const u8, size: usize, blocks: *mut Block, room: usize) -> Outcome;
     fn simple_asn1_read_strict(octets: *const u8, size: usize, blocks: *mut Block, room: usize) -> Outcome;
+    fn simple_asn1_outline(octets: *const u8, size: usize, blocks: *mut Block, room: usize) -> Outcome;
+    fn simple_asn1_values(
+        octets: *const u8,
+        size: usize,
+        steps: *const usize,
+        step_count: usize,
+        paths: *const Path,
+        path_count: usize,
+        values: *mut Found,
+        room: usize,
+    ) -> Outcome;
+    fn simple_asn1_check(octets: *const u8, size: usize) -> Outcome;
+    fn simple_asn1_departures(octets: *const u8, size: usize, departures: *mut Departure, room: usize) -> Outcome;
+    fn simple_asn1_signed(octets: *const u8, size: usize) -> Signed;
     fn simple_asn1_rewrite(octets: *const u8, size: usize, out: *mut u8, room: usize) -> Outcome;
     fn simple_asn1_write(
         octets: *const u8,
@@ -88,6 +137,44 @@ pub fn read(octets: &[u8]) -> bool {
 
 pub fn read_strictly(octets: &[u8]) -> bool {
     RECORDS.with_borrow_mut(|records| read_by(simple_asn1_read_strict, octets, records).is_some())
+}
+
+pub fn outline(octets: &[u8]) -> bool {
+    RECORDS.with_borrow_mut(|records| read_by(simple_asn1_outline, octets, records).is_some())
+}
+
+pub fn check(octets: &[u8]) -> bool {
+    unsafe { simple_asn1_check(octets.as_ptr(), octets.len()).status == OK }
+}
+
+pub fn signed(octets: &[u8]) -> bool {
+    unsafe { simple_asn1_signed(octets.as_ptr(), octets.len()).status == OK }
+}
+
+pub fn departures(octets: &[u8]) -> bool {
+    let mut room = [Departure::default(); 64];
+    let call = |out, room| unsafe { simple_asn1_departures(octets.as_ptr(), octets.len(), out, room) };
+    matches!(call(room.as_mut_ptr(), room.len()).status, OK | NO_ROOM)
+}
+
+/// Three facts of a certificate that says its version: the serial number, the end of its validity, and the subject.
+pub fn facts(octets: &[u8]) -> bool {
+    const STEPS: [usize; 10] = [0, 0, 1, 0, 0, 4, 1, 0, 0, 5];
+    const PATHS: [Path; 3] = [Path { start: 0, length: 3 }, Path { start: 3, length: 4 }, Path { start: 7, length: 3 }];
+    let mut found = [Found::default(); PATHS.len()];
+    let outcome = unsafe {
+        simple_asn1_values(
+            octets.as_ptr(),
+            octets.len(),
+            STEPS.as_ptr(),
+            STEPS.len(),
+            PATHS.as_ptr(),
+            PATHS.len(),
+            found.as_mut_ptr(),
+            found.len(),
+        )
+    };
+    outcome.status == OK
 }
 
 pub fn rewrite(octets: &[u8]) -> bool {

@@ -21,9 +21,10 @@ use crate::write::write_all;
 use asn1_blocks::block::ASN1Block;
 use asn1_blocks::held::HeldBlocks;
 use asn1_blocks::postponed::explicit_block;
-use asn1_blocks::reading::Attempt;
+use asn1_blocks::read_loop::Attempt;
 use asn1_headers::error::ASN1EncodeErr;
 use asn1_headers::header::ASN1Class;
+use asn1_headers::tags::ENUMERATED;
 use asn1_leaves::oid::OID;
 use asn1_numbers::number::big_int::BigInt;
 use asn1_numbers::number::big_uint::BigUint;
@@ -311,8 +312,8 @@ pub fn explicit(
 /// Use another class than `Universal`: a block of class `Universal` does not come back.
 ///
 /// # Errors
-/// Those of [`to_der`](crate::to_der) for the first item that cannot be written, where there is not exactly one item;
-/// `OutOfMemory`.
+/// The errors of [`to_der`](crate::to_der) for the first item that cannot be written, where there is not exactly one
+/// item; `OutOfMemory`.
 ///
 /// ```rust
 /// use simple_asn1::{ASN1Block, ASN1Class, ASN1EncodeErr, build};
@@ -407,9 +408,9 @@ pub fn implicit_primitive(
 /// }
 /// ```
 pub fn enumerated(alloc: Global, number: i64) -> Result<ASN1Block, AllocError>
-    ensures { IfOk result (λ b. view b ≡ unknown Universal false 0 10 (shortest_octets number)) }
+    ensures { IfOk result (λ b. view b ≡ unknown Universal false 0 ENUMERATED (shortest_octets number)) }
 {
     let octets = BigInt::from_i64(alloc, number)?.to_signed_bytes_be(alloc)?;
-    let tag = BigUint::from_u64(alloc, 10)?;
+    let tag = BigUint::from_u64(alloc, ENUMERATED)?;
     Ok(ASN1Block::Unknown(ASN1Class::Universal, false, 0, tag, octets))
 }

@@ -119,7 +119,7 @@ pub trait RoundTrip: FromASN1 + ToASN1 {
 /// over are ignored.
 ///
 /// # Errors
-/// Those of [`from_der`](crate::from_der), by `From`; those of the type.
+/// The errors of [`from_der`](crate::from_der), by `From`, and the errors of the type.
 ///
 /// ```rust
 /// use simple_asn1::{Point, PointErr, der_decode};
@@ -147,7 +147,7 @@ pub fn der_decode<T: FromASN1WithBody>(alloc: Global, v: &[u8]) -> Result<T, T::
 /// The canonical octets of the value's blocks, joined.
 ///
 /// # Errors
-/// Those of the type; the first fault of writing its blocks, or `OutOfMemory`, by `From`.
+/// The errors of the type; the first fault of writing its blocks, or `OutOfMemory`, by `From`.
 ///
 /// ```rust
 /// use simple_asn1::{Point, PointErr, der_encode};

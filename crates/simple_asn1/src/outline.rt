@@ -1,7 +1,7 @@
 // Outlines of documents that are in canonical form, and of no others.
-ghost use Rattle.std.specs.Prelude.{◌≡◌, ℕ, IfErr, IfOk, IsErrAnd, MatchResult, OnOk};
-ghost use Rattle.asn1_headers.specs.Fault.{DecodeFault, OutOfMemoryOr, not_canonical};
-ghost use Rattle.asn1_headers.specs.declared.error.ASN1DecodeErr.TheVariants.{OutOfMemory};
+ghost use Rattle.std.specs.Prelude.{◌≡◌, ℕ, IfErr, IfOk, IsErrAnd, OnOk};
+ghost use Rattle.asn1_headers.specs.Fault.{OutOfMemoryOr, not_canonical};
+ghost use Rattle.asn1_headers.specs.Reading.{ReadsEach, RejectsWith};
 ghost use Rattle.asn1_blocks.specs.Grammar.{FirstFault, IsDocument};
 ghost use Rattle.asn1_blocks.specs.Tree.{Trees};
 ghost use Rattle.asn1_outline.specs.Entries.{AreEntriesOf, IsOutline};
@@ -26,18 +26,15 @@ use std::alloc::Global;
 /// blocks, unless a quick pass over the octets cannot tell whether they are canonical.
 ///
 /// # Errors
-/// Those of [`from_der_strict`].
+/// The errors of [`from_der_strict`].
 pub fn outline_strict<'a>(alloc: Global, octets: &'a [u8]) -> Result<Outline<'a>, ASN1DecodeErr>
     ensures document { IfOk result (λ outline. (bs : Trees ℕ) × CanonicalDocument octets.now bs
         × AreEntriesOf octets.now bs (entries_in outline)) }
     ensures lent { IfOk result (λ outline. octets_in outline ≡ octets.now) }
     ensures fault { IfErr result (OutOfMemoryOr (StrictFault octets.now)) }
-    ensures accepts { (bs : Trees ℕ) → CanonicalDocument octets.now bs
-        → MatchResult result
-        (λ outline. AreEntriesOf octets.now bs (entries_in outline))
-        (λ e. e ≡ OutOfMemory) }
-    ensures refuses { (fault : DecodeFault) → FirstFault octets.now fault
-        → IsErrAnd result (OutOfMemoryOr (λ e. e ≡ fault)) }
+    ensures accepts { ReadsEach result (CanonicalDocument octets.now)
+        (λ bs outline. AreEntriesOf octets.now bs (entries_in outline)) }
+    ensures refuses { RejectsWith result (FirstFault octets.now) }
     ensures not_canonical { (offset : ℕ) → IsNotCanonicalAt octets.now offset
         → IsErrAnd result (OutOfMemoryOr (λ e. e ≡ not_canonical offset)) }
 {

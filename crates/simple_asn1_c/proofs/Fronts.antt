@@ -4,20 +4,20 @@ use Rattle.std.specs.List.{slice_range}
 use Rattle.std.proofs.lemmas.List.{get_or_append_left, length-set, length-take-le, set-append_left, take_all}
 use Rattle.std.proofs.Math.Seq.{take-append-add}
 use Rattle.asn1_blocks.specs.declared.parsed.PlacedHeader.{PlacedHeader}
-use Rattle.asn1_blocks.specs.declared.reading.OpenFrame.{OpenFrame}
+use Rattle.asn1_blocks.specs.declared.read_loop.OpenFrame.{OpenFrame}
 use Rattle.asn1_blocks.specs.HeadersBegun.{IsReadInside}
 use Rattle.asn1_blocks.specs.Places.{HeaderFound}
 use Rattle.asn1_blocks.specs.Inner.LeafBlocks.{IsSingleAt}
 use Rattle.asn1_blocks.specs.Inner.ReaderSteps.{HasEndedIn, HasKept, HasLeaf, HasOpened, in_frame}
 use Rattle.asn1_blocks.proofs.OneReading.{Encodes-unique}
 use Rattle.asn1_outline.specs.Entries.{no_entry}
-use Rattle.asn1_outline.specs.Listing.{IsBegun, all_hold, sealed, with_items}
+use Rattle.asn1_outline.specs.Listing.{IsBegun, all_hold, with_items_at, with_items}
 use Rattle.asn1_outline.specs.declared.entry.Entry.{Entry}
 use Rattle.asn1_outline.specs.declared.listing.EntryBuilder.{EntryBuilder}
 use Rattle.asn1_outline.specs.declared.listing.EntryItems.{EntryItems}
 use Rattle.asn1_outline.proofs.Listed.{HasEndedIn-entry_builder, HasKept-entry_builder, HasLeaf-entry_builder, with_one_more, HasOpened-entry_builder}
 use Rattle.simple_asn1_c.specs.Inner.Fronts.{IsFront, holds_front}
-use Rattle.simple_asn1_c.specs.declared.front.FrontBuilder.{FrontBuilder}
+use Rattle.simple_asn1_c.specs.declared.front_builder.FrontBuilder.{FrontBuilder}
 
 -- as many entries as are kept, and as there are beyond them
 pub length-front : (b : FrontBuilder) (all : List Entry) → IsFront b all → length all ≡ length b.kept.items + b.beyond
@@ -84,15 +84,15 @@ HasLeaf-front x h offset limit depth a b i r n found shut (t, none, encoded) beg
 -- a builder of the first entries holds a frame that ended, as a builder of all entries does
 pub HasEndedIn-front :
     (x : List ℕ) (a b : FrontBuilder) (f : OpenFrame EntryItems) (i : EntryItems) (depth : ℕ) →
-    ((all : List Entry) → IsFront a all → IsFront b (sealed all f.items.entry f.items.count)) →
+    ((all : List Entry) → IsFront a all → IsFront b (with_items_at all f.items.entry f.items.count)) →
     HasEndedIn holds_front x f depth a i b (with_one_more i)
 HasEndedIn-front x a b f i depth is = record {
   holds = λ e fs ts us rest t d ends (all, w, held).
       let v = is all w in
       let step =
       HasEndedIn-entry_builder x (whole_builder a all w)
-      (whole_builder b (sealed all f.items.entry f.items.count) v) f i depth refl in
-      (sealed all f.items.entry f.items.count, v, step.holds e fs ts us rest t d ends held);
+      (whole_builder b (with_items_at all f.items.entry f.items.count) v) f i depth refl in
+      (with_items_at all f.items.entry f.items.count, v, step.holds e fs ts us rest t d ends held);
 }
 
 -- a builder of the first entries holds a failed attempt, as a builder of all entries does
@@ -116,9 +116,9 @@ set-append_right (x ∷ xs) ys n a =
     ap (λ k. set (x ∷ (xs ++ ys)) k a) (suc-add (length xs) n) ∙ ap (λ z. x ∷ z) (set-append_right xs ys n a)
 
 -- setting the items of an entry behind the first ones leaves these
-pub IsFront-sealed_behind : (b : FrontBuilder) (all : List Entry) (entry items : ℕ) → length b.kept.items ≤ entry →
-    IsFront b all → IsFront b (sealed all entry items)
-IsFront-sealed_behind b all entry items le w =
+pub IsFront-with_items_behind : (b : FrontBuilder) (all : List Entry) (entry items : ℕ) → length b.kept.items ≤ entry →
+    IsFront b all → IsFront b (with_items_at all entry items)
+IsFront-with_items_behind b all entry items le w =
     let own = length b.kept.items in
     let new = with_items items (length all) (get_or all entry no_entry) in
     let at : own + (entry - own) ≡ entry = omega (arith, le) in
@@ -130,13 +130,13 @@ IsFront-sealed_behind b all entry items le w =
     }
 
 -- setting the items of one of the first entries changes it there
-pub IsFront-sealed_within :
+pub IsFront-with_items_within :
     (b c : FrontBuilder) (all : List Entry) (entry items next : ℕ) (r : Entry) → entry < length b.kept.items →
     IsFront b all →
     r ≡ get_or b.kept.items entry no_entry → next ≡ length all →
     c.kept.items ≡ set b.kept.items entry (with_items items next r) →
-    c.beyond ≡ b.beyond → IsFront c (sealed all entry items)
-IsFront-sealed_within b c all entry items next r lt w is at new same =
+    c.beyond ≡ b.beyond → IsFront c (with_items_at all entry items)
+IsFront-with_items_within b c all entry items next r lt w is at new same =
     let there : r ≡ get_or all entry no_entry =
     is ∙ sym (ap (λ z. get_or z entry no_entry) w.whole ∙ get_or_append_left b.kept.items w.others no_entry entry lt) in
     let made = with_items items (length all) (get_or all entry no_entry) in

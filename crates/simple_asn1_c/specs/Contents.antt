@@ -17,7 +17,7 @@ use Rattle.simple_asn1_c.specs.Records.{HasHeader, HasNoLinks}
 use Rattle.simple_asn1_c.specs.Room.{ArePut}
 use Rattle.simple_asn1_c.specs.Status.{done, no_memory, no_such_value, out_of_range, status_of}
 use Rattle.simple_asn1_c.specs.declared.record.Block.{Block}
-use Rattle.simple_asn1_c.specs.declared.fault.FaultAnswer.{FaultAnswer}
+use Rattle.simple_asn1_c.specs.declared.first_fault.FaultAnswer.{FaultAnswer}
 use Rattle.simple_asn1_c.specs.declared.record.Outcome.{Outcome}
 
 -- what is put of the components that contents octets of an OBJECT IDENTIFIER mean; they mean none; or memory ran out

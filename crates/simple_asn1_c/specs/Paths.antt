@@ -1,6 +1,7 @@
 -- The encodings of a document that paths name, and what is answered of each.
 use Rattle.std.specs.Prelude.{◌≡◌, ℕ, zero, suc, ◌+◌, ◌^◌, ◌==◌, ℤ, pos, negsuc, List}
 use Rattle.std.specs.Prelude.{[], ◌∷◌, Option, None, Some, if◌then◌else◌, length, map, min, nat_lt, slice_range}
+use Rattle.asn1_headers.specs.declared.tags.TheConstants.{INTEGER}
 use Rattle.asn1_headers.specs.Header.{class_number, constructed_bit}
 use Rattle.asn1_numbers.specs.TwosComplement.{signed_number}
 use Rattle.asn1_outline.specs.Shapes.{contents_octets}
@@ -53,7 +54,8 @@ fitting (negsuc n) = if nat_lt n (2 ^ 63) then Some (negsuc n) else None
 -- the number of an INTEGER (X.690 8.3), if it is at least -2^63 and below 2^63
 abbrev pub integer_in : List ℕ → Entry → Option ℤ
 integer_in octets r =
-    if class_number r.class == 0 then (if r.tag == 2 then fitting (signed_number (contents_octets octets r)) else None)
+    if class_number r.class == 0
+    then (if r.tag == INTEGER then fitting (signed_number (contents_octets octets r)) else None)
     else None
 
 abbrev pub nothing_named : ℕ

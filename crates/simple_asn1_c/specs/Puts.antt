@@ -1,5 +1,6 @@
 -- The contents octets of a value, put into room that the caller has.
 use Rattle.std.specs.Prelude.{◌≡◌, ◌==◌, ◌⊎◌, ℕ, ℤ, ◌+◌, ◌*◌, ◌<◌, ◌≤◌, true, not, List, length, IsUtf8}
+use Rattle.asn1_headers.specs.declared.tags.TheConstants.{UTC_TIME, GENERALIZED_TIME}
 use Rattle.std.specs.Char.{is_ascii}
 use Rattle.std.specs.List.{list_all}
 use Rattle.std.specs.Str.{chars}
@@ -103,10 +104,10 @@ moment_in fields = record {
 -- that of neither
 pub data AnswersPutMoment (tag : ℕ) (m : Moment) (before after : List ℕ) (o : Outcome) : Type 0 where
   is_utc_time :
-      tag ≡ 23 → ArePutIf (IsFaithfulUtcTime m) (utc_time_contents m) not_a_date before after o →
+      tag ≡ UTC_TIME → ArePutIf (IsFaithfulUtcTime m) (utc_time_contents m) not_a_date before after o →
       AnswersPutMoment tag m before after o
   is_generalized_time :
-      tag ≡ 24 →
+      tag ≡ GENERALIZED_TIME →
       ArePutIf (IsFaithfulGeneralizedTime m) (generalized_time_contents m) not_a_date before after o →
       AnswersPutMoment tag m before after o
   is_no_time :

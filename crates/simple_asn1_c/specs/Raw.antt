@@ -1,6 +1,7 @@
 -- What is put of values and records as they are, whether or not they would be read back.
 use Rattle.std.specs.Prelude.{◌≡◌, ◌⊎◌, ◌<◌, ℕ, List, None, Some, IsUtf8, nat_lt}
 use Rattle.std.specs.Str.{chars}
+use Rattle.asn1_headers.specs.declared.tags.TheConstants.{UTC_TIME, GENERALIZED_TIME}
 use Rattle.asn1_headers.specs.declared.error.ASN1EncodeErr.{ASN1EncodeErr}
 use Rattle.asn1_headers.specs.declared.error.ASN1EncodeErr.TheVariants.{BitStringLength, CharacterTooLarge, ObjectIdentHasTooFewFields, ObjectIdentVal1TooLarge, ObjectIdentVal2TooLarge, OutOfMemory, YearOutOfRange}
 use Rattle.asn1_headers.specs.declared.header.ASN1Class.{ASN1Class}
@@ -81,10 +82,10 @@ pub data AnswersRawText (tag : ℕ) (text before after : List ℕ) (o : Outcome)
 -- and no fraction; or the tag number is that of neither
 pub data AnswersRawMoment (tag : ℕ) (m : Moment) (before after : List ℕ) (o : Outcome) : Type 0 where
   is_raw_utc_time :
-      tag ≡ 23 → ArePutIf (IsValid m) (utc_time_contents m) not_a_date before after o →
+      tag ≡ UTC_TIME → ArePutIf (IsValid m) (utc_time_contents m) not_a_date before after o →
       AnswersRawMoment tag m before after o
   is_raw_generalized_time :
-      tag ≡ 24 → ArePutIf (IsValid m) (generalized_time_contents m) not_a_date before after o →
+      tag ≡ GENERALIZED_TIME → ArePutIf (IsValid m) (generalized_time_contents m) not_a_date before after o →
       AnswersRawMoment tag m before after o
   is_no_raw_time :
       (IsMomentTag tag → ⊥) → IsNotPut no_such_value before after o → AnswersRawMoment tag m before after o

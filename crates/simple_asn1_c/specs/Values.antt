@@ -2,6 +2,7 @@
 use Rattle.std.specs.Prelude.{◌≡◌, ◌⊎◌, ℕ, ℤ, pos, Bool, List, FitsSigned, IsUtf8}
 use Rattle.std.specs.Int.{w64}
 use Rattle.std.specs.Str.{chars}
+use Rattle.asn1_headers.specs.declared.tags.TheConstants.{INTEGER, OBJECT_IDENTIFIER, UTC_TIME, GENERALIZED_TIME}
 use Rattle.asn1_headers.specs.declared.header.ASN1Class.TheVariants.{Universal}
 use Rattle.asn1_leaves.specs.Contents.Moment.{Moment}
 use Rattle.asn1_leaves.specs.StringKind.{StringKind}
@@ -42,16 +43,16 @@ IsIdentifierAt octets offset components = IsLeafAt octets offset (object_identif
 
 -- the tag numbers of these kinds
 abbrev pub IsIntegerTag : ℕ → Type 0
-IsIntegerTag tag = tag ≡ 2
+IsIntegerTag tag = tag ≡ INTEGER
 
 abbrev pub IsMomentTag : ℕ → Type 0
-IsMomentTag tag = (tag ≡ 23) ⊎ (tag ≡ 24)
+IsMomentTag tag = (tag ≡ UTC_TIME) ⊎ (tag ≡ GENERALIZED_TIME)
 
 abbrev pub IsTextTag : ℕ → Type 0
 IsTextTag tag = (kind : StringKind) × (tag ≡ string_tag kind)
 
 abbrev pub IsIdentifierTag : ℕ → Type 0
-IsIdentifierTag tag = tag ≡ 6
+IsIdentifierTag tag = tag ≡ OBJECT_IDENTIFIER
 
 -- at the offset stands an encoding of class Universal with this tag number and these contents octets
 pub record UniversalAt (octets : List ℕ) (offset tag : ℕ) (contents : List ℕ) : Type 0 where

@@ -4,7 +4,7 @@ ghost use Rattle.asn1_outline.specs.Entries.{HasTag};
 ghost use Rattle.simple_asn1_c.specs.Status.{no_memory, no_such_value};
 ghost use Rattle.simple_asn1_c.specs.Values.{UniversalAt};
 
-use crate::header::header_record;
+use crate::header_record::header_record;
 use crate::status::{NO_MEMORY, NO_SUCH_VALUE};
 use simple_asn1::encoding_at;
 use std::alloc::Global;

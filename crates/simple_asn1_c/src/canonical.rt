@@ -5,6 +5,11 @@ ghost use Rattle.asn1_blocks.specs.declared.block.GroupKind.{GroupKind};
 ghost use Rattle.simple_asn1.specs.Canonical.{shortest_encoding};
 ghost use Rattle.simple_asn1_c.specs.Inner.InRecords.{AreWrittenOfLeaf, HoldsBlocks, IsCanonicalBlock};
 
+use asn1_headers::tags::{
+    BIT_STRING, BMP_STRING, BOOLEAN, GENERALIZED_TIME, IA5_STRING, INTEGER, NULL,
+    OBJECT_IDENTIFIER, OCTET_STRING, PRINTABLE_STRING, SEQUENCE, SET, TELETEX_STRING,
+    UNIVERSAL_STRING, UTC_TIME, UTF8_STRING,
+};
 use asn1_leaves::contents::text::TextForm;
 use asn1_leaves::contents::{
     bit_string, boolean, generalized_time, integer, object_identifier, text, utc_time,
@@ -16,7 +21,20 @@ use simple_asn1::ASN1Class;
 fn is_known(tag: u64) -> bool
     ensures { result ≡ is_known_tag tag }
 {
-    matches!(tag, 1..=6 | 12 | 16 | 17 | 19 | 20 | 22 | 23 | 24 | 28 | 30)
+    matches!(
+        tag,
+        BOOLEAN..=OBJECT_IDENTIFIER
+            | UTF8_STRING
+            | SEQUENCE
+            | SET
+            | PRINTABLE_STRING
+            | TELETEX_STRING
+            | IA5_STRING
+            | UTC_TIME
+            | GENERALIZED_TIME
+            | UNIVERSAL_STRING
+            | BMP_STRING
+    )
 }
 
 // Whether the tag number is that of a SEQUENCE or SET.
@@ -25,8 +43,8 @@ fn is_group_tag(tag: u64) -> bool
     ensures { IsTrue result → (g : GroupKind) × (tag ≡ group_tag g) }
 {
     match tag {
-        16 => true,
-        17 => true,
+        SEQUENCE => true,
+        SET => true,
         _ => false,
     }
 }
@@ -37,20 +55,21 @@ fn are_written_of_leaf(tag: u64, contents: &[u8]) -> bool
     ensures { IsTrue result → AreWrittenOfLeaf tag contents.now }
 {
     match tag {
-        1 => boolean::are_meant(contents) && boolean::are_canonical(contents),
-        2 => integer::are_canonical(contents),
-        3 => bit_string::are_meant(contents) && bit_string::are_canonical(contents),
-        4 => true,
-        5 => contents.is_empty(),
-        6 => object_identifier::are_shortest(contents),
-        12 => text::are_meant(TextForm::Utf8, contents),
-        19 => text::are_meant(TextForm::Printable, contents),
-        20 => text::are_meant(TextForm::Utf8, contents),
-        22 => true,
-        23 => utc_time::are_meant(contents),
-        24 => generalized_time::are_meant(contents) && generalized_time::are_canonical(contents),
-        28 => text::are_meant(TextForm::Utf8, contents),
-        30 => text::are_meant(TextForm::Utf8, contents),
+        BOOLEAN => boolean::are_meant(contents) && boolean::are_canonical(contents),
+        INTEGER => integer::are_canonical(contents),
+        BIT_STRING => bit_string::are_meant(contents) && bit_string::are_canonical(contents),
+        OCTET_STRING => true,
+        NULL => contents.is_empty(),
+        OBJECT_IDENTIFIER => object_identifier::are_shortest(contents),
+        UTF8_STRING => text::are_meant(TextForm::Utf8, contents),
+        PRINTABLE_STRING => text::are_meant(TextForm::Printable, contents),
+        TELETEX_STRING => text::are_meant(TextForm::Utf8, contents),
+        IA5_STRING => true,
+        UTC_TIME => utc_time::are_meant(contents),
+        GENERALIZED_TIME => generalized_time::are_meant(contents)
+            && generalized_time::are_canonical(contents),
+        UNIVERSAL_STRING => text::are_meant(TextForm::Utf8, contents),
+        BMP_STRING => text::are_meant(TextForm::Utf8, contents),
         _ => false,
     }
 }

@@ -8,7 +8,7 @@ ghost use Rattle.std.specs.Prelude.{Bool, List, ℕ, string_bytes};
 ghost use Rattle.simple_asn1_c.specs.Contents.{AnswersHeader, AnswersTag, AnswersTagOctets};
 ghost use Rattle.simple_asn1_c.specs.Room.{ArePut};
 
-use crate::header::header_record;
+use crate::header_record::header_record;
 use crate::putting::{all_put, not_enough, nothing_put, put_octets};
 use crate::record::{Block, Outcome};
 use crate::status::{NO_MEMORY, NO_SUCH_VALUE};

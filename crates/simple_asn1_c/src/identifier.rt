@@ -10,6 +10,7 @@ use crate::dotted::put_decimal;
 use crate::putting::{nothing_put, put_octets};
 use crate::record::Outcome;
 use crate::status::{NO_MEMORY, NO_SUCH_VALUE, NOT_OID, OUT_OF_RANGE};
+use asn1_headers::tags::OBJECT_IDENTIFIER;
 use simple_asn1::{ASN1EncodeErr, OID};
 use std::alloc::Global;
 
@@ -20,7 +21,7 @@ pub fn identifier_at(alloc: Global, octets: &[u8], offset: usize, room: &mut [u8
         Ok(found) => found,
         Err(status) => return nothing_put(status, offset),
     };
-    if tag != 6 {
+    if tag != OBJECT_IDENTIFIER {
         return nothing_put(NO_SUCH_VALUE, offset);
     }
     match put_decimal(alloc, contents, room) {

@@ -8,6 +8,7 @@ use crate::number::int64_of;
 use crate::putting::{nothing_put, put_octets};
 use crate::record::{IntegerAnswer, Outcome};
 use crate::status::{DONE, NO_MEMORY, NO_SUCH_VALUE, OUT_OF_RANGE};
+use asn1_headers::tags::INTEGER;
 use simple_asn1::BigInt;
 use std::alloc::Global;
 
@@ -24,7 +25,7 @@ pub fn integer_at(alloc: Global, octets: &[u8], offset: usize) -> IntegerAnswer
         Ok(found) => found,
         Err(status) => return no_integer(status),
     };
-    if tag != 2 {
+    if tag != INTEGER {
         return no_integer(NO_SUCH_VALUE);
     }
     match int64_of(contents) {

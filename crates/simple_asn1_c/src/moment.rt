@@ -12,6 +12,7 @@ use crate::putting::{nothing_put, put_octets};
 use crate::record::{MomentAnswer, Outcome};
 use crate::status::{DATE, DONE, NO_SUCH_VALUE, status_of_fault};
 use arrayvec::ArrayVec;
+use asn1_headers::tags::{GENERALIZED_TIME, UTC_TIME};
 use asn1_leaves::contents::{generalized_time, utc_time};
 use asn1_outline::value::time_of;
 use jiff::civil::DateTime;
@@ -121,13 +122,13 @@ fn put_generalized_time(d: &DateTime, room: &mut [u8]) -> Outcome
 pub fn put_moment(tag: u64, fields: &MomentAnswer, room: &mut [u8]) -> Outcome
     ensures { AnswersPutMoment tag (moment_in fields.now) room.old room.new result }
 {
-    if tag != 23 && tag != 24 {
+    if tag != UTC_TIME && tag != GENERALIZED_TIME {
         return nothing_put(NO_SUCH_VALUE, 0);
     }
     let Some(d) = date_time(fields) else {
         return nothing_put(DATE, 0);
     };
-    if tag == 23 {
+    if tag == UTC_TIME {
         put_utc_time(&d, room)
     } else {
         put_generalized_time(&d, room)

@@ -4,10 +4,11 @@ ghost use Rattle.asn1_outline.specs.Shapes.{contents_octets};
 ghost use Rattle.simple_asn1_c.specs.Paths.{index_at, integer_in, item_from, items_end, no_value, path_in, value_of, value_with};
 ghost use Rattle.simple_asn1_c.specs.Room.{ArePut};
 
-use crate::header::class_number_of;
+use crate::header_record::class_number_of;
 use crate::number::int64_of;
 use crate::putting::{all_put, not_enough};
 use crate::record::{Outcome, Path, Value};
+use asn1_headers::tags::INTEGER;
 use asn1_outline::entry::Entry;
 use simple_asn1::ASN1Class;
 
@@ -93,7 +94,7 @@ fn integer_in(octets: &[u8], entry: &Entry) -> Option<i64>
     ensures { result ≡ integer_in octets.now entry.now }
 {
     match entry.class {
-        ASN1Class::Universal if entry.tag == 2 => int64_of(contents_in(octets, entry)),
+        ASN1Class::Universal if entry.tag == INTEGER => int64_of(contents_in(octets, entry)),
         _ => None,
     }
 }

@@ -16,6 +16,7 @@ use crate::record::{MomentAnswer, Outcome};
 use crate::status::{DATE, NO_MEMORY, NO_SUCH_VALUE, NOT_OID, OUT_OF_RANGE, UTF8};
 use arrayvec::ArrayVec;
 use asn1_blocks::contents::form_of;
+use asn1_headers::tags::{GENERALIZED_TIME, UTC_TIME};
 use asn1_leaves::contents::text::TextForm;
 use asn1_leaves::contents::{bit_string, generalized_time, text, utc_time};
 use jiff::civil::DateTime;
@@ -129,7 +130,7 @@ fn put_raw_generalized_time(d: &DateTime, room: &mut [u8]) -> Outcome
 pub fn put_raw_moment(tag: u64, fields: &MomentAnswer, room: &mut [u8]) -> Outcome
     ensures { AnswersRawMoment tag (moment_in fields.now) room.old room.new result }
 {
-    if tag != 23 && tag != 24 {
+    if tag != UTC_TIME && tag != GENERALIZED_TIME {
         return nothing_put(NO_SUCH_VALUE, 0);
     }
     let Some(d) = date_time(fields) else {
@@ -138,7 +139,7 @@ pub fn put_raw_moment(tag: u64, fields: &MomentAnswer, room: &mut [u8]) -> Outco
     if !generalized_time::is_faithful(&d) {
         return nothing_put(DATE, 0);
     }
-    if tag == 23 {
+    if tag == UTC_TIME {
         put_raw_utc_time(&d, room)
     } else {
         put_raw_generalized_time(&d, room)

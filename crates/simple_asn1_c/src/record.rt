@@ -2,7 +2,7 @@
 ghost use Rattle.std.specs.Prelude.{◌≡◌};
 ghost use Rattle.simple_asn1_c.specs.Records.{block_of};
 
-use crate::header::class_number_of;
+use crate::header_record::class_number_of;
 use asn1_outline::entry::Entry;
 use std::mem::size_of;
 

@@ -194,7 +194,7 @@ fn are_canonical_with(
     canonical && is_canonical_single(class, constructed, tag, contents)
 }
 
-// Whether they still are with a record that holds so many encodings.
+// Whether octets that were canonical so far still are with a record around them that holds so many encodings.
 #[inline(always)]
 fn are_canonical_around(canonical: bool, class: ASN1Class, tag: u64, items: usize) -> bool
     ensures so_far { IsTrue result → IsTrue canonical }

@@ -1,24 +1,24 @@
 // Documents into entries, of which no more are kept than the caller has room for: what is held is bounded by that room
 // and by the frames that are open.
 ghost use Rattle.std.specs.Prelude.{◌≡◌, ◌+◌, ◌<◌, ◌≤◌, ◌^◌, ◌++◌, ◌∷◌, [], ℕ, List, IfErr, IfOk, IsTrue, OnOk, false, length, suc, take, vec_capacity, vec_len};
-ghost use Rattle.asn1_headers.specs.Fault.{OutOfMemoryOr};
+ghost use Rattle.asn1_headers.specs.Reading.{OutOfMemoryOrAt};
 ghost use Rattle.asn1_headers.specs.declared.error.ASN1DecodeErr.TheVariants.{OutOfMemory};
 ghost use Rattle.asn1_blocks.specs.Grammar.{FirstFaultAt, IsDocument};
 ghost use Rattle.asn1_blocks.specs.Places.{HeaderFound};
 ghost use Rattle.asn1_blocks.specs.Tree.{Trees};
 ghost use Rattle.asn1_outline.specs.Entries.{AreEntriesOf};
-ghost use Rattle.asn1_outline.specs.Listing.{IsBegun, sealed};
+ghost use Rattle.asn1_outline.specs.Listing.{IsBegun, with_items_at};
 ghost use Rattle.asn1_outline.specs.declared.entry.Entry.{Entry};
 ghost use Rattle.simple_asn1_c.specs.Inner.Fronts.{IsFound, IsFront, holds_front};
 
-use crate::front::FrontBuilder;
+use crate::front_builder::FrontBuilder;
 use asn1_blocks::contents::check_contents;
 use asn1_blocks::parsed::PlacedHeader;
-use asn1_blocks::reading::{Builder, Extent, out_of_memory, read_into};
+use asn1_blocks::read_loop::{Builder, Extent, out_of_memory, read_into};
 use asn1_headers::error::{ASN1DecodeErr, LocatedErr};
 use asn1_headers::header::HeaderCount;
 use asn1_outline::entry::Entry;
-use asn1_outline::listing::{EntryItems, begun};
+use asn1_outline::listing::{EntryItems, header_entry};
 use std::alloc::{AllocError, Global};
 
 // Of so many octets at most it is guessed how many blocks they hold: one for 8, which few certificates have more than.
@@ -38,8 +38,7 @@ pub enum Found {
 pub fn entries_within(alloc: Global, octets: &[u8], room: usize) -> Result<Found, LocatedErr>
     ensures document { IfOk result (λ found. (bs : Trees ℕ) × (all : List Entry) × IsDocument octets.now bs
         × AreEntriesOf octets.now bs all × IsFound room all found) }
-    ensures refused { IfErr result
-        (λ e. OutOfMemoryOr (λ fault. FirstFaultAt octets.now fault e.offset) e.error) }
+    ensures refused { IfErr result (OutOfMemoryOrAt (FirstFaultAt octets.now)) }
 {
     let Ok(builder) = FrontBuilder::with_room(alloc, octets.len(), room) else {
         return Err(out_of_memory(0));
@@ -87,7 +86,7 @@ impl Builder for FrontBuilder {
         depth: usize,
     ) -> Result<EntryItems, AllocError> {
         let entry = self.count();
-        let block = started(octets, header, offset, entry, depth);
+        let block = encoding_entry(octets, header, offset, entry, depth);
         self.add(block, octets.len())?;
         Ok(EntryItems { entry, count: 0 })
     }
@@ -103,7 +102,7 @@ impl Builder for FrontBuilder {
         depth: usize,
     ) -> Result<(), ASN1DecodeErr> {
         let entry = self.count();
-        let block = started(octets, &header, offset, entry, depth);
+        let block = encoding_entry(octets, &header, offset, entry, depth);
         check_contents(alloc, &header, &octets[header.start..header.end])?;
         self.add(block, octets.len())?;
         Ok(items.add()?)
@@ -119,7 +118,7 @@ impl Builder for FrontBuilder {
         parent: &mut EntryItems,
         _depth: usize,
     ) -> Result<(), AllocError> {
-        self.seal(items);
+        self.set_items(items);
         parent.add()
     }
 
@@ -231,9 +230,9 @@ impl FrontBuilder {
 
     // The entry of a frame, if it is kept, holds the frame's blocks, which are all those after it.
     #[inline(always)]
-    fn seal(&mut self, items: EntryItems)
+    fn set_items(&mut self, items: EntryItems)
         ensures { (all : List Entry) → IsFront self.old all
-            → IsFront self.new (sealed all items.entry items.count) }
+            → IsFront self.new (with_items_at all items.entry items.count) }
     {
         let next = self.count();
         if items.entry >= self.kept.len() {
@@ -260,7 +259,7 @@ impl FrontBuilder {
 
 // The entry of an encoding, which holds no blocks so far.
 #[inline(always)]
-fn started(
+fn encoding_entry(
     _octets: &[u8],
     header: &PlacedHeader,
     offset: usize,
@@ -272,5 +271,5 @@ fn started(
     requires next { suc entry < 2 ^ 64 }
     ensures { IsBegun _octets.now offset entry depth result }
 {
-    begun(header, offset, entry, depth)
+    header_entry(header, offset, entry, depth)
 }

@@ -1,94 +1,103 @@
-//! A tree that grows at its end. Each block is made where it stays, so that none is copied when it is added, nor when
-//! the block around it is closed.
+//! A tree that grows at its end. Each block is made where it stays, so that none is copied when it is added, and nothing
+//! is done where the block around it ends: the depth of the next one says into which block it goes.
 
 use crate::calls::Block;
 use crate::ASN1Block;
+use std::marker::PhantomData;
 use std::mem::{self, MaybeUninit};
 use std::ptr;
 
-/// No certificate nests more deeply.
-const USUAL_DEPTH: usize = 16;
+/// No certificate nests more deeply, or has more attempts.
+const USUAL_DEPTH: usize = 32;
+const USUAL_ATTEMPTS: usize = 16;
 
-/// A block that is open: its record, and its items, which are those of the last block among the items around it.
-struct Open<'a> {
+/// A block of another class than Universal, which holds one other, and so far is a SEQUENCE of this one.
+struct Attempt<'a> {
+    block: *mut ASN1Block,
     record: &'a Block,
-    items: *mut Vec<ASN1Block>,
 }
 
-/// Blocks, and those of them that are open: items are added to the innermost. Outside all is the document, whose record
-/// `new` is given.
+/// Blocks, to which others are added in the order of their records.
 pub(crate) struct Growing<'a> {
-    innermost: Open<'a>,
-    around: Vec<Open<'a>>,
+    /// The items at each depth to which a block is added: those of the document, and of the last block that was opened
+    /// at the depth before.
+    items: Vec<*mut Vec<ASN1Block>>,
+    /// In the order of their records.
+    attempts: Vec<Attempt<'a>>,
+    blocks: PhantomData<&'a mut Vec<ASN1Block>>,
 }
 
 impl<'a> Growing<'a> {
-    /// Adds to the blocks of a document.
-    pub fn new(record: &'a Block, blocks: &'a mut Vec<ASN1Block>) -> Growing<'a> {
-        Growing { innermost: Open { record, items: blocks }, around: Vec::with_capacity(USUAL_DEPTH) }
+    /// Adds to the blocks of a document, which have room for all.
+    pub fn new(blocks: &'a mut Vec<ASN1Block>) -> Growing<'a> {
+        let mut items = Vec::with_capacity(USUAL_DEPTH);
+        items.push(ptr::from_mut(blocks));
+        Growing { items, attempts: Vec::with_capacity(USUAL_ATTEMPTS), blocks: PhantomData }
     }
 
-    /// The record of the innermost block that is open.
+    // SAFETY, of each below, whatever the records say: no vector of blocks gets more items than it has room for, so no
+    // block moves, and none is dropped but what `give_up` returns, after which nothing here points into it. What a
+    // pointer leads to is borrowed for one step, and a pointer to the items of a block is made of that to the block.
+
+    /// Adds a block at a depth, which `write` makes where it stays.
     #[inline(always)]
-    pub fn record(&self) -> &'a Block {
-        self.innermost.record
+    pub fn push(
+        &mut self,
+        depth: usize,
+        write: impl for<'s> FnOnce(&'s mut MaybeUninit<ASN1Block>) -> &'s mut ASN1Block,
+    ) {
+        let items = unsafe { &mut *self.items[depth] };
+        let slot = &mut items.spare_capacity_mut()[0];
+        let place = slot.as_ptr();
+        assert!(ptr::eq(write(slot), place));
+        // there is an item at the place, to which `write` has returned a reference
+        unsafe { items.set_len(items.len() + 1) };
     }
 
-    /// How many blocks are open.
-    #[inline(always)]
-    pub fn depth(&self) -> usize {
-        self.around.len()
-    }
-
-    // SAFETY, of each below: the items of the innermost block are borrowed by nothing else, since the document is
-    // borrowed for as long as this lives, and what `close` returns borrows the whole of this. They have not moved since
-    // they were opened, since nothing is added to the items around them until they are closed.
-
-    /// Adds a block, which `write` makes where it stays.
-    #[inline(always)]
-    pub fn push(&mut self, write: impl for<'s> FnOnce(&'s mut MaybeUninit<ASN1Block>) -> &'s mut ASN1Block) {
-        let items = unsafe { &mut *self.innermost.items };
-        push_with(items, write);
-    }
-
-    /// Adds a SEQUENCE or SET, to which items are added until it is closed.
+    /// Adds a block that holds others, as a SEQUENCE or SET. Those behind it that are deeper are its items.
     #[inline(always)]
     pub fn open(&mut self, record: &'a Block) {
-        let items = unsafe { &mut *self.innermost.items };
-        let offset = record.offset;
-        let made = push_with(items, |slot| match record.tag {
-            17 => slot.write(ASN1Block::Set(offset, Vec::with_capacity(record.items))),
-            _ => slot.write(ASN1Block::Sequence(offset, Vec::with_capacity(record.items))),
-        });
-        if let ASN1Block::Sequence(_, items) | ASN1Block::Set(_, items) = made {
-            self.around.push(mem::replace(&mut self.innermost, Open { record, items }));
+        let around = unsafe { &mut *self.items[record.depth] };
+        let block = around.spare_capacity_mut()[0].as_mut_ptr();
+        let (offset, inside) = (record.offset, Vec::with_capacity(record.items));
+        let items = unsafe {
+            match record.tag {
+                17 => block.write(ASN1Block::Set(offset, inside)),
+                _ => block.write(ASN1Block::Sequence(offset, inside)),
+            }
+            around.set_len(around.len() + 1);
+            items_of(&mut *block)
+        };
+        if record.tag_class != 0 {
+            self.attempts.push(Attempt { block, record });
         }
+        self.items.truncate(record.depth + 1);
+        self.items.push(items);
     }
 
-    /// Closes the innermost block, and returns it and its record; `None` if only the document is open.
-    #[inline(always)]
-    pub fn close(&mut self) -> Option<(&mut ASN1Block, &'a Block)> {
-        let around = self.around.pop()?;
-        let closed = mem::replace(&mut self.innermost, around).record;
-        let items = unsafe { &mut *self.innermost.items };
-        Some((items.last_mut()?, closed))
+    /// Makes another block in the place of the innermost attempt that goes on at the index. Returns its record and what
+    /// stood there; `None` if there is no such attempt.
+    #[cold]
+    pub fn give_up(&mut self, index: usize, made: impl FnOnce(&Block) -> ASN1Block) -> Option<(&'a Block, ASN1Block)> {
+        let innermost = self.attempts.iter().rposition(|attempt| attempt.record.next > index)?;
+        let Attempt { block, record } = self.attempts.drain(innermost..).next()?;
+        self.items.truncate(record.depth + 1);
+        Some((record, mem::replace(unsafe { &mut *block }, made(record))))
+    }
+
+    /// Lends each attempt, the last first, so that none is moved before those inside it.
+    pub fn finish(mut self, mut finish: impl FnMut(&mut ASN1Block, &Block)) {
+        while let Some(Attempt { block, record }) = self.attempts.pop() {
+            finish(unsafe { &mut *block }, record);
+        }
     }
 }
 
-/// Adds an item, which `write` makes where it stays.
 #[inline(always)]
-fn push_with<T>(items: &mut Vec<T>, write: impl for<'s> FnOnce(&'s mut MaybeUninit<T>) -> &'s mut T) -> &mut T {
-    let used = items.len();
-    if used == items.capacity() {
-        items.reserve(1);
-    }
-    let slot = &mut items.spare_capacity_mut()[0];
-    let place = slot.as_mut_ptr();
-    assert!(ptr::eq(write(slot), place));
-    // SAFETY: there is an item at the place, to which `write` has returned a reference.
-    unsafe {
-        items.set_len(used + 1);
-        &mut *place
+fn items_of(block: &mut ASN1Block) -> &mut Vec<ASN1Block> {
+    match block {
+        ASN1Block::Sequence(_, items) | ASN1Block::Set(_, items) => items,
+        _ => unreachable!("it is made as one of these"),
     }
 }
 

@@ -4,6 +4,7 @@ use crate::calls::{self, Block};
 use crate::growing::{only, Growing};
 use crate::{base128, ASN1Block, ASN1Class, ASN1DecodeErr, BigInt, BigUint, OID};
 use simple_asn1_sys as sys;
+use std::iter;
 use std::mem::{self, MaybeUninit};
 use std::sync::atomic::{AtomicUsize, Ordering::Relaxed};
 use time::{Date, Month, PrimitiveDateTime, Time};
@@ -51,7 +52,7 @@ pub fn from_der(i: &[u8]) -> Result<Vec<ASN1Block>, ASN1DecodeErr> {
 /// The blocks of these records. `EmptyBuffer` if a SEQUENCE or SET is empty, outside any attempt to read a block of
 /// another class; `Overflow` if the blocks nest too deeply.
 fn build(octets: &[u8], records: &[Block], max_depth: usize) -> Result<Vec<ASN1Block>, ASN1DecodeErr> {
-    let mut blocks = Vec::with_capacity(1);
+    let mut blocks = Vec::with_capacity(top_level_count(records));
     match add_blocks(octets, records, max_depth, &mut blocks) {
         Ok(()) => Ok(blocks),
         Err(fault) => {
@@ -61,35 +62,34 @@ fn build(octets: &[u8], records: &[Block], max_depth: usize) -> Result<Vec<ASN1B
     }
 }
 
+/// The number of blocks at the top level.
+fn top_level_count(records: &[Block]) -> usize {
+    iter::successors(records.first(), |record| records.get(record.next)).count()
+}
+
 fn add_blocks(
     octets: &[u8],
     records: &[Block],
     max_depth: usize,
     blocks: &mut Vec<ASN1Block>,
 ) -> Result<(), ASN1DecodeErr> {
-    let document = Block { next: records.len(), ..Block::default() };
-    let mut growing = Growing::new(&document, blocks);
+    let mut growing = Growing::new(blocks);
     let mut index = 0;
-    loop {
-        while index == growing.record().next {
-            let Some((block, record)) = growing.close() else { return Ok(()) };
-            if record.tag_class != 0 {
-                make_explicit(octets, record, block);
-            }
-        }
-        let record = &records[index];
+    while let Some(record) = records.get(index) {
         if !holds_blocks(record) {
-            growing.push(|slot| write_leaf(slot, octets, record));
+            growing.push(record.depth, |slot| write_leaf(slot, octets, record));
             index = record.next;
         } else if is_empty_group(record) {
-            index = give_up_attempt(octets, &mut growing).ok_or(ASN1DecodeErr::EmptyBuffer)?;
-        } else if growing.depth() < max_depth {
+            index = give_up_attempt(octets, &mut growing, index).ok_or(ASN1DecodeErr::EmptyBuffer)?;
+        } else if record.depth < max_depth {
             growing.open(record);
             index += 1;
         } else {
             return Err(ASN1DecodeErr::Overflow);
         }
     }
+    growing.finish(|block, record| make_explicit(octets, record, block));
+    Ok(())
 }
 
 /// Whether a block is read as one that holds others.
@@ -117,14 +117,10 @@ fn make_explicit(octets: &[u8], record: &Block, block: &mut ASN1Block) {
 
 /// The innermost attempt stays as it came, and the index after it is next; `None` if there is none.
 #[cold]
-fn give_up_attempt(octets: &[u8], growing: &mut Growing) -> Option<usize> {
-    loop {
-        let (block, record) = growing.close()?;
-        if record.tag_class != 0 {
-            discard(vec![mem::replace(block, unknown(octets, record))]);
-            return Some(record.next);
-        }
-    }
+fn give_up_attempt(octets: &[u8], growing: &mut Growing, index: usize) -> Option<usize> {
+    let (record, block) = growing.give_up(index, |record| unknown(octets, record))?;
+    discard(vec![block]);
+    Some(record.next)
 }
 
 /// Drops blocks by a loop, however deeply they nest.

@@ -10,6 +10,7 @@ ghost use Rattle.simple_asn1.specs.Inner.InEntries.{HasCanonicalAt, HasShortestA
 use crate::outline::frequent::begin_with_frequent;
 use crate::write::in_place::are_leaf_contents_canonical;
 use asn1_headers::header::{ASN1Class, length_size};
+use asn1_headers::tags::{SEQUENCE, SET};
 use asn1_outline::entry::Entry;
 
 // Whether the entries of a document are found to be those of a canonical one: `false` says nothing.
@@ -76,9 +77,9 @@ fn is_canonical_universal(octets: &[u8], entry: &Entry) -> bool
 // Whether the tag number is that of a SEQUENCE or SET.
 #[inline(always)]
 fn is_group_tag(tag: u64) -> bool
-    ensures { IsTrue result → (tag ≡ 16) ⊎ (tag ≡ 17) }
+    ensures { IsTrue result → (tag ≡ SEQUENCE) ⊎ (tag ≡ SET) }
 {
-    matches!(tag, 16 | 17)
+    matches!(tag, SEQUENCE | SET)
 }
 
 // Whether the header of the entry has its shortest form, and a tag number below 31. 80 is as short as 00.

@@ -6,8 +6,9 @@ ghost use Rattle.simple_asn1.specs.Inner.InEntries.{BeginsCanonical, IsOfOneForm
 use crate::write::in_place::{
     are_leaf_contents_canonical, begin_with_identifier, begin_with_integer,
 };
+use asn1_headers::tags::NULL;
 
-// So many octets have to stand in front. Then no pattern below has to look at how many there are.
+// How many octets have to stand in front: then no pattern below has to look at how many there are.
 const ENOUGH: usize = 18;
 
 // Whether such an encoding stands in front: `false` says nothing.
@@ -35,7 +36,7 @@ fn is_frequent(leading: u8, length: u8, rest: &[u8]) -> bool
         return true;
     }
     if leading == 5 && length == 0 {
-        return are_leaf_contents_canonical(5, &[]);
+        return are_leaf_contents_canonical(NULL, &[]);
     }
     leading == 6 && begin_with_identifier(rest, length as usize)
 }

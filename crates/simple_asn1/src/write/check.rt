@@ -1,6 +1,6 @@
 // Whether octets are a document: they are read, and nothing is built of the blocks.
-ghost use Rattle.std.specs.Prelude.{◌≡◌, ℕ, IfErr, IsErrAnd, OnOk};
-ghost use Rattle.asn1_headers.specs.Fault.{DecodeFault, OutOfMemoryOr};
+ghost use Rattle.std.specs.Prelude.{◌≡◌, ℕ, IfErr, OnOk};
+ghost use Rattle.asn1_headers.specs.Reading.{OutOfMemoryOrAt, RejectsAt};
 ghost use Rattle.asn1_headers.specs.declared.error.ASN1DecodeErr.TheVariants.{OutOfMemory};
 ghost use Rattle.asn1_blocks.specs.Grammar.{FirstFaultAt, IsDocument};
 ghost use Rattle.asn1_blocks.specs.Tree.{Trees};
@@ -8,7 +8,7 @@ ghost use Rattle.simple_asn1.specs.Inner.Checking.{nothing_held};
 
 use asn1_blocks::contents::check_contents;
 use asn1_blocks::parsed::PlacedHeader;
-use asn1_blocks::reading::{Builder, Extent, read_into};
+use asn1_blocks::read_loop::{Builder, Extent, read_into};
 use asn1_headers::error::{ASN1DecodeErr, LocatedErr};
 use asn1_headers::header::HeaderCount;
 use std::alloc::{AllocError, Global};
@@ -21,9 +21,9 @@ use std::alloc::{AllocError, Global};
 /// nesting.
 ///
 /// # Errors
-/// Those of [`from_der`](crate::from_der), each with the offset of the innermost block that the fault belongs to: the
-/// block whose header or contents octets are at fault, and not the SEQUENCE or SET around it. For an empty input it is
-/// 0.
+/// The errors of [`from_der`](crate::from_der), each with the offset of the innermost block that the fault belongs to:
+/// the block whose header or contents octets are at fault, and not the SEQUENCE or SET around it. For an empty input it
+/// is 0.
 ///
 /// ```rust
 /// use simple_asn1::check_document;
@@ -39,20 +39,16 @@ use std::alloc::{AllocError, Global};
 /// ```
 pub fn check_document(alloc: Global, i: &[u8]) -> Result<(), LocatedErr>
     ensures document { OnOk result ((bs : Trees ℕ) × IsDocument i.now bs) }
-    ensures fault { IfErr result
-        (λ e. OutOfMemoryOr (λ fault. FirstFaultAt i.now fault e.offset) e.error) }
+    ensures fault { IfErr result (OutOfMemoryOrAt (FirstFaultAt i.now)) }
     ensures accepts { (bs : Trees ℕ) → IsDocument i.now bs → IfErr result (λ e. e.error ≡ OutOfMemory) }
-    ensures refuses { (fault : DecodeFault) (offset : ℕ) → FirstFaultAt i.now fault offset
-        → IsErrAnd result
-        (λ e. OutOfMemoryOr (λ found. (found ≡ fault) × (e.offset ≡ offset)) e.error) }
+    ensures refuses { RejectsAt result (FirstFaultAt i.now) }
 {
     checked(alloc, i)
 }
 
 fn checked(alloc: Global, i: &[u8]) -> Result<(), LocatedErr>
     ensures document { OnOk result ((bs : Trees ℕ) × IsDocument i.now bs) }
-    ensures fault { IfErr result
-        (λ e. OutOfMemoryOr (λ fault. FirstFaultAt i.now fault e.offset) e.error) }
+    ensures fault { IfErr result (OutOfMemoryOrAt (FirstFaultAt i.now)) }
 {
     let mut count = HeaderCount::new();
     match read_into(alloc, i, NoBlocks, NoBlocks, &mut count) {

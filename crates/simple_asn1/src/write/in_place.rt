@@ -10,13 +10,16 @@ ghost use Rattle.asn1_headers.specs.declared.error.ASN1DecodeErr.TheVariants.{Ou
 use asn1_headers::error::ASN1DecodeErr;
 use asn1_headers::front::{Header, read_header};
 use asn1_headers::header::{ASN1Class, HeaderCount, identifier_size, length_size};
+use asn1_headers::tags::{
+    BIT_STRING, BOOLEAN, GENERALIZED_TIME, INTEGER, NULL, OBJECT_IDENTIFIER, SEQUENCE, SET,
+};
 use asn1_leaves::contents::{bit_string, boolean, generalized_time, integer, object_identifier};
 use asn1_numbers::number::big_uint::BigUint;
 use smallvec::SmallVec;
 use std::alloc::{AllocError, Global};
 use std::simd::prelude::*;
 
-// So many octets are looked at at once. Few object identifiers have more.
+// How many octets are looked at at once. Few object identifiers have more.
 const LANES: usize = 16;
 
 // Whether the header at the front of the octets has its shortest form. 80 is as short as 00.
@@ -39,7 +42,7 @@ fn is_of_group(header: &Header) -> bool
 {
     match header.class {
         ASN1Class::Universal => {
-            header.constructed && matches!(header.tag.to_u64(), Some(16 | 17))
+            header.constructed && matches!(header.tag.to_u64(), Some(SEQUENCE | SET))
         }
         _ => false,
     }
@@ -63,13 +66,13 @@ pub(crate) fn are_leaf_contents_canonical(tag: u64, contents: &[u8]) -> bool
     ensures { IsTrue result → AreCanonicalContents Universal false tag contents.now }
 {
     match tag {
-        1 => boolean::are_canonical(contents),
-        2 => integer::are_canonical(contents),
-        3 => bit_string::are_canonical(contents),
-        5 => contents.is_empty(),
-        6 => object_identifier::are_shortest(contents),
-        16 | 17 => false,
-        24 => generalized_time::are_canonical(contents),
+        BOOLEAN => boolean::are_canonical(contents),
+        INTEGER => integer::are_canonical(contents),
+        BIT_STRING => bit_string::are_canonical(contents),
+        NULL => contents.is_empty(),
+        OBJECT_IDENTIFIER => object_identifier::are_shortest(contents),
+        SEQUENCE | SET => false,
+        GENERALIZED_TIME => generalized_time::are_canonical(contents),
         _ => true,
     }
 }
@@ -81,7 +84,7 @@ pub(crate) fn begin_with_identifier(octets: &[u8], size: usize) -> bool
     ensures short { IsTrue result → size ≤ 16 }
     ensures within { IsTrue result → size ≤ length octets.now }
     ensures canonical { IsTrue result
-        → AreCanonicalContents Universal false 6 (take size octets.now) }
+        → AreCanonicalContents Universal false OBJECT_IDENTIFIER (take size octets.now) }
 {
     if size > LANES || octets.len() < LANES {
         return false;
@@ -96,7 +99,7 @@ pub(crate) fn begin_with_identifier(octets: &[u8], size: usize) -> bool
 pub(crate) fn begin_with_integer(octets: &[u8], size: u8) -> bool
     ensures short { IsTrue result → size < 128 }
     ensures canonical { IsTrue result
-        → AreCanonicalContents Universal false 2 (take size octets.now) }
+        → AreCanonicalContents Universal false INTEGER (take size octets.now) }
 {
     if size < 2 || size > 127 {
         return size == 1 && !octets.is_empty();
@@ -123,16 +126,36 @@ fn past_header<'a>(
 ) -> Result<Option<(&'a [u8], &'a [u8])>, AllocError>
     ensures { IfOk result (λ found. IfSome found (λ x. LeavesBoth octets.now x.0.now x.1.now)) }
 {
-    if let Some(after) = past_identifier(octets) {
+    if let Some(after) = past_identifiers(octets) {
         return Ok(Some((&[], after)));
     }
-    if let Some(after) = past_integer(octets) {
+    if let Some(after) = past_integers(octets) {
         return Ok(Some((&[], after)));
     }
     match octets {
         [leading, length, ..] if *length < 128 => past_short(alloc, octets, *leading, *length),
         _ => past_any(alloc, octets),
     }
+}
+
+// While more octets are left, an encoding of two and as many contents octets as a length octet says has an end.
+const MOST_SHORT: usize = 257;
+
+// The octets after OBJECT IDENTIFIERs in front, at least one, that are short and found to be canonical.
+#[inline(always)]
+fn past_identifiers<'a>(octets: &'a [u8]) -> Option<&'a [u8]>
+    ensures { IfSome result (λ after. LeavesBoth octets.now [] after.now) }
+{
+    let Some(mut rest) = past_identifier(octets) else {
+        return None;
+    };
+    'identifiers: while rest.len() > MOST_SHORT {
+        let Some(after) = past_identifier(rest) else {
+            return Some(rest);
+        };
+        rest = after;
+    }
+    Some(rest)
 }
 
 // The octets after an OBJECT IDENTIFIER in front that is short and found to be canonical.
@@ -149,6 +172,23 @@ fn past_identifier<'a>(octets: &'a [u8]) -> Option<&'a [u8]>
     }
     let (_, after) = rest.split_at(size);
     Some(after)
+}
+
+// The octets after INTEGERs in front, at least one, that are short and found to be canonical.
+#[inline(always)]
+fn past_integers<'a>(octets: &'a [u8]) -> Option<&'a [u8]>
+    ensures { IfSome result (λ after. LeavesBoth octets.now [] after.now) }
+{
+    let Some(mut rest) = past_integer(octets) else {
+        return None;
+    };
+    'integers: while rest.len() > MOST_SHORT {
+        let Some(after) = past_integer(rest) else {
+            return Some(rest);
+        };
+        rest = after;
+    }
+    Some(rest)
 }
 
 // The octets after an INTEGER in front that is short and found to be canonical.

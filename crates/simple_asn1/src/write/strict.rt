@@ -1,12 +1,12 @@
 // Reading documents that are in canonical form, and no others.
-ghost use Rattle.std.specs.Prelude.{◌≡◌, ◌↔◌, ℕ, None, drop, IfOk, IfErr, IsErrAnd, IsTrue, MatchOption, MatchResult};
+ghost use Rattle.std.specs.Prelude.{◌≡◌, ◌↔◌, ℕ, None, drop, IfOk, IfErr, IsErrAnd, IsTrue, MatchOption};
 ghost use Rattle.simple_asn1.specs.Canonical.{all_canonical, first_write_fault};
-ghost use Rattle.asn1_headers.specs.Fault.{DecodeFault, OutOfMemoryOr, not_canonical};
+ghost use Rattle.asn1_headers.specs.Fault.{OutOfMemoryOr, not_canonical};
+ghost use Rattle.asn1_headers.specs.Reading.{ReadsEach, RejectsWith};
 ghost use Rattle.asn1_blocks.specs.Grammar.{IsDocument, FirstFault};
 ghost use Rattle.asn1_blocks.specs.Places.{end_before};
 ghost use Rattle.simple_asn1.specs.ReadBack.{CanonicalDocument};
 ghost use Rattle.simple_asn1.specs.Strict.{EqualByOctets, FirstNotCanonical, IsNotCanonicalAt, StrictFault};
-ghost use Rattle.asn1_blocks.specs.Tree.{Trees};
 ghost use Rattle.asn1_blocks.specs.View.{views};
 ghost use Rattle.asn1_headers.specs.declared.error.ASN1DecodeErr.TheVariants.{OutOfMemory};
 
@@ -47,15 +47,14 @@ use std::slice;
 /// ```
 ///
 /// # Errors
-/// Those of [`from_der`](crate::from_der). For a document, `NotCanonical` with the offset of the first top-level block
-/// whose octets are not its canonical ones.
+/// The errors of [`from_der`](crate::from_der). For a document, `NotCanonical` with the offset of the first top-level
+/// block whose octets are not its canonical ones.
 pub fn from_der_strict(alloc: Global, i: &[u8]) -> Result<Vec<ASN1Block>, ASN1DecodeErr>
     ensures document { IfOk result (λ blocks. CanonicalDocument i.now (views blocks.items)) }
     ensures fault { IfErr result (OutOfMemoryOr (StrictFault i.now)) }
-    ensures accepts { (bs : Trees ℕ) → CanonicalDocument i.now bs
-        → MatchResult result (λ blocks. views blocks.items ≡ bs) (λ e. e ≡ OutOfMemory) }
-    ensures refuses { (fault : DecodeFault) → FirstFault i.now fault
-        → IsErrAnd result (OutOfMemoryOr (λ e. e ≡ fault)) }
+    ensures accepts { ReadsEach result (CanonicalDocument i.now)
+        (λ bs blocks. views blocks.items ≡ bs) }
+    ensures refuses { RejectsWith result (FirstFault i.now) }
     ensures not_canonical { (offset : ℕ) → IsNotCanonicalAt i.now offset
         → IsErrAnd result (OutOfMemoryOr (λ e. e ≡ not_canonical offset)) }
 

@@ -1,11 +1,11 @@
 -- Entries of which the first are kept. Private contracts alone name this.
 use Rattle.std.specs.Prelude.{◌≡◌, ℕ, ◌<◌, ◌++◌, List, length}
-use Rattle.asn1_blocks.specs.declared.reading.OpenFrame.{OpenFrame}
+use Rattle.asn1_blocks.specs.declared.read_loop.OpenFrame.{OpenFrame}
 use Rattle.asn1_blocks.specs.Tree.{Tree}
 use Rattle.asn1_outline.specs.Listing.{all_hold}
 use Rattle.asn1_outline.specs.declared.entry.Entry.{Entry}
 use Rattle.asn1_outline.specs.declared.listing.EntryItems.{EntryItems}
-use Rattle.simple_asn1_c.specs.declared.front.FrontBuilder.{FrontBuilder}
+use Rattle.simple_asn1_c.specs.declared.front_builder.FrontBuilder.{FrontBuilder}
 use Rattle.simple_asn1_c.specs.declared.within.Found.{Found}
 use Rattle.simple_asn1_c.specs.declared.within.Found.TheVariants.{Entries, Count}
 

@@ -24,17 +24,17 @@ returns-in-Err c =
     c.nothing_put.result.status c.in-Err.ensures.missing put.status)
     put.offset put.count refl
 
-pub returns-then-tag-ne6 : goal.returns-then-tag-ne6
-returns-then-tag-ne6 c =
+pub returns-then-tag-ne-OBJECT_IDENTIFIER : goal.returns-then-tag-ne-OBJECT_IDENTIFIER
+returns-then-tag-ne-OBJECT_IDENTIFIER c =
     let octets = c.args.octets.now in
     let offset = c.args.offset in
-    let put = c.nothing_put-then-tag-ne6.ensures in
+    let put = c.nothing_put-then-tag-ne-OBJECT_IDENTIFIER.ensures in
     let (n, u, number) = c.in-Ok.ensures.found in
     identifier_is_missing
     (IsMissing-other_tag octets offset ((ns : List ℕ) × IsIdentifierAt octets offset ns) IsIdentifierTag
     (IsLeafAt-identifier octets offset)
-    c.nothing_put-then-tag-ne6.result.status n c.in-Ok.found.0 c.in-Ok.found.1.now u number (λ m t. omega (arith, t))
-    c.if-tag-ne6.true put.status)
+    c.nothing_put-then-tag-ne-OBJECT_IDENTIFIER.result.status n c.in-Ok.found.0 c.in-Ok.found.1.now u number
+    (λ m t. omega (arith, t)) c.if-tag-ne-OBJECT_IDENTIFIER.true put.status)
     put.offset put.count refl
 
 pub returns-in-Ok-put_decimal : goal.returns-in-Ok-put_decimal
@@ -44,7 +44,7 @@ returns-in-Ok-put_decimal c =
     let v = c.in-Ok.found.1.now in
     let (n, u, number) = c.in-Ok.ensures.found in
     let (ns, meant, put) = c.in-Ok-put_decimal.ensures.put in
-    let six : n ≡ 6 = HasTag-small n c.in-Ok.found.0 6 number c.if-tag-ne6.false (omega arith) in
+    let six : n ≡ 6 = HasTag-small n c.in-Ok.found.0 6 number c.if-tag-ne-OBJECT_IDENTIFIER.false (omega arith) in
     let is =
     IsLeafAt-universal octets offset (object_identifier ns) v
     (subst (λ z. UniversalAt octets offset z v) six u) meant in
@@ -57,7 +57,7 @@ returns-in-Err-put_decimal c =
     let v = c.in-Ok.found.1.now in
     let put = c.nothing_put-in-Err-put_decimal.ensures in
     let (n, u, number) = c.in-Ok.ensures.found in
-    let six : n ≡ 6 = HasTag-small n c.in-Ok.found.0 6 number c.if-tag-ne6.false (omega arith) in
+    let six : n ≡ 6 = HasTag-small n c.in-Ok.found.0 6 number c.if-tag-ne-OBJECT_IDENTIFIER.false (omega arith) in
     let (kept, why) = c.in-Err-put_decimal.ensures.refused in
     elim why [
       | inl memory ↦ identifier_is_missing (inl (put.status ∙ memory)) put.offset put.count kept

@@ -29,18 +29,18 @@ returns-in-Err c =
     c.in-Err.ensures.missing c.no_integer.ensures.0)
     c.no_integer.ensures.1
 
-pub returns-then-tag-ne2 : goal.returns-then-tag-ne2
-returns-then-tag-ne2 c =
+pub returns-then-tag-ne-INTEGER : goal.returns-then-tag-ne-INTEGER
+returns-then-tag-ne-INTEGER c =
     let octets = c.args.octets.now in
     let offset = c.args.offset in
     let (n, u, number) = c.in-Ok.ensures.found in
     integer_is_missing
     (IsMissing-other_tag octets offset ((n : ℤ) × IsIntegerAt octets offset n) IsIntegerTag
     (IsLeafAt-integer octets offset)
-    c.no_integer-then-tag-ne2.result.status n
-    c.in-Ok.found.0 c.in-Ok.found.1.now u number (λ m t. omega (arith, t)) c.if-tag-ne2.true
-    c.no_integer-then-tag-ne2.ensures.0)
-    c.no_integer-then-tag-ne2.ensures.1
+    c.no_integer-then-tag-ne-INTEGER.result.status n
+    c.in-Ok.found.0 c.in-Ok.found.1.now u number (λ m t. omega (arith, t)) c.if-tag-ne-INTEGER.true
+    c.no_integer-then-tag-ne-INTEGER.ensures.0)
+    c.no_integer-then-tag-ne-INTEGER.ensures.1
 
 pub returns-in-Some : goal.returns-in-Some
 returns-in-Some c =
@@ -48,7 +48,7 @@ returns-in-Some c =
     let offset = c.args.offset in
     let v = c.in-Ok.found.1.now in
     let (n, u, number) = c.in-Ok.ensures.found in
-    let two : n ≡ 2 = HasTag-small n c.in-Ok.found.0 2 number c.if-tag-ne2.false (omega arith) in
+    let two : n ≡ 2 = HasTag-small n c.in-Ok.found.0 2 number c.if-tag-ne-INTEGER.false (omega arith) in
     let is =
     IsLeafAt-universal octets offset (integer (signed_number v)) v
     (subst (λ z. UniversalAt octets offset z v) two u) refl in
@@ -62,7 +62,7 @@ returns-in-None c =
     let offset = c.args.offset in
     let v = c.in-Ok.found.1.now in
     let (n, u, number) = c.in-Ok.ensures.found in
-    let two : n ≡ 2 = HasTag-small n c.in-Ok.found.0 2 number c.if-tag-ne2.false (omega arith) in
+    let two : n ≡ 2 = HasTag-small n c.in-Ok.found.0 2 number c.if-tag-ne-INTEGER.false (omega arith) in
     let is =
     IsLeafAt-universal octets offset (integer (signed_number v)) v
     (subst (λ z. UniversalAt octets offset z v) two u) refl in

@@ -11,8 +11,8 @@ returns c =
     let x = c.args._octets.now in
     let f = in_frame c.args._extent c.args.items in
     let a = c.args.self.now in
-    let b = c.seal.new.self in
+    let b = c.set_items.new.self in
     let i = c.args.parent.now in
     on_ok_weaker c.add.result
     (λ u. subst (λ z. HasEndedIn holds_front x f c.args._depth a i b z) (sym u)
-    (HasEndedIn-front x a b f i c.args._depth c.seal.ensures)) c.add.ensures
+    (HasEndedIn-front x a b f i c.args._depth c.set_items.ensures)) c.add.ensures

@@ -6,6 +6,6 @@ use Rattle.simple_asn1_c.proofs.within.FrontBuilderBuilder.open.Goals as goal
 pub returns : goal.returns
 returns c =
     HasOpened-front c.args.octets.now c.args.header.now c.args.offset c.args.depth c.args.self.now c.add.new.self
-    (record { entry = c.count-entry.result; count = 0 }) c.started-block.result c.started-block.ensures
+    (record { entry = c.count-entry.result; count = 0 }) c.encoding_entry-block.result c.encoding_entry-block.ensures
     c.count-entry.ensures.count refl
     c.in_ok-add.ensures

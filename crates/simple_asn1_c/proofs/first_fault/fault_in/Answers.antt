@@ -1,9 +1,9 @@
--- For `fault::fault_in`: what it returns is right.
+-- For `first_fault::fault_in`: what it returns is right.
 use Rattle.std.proofs.Common.{inl, inr, sym, subst}
 use Rattle.asn1_headers.specs.Fault.{fault_of}
 use Rattle.simple_asn1.specs.Grammar.{FirstFaultAt}
 use Rattle.simple_asn1_c.specs.Contents.{fault_was_found, has_no_fault}
-use Rattle.simple_asn1_c.proofs.fault.fault_in.Goals as goal
+use Rattle.simple_asn1_c.proofs.first_fault.fault_in.Goals as goal
 
 pub returns-in-Ok : goal.returns-in-Ok
 returns-in-Ok c =

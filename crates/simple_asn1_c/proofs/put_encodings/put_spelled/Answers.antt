@@ -1,8 +1,8 @@
--- For `spelled::put_spelled`: what it returns is right.
+-- For `put_encodings::put_spelled`: what it returns is right.
 use Rattle.std.proofs.Common.{subst}
 use Rattle.simple_asn1_c.specs.Raw.{spelled_was_put}
 use Rattle.simple_asn1_c.specs.Room.{ArePut}
-use Rattle.simple_asn1_c.proofs.spelled.put_spelled.Goals as goal
+use Rattle.simple_asn1_c.proofs.put_encodings.put_spelled.Goals as goal
 
 pub returns-in-Ok : goal.returns-in-Ok
 returns-in-Ok c =

@@ -1,9 +1,10 @@
--- For `header::header_record`: what it returns is right, `unreachable` may be called, and what cannot happen does not.
+-- For `header_record::header_record`: what it returns is right, `unreachable` may be called, and what cannot happen
+-- does not.
 use Rattle.std.proofs.Common.{◌≡◌, inl, inr, drop, sym, ap, ◌∙◌}
 use Rattle.simple_asn1.specs.Header.{constructed_bit}
 use Rattle.simple_asn1_c.proofs.Headers.{Encoding-front_header, IsEncoding-has_header}
-use Rattle.simple_asn1_c.proofs.header.header_record.Goals as goal
-use Rattle.simple_asn1_c.proofs.header.header_record.Goals.{then-header, else-header}
+use Rattle.simple_asn1_c.proofs.header_record.header_record.Goals as goal
+use Rattle.simple_asn1_c.proofs.header_record.header_record.Goals.{then-header, else-header}
 
 pub unreachable-requires : goal.unreachable-requires
 unreachable-requires c = elim c.in-Err.ensures.none [

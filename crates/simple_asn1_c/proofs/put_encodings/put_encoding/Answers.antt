@@ -1,10 +1,10 @@
--- For `spelled::put_encoding`: what it returns is right.
+-- For `put_encodings::put_encoding`: what it returns is right.
 use Rattle.std.proofs.Common.{◌≡◌, refl, sym, subst, ◌∙◌}
 use Rattle.asn1_numbers.specs.Decimal.{natural_numeral}
 use Rattle.simple_asn1_c.specs.Raw.{is_no_numeral, was_encoded}
 use Rattle.simple_asn1_c.specs.Room.{ArePut}
 use Rattle.simple_asn1_c.proofs.TextOctets.{IsUtf8-numeral}
-use Rattle.simple_asn1_c.proofs.spelled.put_encoding.Goals as goal
+use Rattle.simple_asn1_c.proofs.put_encodings.put_encoding.Goals as goal
 
 pub returns-in_default-from_utf8 : goal.returns-in_default-from_utf8
 returns-in_default-from_utf8 c =

@@ -1,8 +1,8 @@
--- For `front::FrontBuilder::cut`: what it returns is right.
+-- For `front_builder::FrontBuilder::cut`: what it returns is right.
 use Rattle.std.proofs.Common.{◌≡◌, suc, ◌-◌, length, refl, arith}
 use Rattle.std.proofs.lemmas.Grind.{common_steps}
 use Rattle.simple_asn1_c.proofs.Fronts.{IsFront-take_behind, IsFront-take_all}
-use Rattle.simple_asn1_c.proofs.front.FrontBuilder.cut.Goals as goal
+use Rattle.simple_asn1_c.proofs.front_builder.FrontBuilder.cut.Goals as goal
 
 pub returns-then-entry-kept-2 : goal.returns-then-entry-kept-2
 returns-then-entry-kept-2 c all w =

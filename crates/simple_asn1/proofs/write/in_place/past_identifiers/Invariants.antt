@@ -1,0 +1,10 @@
+-- For `write::in_place::past_identifiers`: what each turn of its loop keeps and what grows less, so that it ends.
+use Rattle.std.proofs.Common.{[], length}
+use Rattle.simple_asn1.specs.Inner.InPlace.{LeavesBoth}
+use Rattle.simple_asn1.proofs.write.in_place.past_identifiers.Given as goal
+
+abbrev pub invariant-identifiers : goal.invariant-identifiers
+invariant-identifiers l = LeavesBoth l.octets [] l.rest
+
+abbrev pub decreases-identifiers : goal.decreases-identifiers
+decreases-identifiers l = length l.rest
