@@ -1,3 +1,4 @@
+mod Decoded
 mod LineFronts
 mod Numbers
 mod Parts

@@ -1,4 +1,5 @@
 pub mod Columns
+pub mod Decoded
 pub mod Forms
 pub mod Known
 pub mod Objects

@@ -2,7 +2,7 @@
 ghost use Rattle.std.specs.Prelude.{◌≡◌, Err, IfOk, MatchOption, MatchResult, None, Ok, Some};
 ghost use Rattle.std.specs.Result.{result_ok};
 ghost use Rattle.base64.specs.Engines.{standard, standard_pad_indifferent, url_safe_pad_indifferent};
-ghost use Rattle.base64.specs.GeneralPurpose.{decode_of};
+ghost use Rattle.base64.specs.GeneralPurpose.{IsBytes, decode_of, encode_of};
 ghost use Rattle.der_forms.specs.Forms.{without_spaces};
 
 use base64::engine::general_purpose::{
@@ -26,9 +26,12 @@ pub fn without_spaces(alloc: Global, text: &[u8]) -> Result<Vec<u8>, AllocError>
 
 // What the symbols spell, or why they spell nothing.
 pub fn decode(alloc: Global, symbols: &[u8]) -> Result<Result<Vec<u8>, DecodeError>, AllocError>
-    ensures { IfOk result (λ decoded. MatchResult decoded
+    ensures decoded { IfOk result (λ decoded. MatchResult decoded
         (λ octets. decode_of standard symbols.now ≡ Ok octets.items)
         (λ e. decode_of standard symbols.now ≡ Err e)) }
+    ensures exact { IfOk result (λ decoded. IfOk decoded (λ octets.
+        symbols.now ≡ encode_of standard octets.items)) }
+    ensures bytes { IfOk result (λ decoded. IfOk decoded (λ octets. IsBytes octets.items)) }
 {
     match STANDARD.decode(alloc, symbols) {
         Ok(octets) => Ok(Ok(octets)),

@@ -15,7 +15,7 @@ use crate::lines::{Lines, is_pem, without_mark};
 use crate::objects::{PemFault, fault_of_end, next_object};
 use crate::text::text_of;
 use crate::unknown::{form_left_out, form_unknown};
-use crate::{base64_text, hex_text, left_out, source_text};
+use crate::{base64_text, decoder, hex_text, left_out, source_text};
 use std::alloc::{AllocError, Global};
 use thiserror::Error;
 
@@ -95,6 +95,18 @@ fn form_of_digits(alloc: Global, digits: &[u8]) -> Result<Form, AllocError>
 }
 
 fn base64_form(alloc: Global, text: &[u8]) -> Result<Form, AllocError>
+    ensures { IfOk result (λ form. shown form
+        ≡ of_base64 (decode_base64 standard (without_spaces text.now)) (without_spaces text.now)) }
+{
+    match decoder::octets_in(alloc, text)? {
+        Some(octets) if octets.starts_with(&[0x30]) => Ok(Form::Spelled(octets)),
+        Some(_) => Ok(form_unknown(text)),
+        None => base64_form_late(alloc, text),
+    }
+}
+
+// The form of base64 whose symbols are decoded when all are read.
+fn base64_form_late(alloc: Global, text: &[u8]) -> Result<Form, AllocError>
     ensures { IfOk result (λ form. shown form
         ≡ of_base64 (decode_base64 standard (without_spaces text.now)) (without_spaces text.now)) }
 {

@@ -1,15 +1,16 @@
 // The objects of PEM, one after another.
-ghost use Rattle.std.specs.Prelude.{◌≡◌, ◌≢◌, ◌∷◌, ◌++◌, ◌<◌, ◌≤◌, ℕ, List, [], true, false, length};
-ghost use Rattle.std.specs.Prelude.{IfOk, MatchOption, OnOk};
+ghost use Rattle.std.specs.Prelude.{◌≡◌, ◌≢◌, ◌∷◌, ◌<◌, ◌≤◌, ℕ, List, [], true, false, length};
+ghost use Rattle.std.specs.Prelude.{IfOk, MatchOption};
 ghost use Rattle.std.specs.Option.{option_map};
 ghost use Rattle.std.specs.Result.{result_ok};
+ghost use Rattle.der_forms.specs.Decoded.{IsWhole, symbols_read};
 ghost use Rattle.der_forms.specs.Objects.{ending_by, ending_in, ends_object, is_encrypted, is_openssh, object_in, objects_in, octets_in};
-ghost use Rattle.der_forms.specs.Objects.{symbols_in, symbols_of};
+ghost use Rattle.der_forms.specs.Objects.{symbols_in, unless_openssh};
 ghost use Rattle.der_forms.specs.Shown.{shown_object};
 ghost use Rattle.der_forms.specs.declared.objects.Ending.TheVariants.{Closed};
 ghost use Rattle.der_io.specs.Lines.{lines_of};
 
-use crate::base64_text::decode;
+use crate::decoder::Decoder;
 use crate::lines::{
     Lines, end_label_of, has_words, is_end, label_of, part_before, tells_encryption,
 };
@@ -68,15 +69,16 @@ pub fn next_object<'a>(
     let Some((label, after)) = find_object(lines) else {
         return Ok(None);
     };
-    let body = read_body(alloc, label, after)?;
-    let octets = octets_of(alloc, &body, after)?;
+    let body = read_body(alloc, label, after, true)?;
+    let (ending, behind) = (body.ending, body.after);
+    let octets = octets_of(alloc, body, label, after)?;
     let object = PemObject {
         label,
         line: after.before,
         octets,
-        ending: body.ending,
+        ending,
     };
-    Ok(Some((object, body.after)))
+    Ok(Some((object, behind)))
 }
 
 /// The line at which the object ends wrongly, and why; `last` is the number of lines before those that follow it. A
@@ -119,21 +121,29 @@ fn find_object<'a>(lines: Lines<'a>) -> Option<(&'a [u8], Lines<'a>)>
 // The lines of an object, up to the one that ends it.
 #[derive(Drop)]
 struct Body<'a> {
-    symbols: Vec<u8>,
+    decoder: Decoder,
     is_encrypted: bool,
     ending: Ending,
     after: Lines<'a>,
 }
 
-fn read_body<'a>(alloc: Global, label: &[u8], lines: Lines<'a>) -> Result<Body<'a>, AllocError>
-    ensures symbols { IfOk result (λ body. body.symbols.items ≡ symbols_in (lines_of lines.entry.rest.now)) }
+// Reads the lines of an object with the label. Its symbols are decoded as they come, or not.
+fn read_body<'a>(
+    alloc: Global,
+    label: &[u8],
+    lines: Lines<'a>,
+    is_early: bool,
+) -> Result<Body<'a>, AllocError>
+    ensures symbols { IfOk result (λ body. symbols_read body.decoder ≡ symbols_in (lines_of lines.entry.rest.now)) }
+    ensures whole { IfOk result (λ body. IsWhole body.decoder) }
+    ensures late { is_early ≡ false → IfOk result (λ body. body.decoder.octets.items ≡ []) }
     ensures encrypted { IfOk result (λ body. body.is_encrypted ≡ is_encrypted (lines_of lines.entry.rest.now)) }
     ensures after { IfOk result (λ body. objects_in true (lines_of lines.entry.rest.now)
         ≡ objects_in false (lines_of body.after.rest.now)) }
     ensures shorter { IfOk result (λ body. length body.after.rest.now ≤ length lines.entry.rest.now) }
     ensures ending { IfOk result (λ body. body.ending ≡ ending_in label.now (lines_of lines.entry.rest.now)) }
 {
-    let mut symbols = Vec::new(alloc);
+    let mut decoder = Decoder::new(alloc, is_early);
     let mut is_encrypted = false;
     let mut is_ended = false;
     let mut ending = Ending::Missing;
@@ -147,13 +157,13 @@ fn read_body<'a>(alloc: Global, label: &[u8], lines: Lines<'a>) -> Result<Body<'
             Lines { rest, before } = behind_end(Lines { rest, before });
         } else {
             is_encrypted = is_encrypted || tells_encryption(line);
-            push_symbols(line, &mut symbols)?;
+            decoder.read_line(alloc, line)?;
             rest = after;
             before = before.saturating_add(1);
         }
     }
     Ok(Body {
-        symbols,
+        decoder,
         is_encrypted,
         ending,
         after: Lines { rest, before },
@@ -196,41 +206,54 @@ fn ending_of(label: &[u8], line: &[u8]) -> Ending
     }
 }
 
-// Puts the symbols of a line. One with a colon is a header of the object (RFC 1421).
-fn push_symbols(line: &[u8], symbols: &mut Vec<u8>) -> Result<(), AllocError>
-    ensures { OnOk result (symbols.new.items ≡ symbols.old.items ++ symbols_of line.now) }
-{
-    if line.contains(&b':') {
-        return Ok(());
-    }
-    for b in line {
-        if !b.is_ascii_whitespace() {
-            symbols.push(*b)?;
-        }
-    }
-    Ok(())
-}
-
+// The octets of the object that begins before the lines with the label, and has the body.
 fn octets_of(
     alloc: Global,
-    body: &Body<'_>,
+    body: Body<'_>,
+    label: &[u8],
     lines: Lines<'_>,
 ) -> Result<Result<Vec<u8>, PemFault>, AllocError>
-    requires symbols { body.now.symbols.items ≡ symbols_in (lines_of lines.rest.now) }
-    requires encrypted { body.now.is_encrypted ≡ is_encrypted (lines_of lines.rest.now) }
+    requires symbols { symbols_read body.decoder ≡ symbols_in (lines_of lines.rest.now) }
+    requires whole { IsWhole body.decoder }
+    requires encrypted { body.is_encrypted ≡ is_encrypted (lines_of lines.rest.now) }
     ensures { IfOk result (λ octets.
         option_map (λ v. v.items) (result_ok octets) ≡ octets_in (lines_of lines.entry.rest.now)) }
 {
     if body.is_encrypted {
         return Ok(Err(PemFault::Encrypted));
     }
-    match decode(alloc, &body.symbols)? {
-        Ok(octets) if is_openssh(&octets) => Ok(Err(PemFault::OpenSsh)),
-        Ok(octets) => Ok(Ok(octets)),
-        Err(fault) => {
-            let place = place_of(&fault, body.symbols.len());
-            Ok(Err(PemFault::NoBase64(line_of(lines, place))))
-        }
+    match body.decoder.finish(alloc)? {
+        Ok(octets) => Ok(unless_openssh(octets)),
+        Err(_) => octets_read_late(alloc, label, lines),
+    }
+}
+
+// The octets of an object that is not encrypted. Its symbols are decoded when all are read, so that a fault has its
+// place among all of them.
+fn octets_read_late(
+    alloc: Global,
+    label: &[u8],
+    lines: Lines<'_>,
+) -> Result<Result<Vec<u8>, PemFault>, AllocError>
+    requires { is_encrypted (lines_of lines.rest.now) ≡ false }
+    ensures { IfOk result (λ octets.
+        option_map (λ v. v.items) (result_ok octets) ≡ octets_in (lines_of lines.entry.rest.now)) }
+{
+    let body = read_body(alloc, label, lines, false)?;
+    let count = body.decoder.symbols.len();
+    match body.decoder.finish(alloc)? {
+        Ok(octets) => Ok(unless_openssh(octets)),
+        Err(fault) => Ok(Err(PemFault::NoBase64(line_of(lines, place_of(&fault, count))))),
+    }
+}
+
+fn unless_openssh(octets: Vec<u8>) -> Result<Vec<u8>, PemFault>
+    ensures { option_map (λ v. v.items) (result_ok result) ≡ unless_openssh octets.items }
+{
+    if is_openssh(&octets) {
+        Err(PemFault::OpenSsh)
+    } else {
+        Ok(octets)
     }
 }
 

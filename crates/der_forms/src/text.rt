@@ -1,11 +1,12 @@
 // An input as text.
 ghost use Rattle.std.specs.Prelude.{◌≡◌, ◌+◌, ◌*◌, ◌<◌, ◌∷◌, if◌then◌else◌, length, string_bytes, IfOk};
+ghost use Rattle.der_forms.specs.Forms.{without_mark};
 ghost use Rattle.der_forms.specs.Texts.{has_begin, if_text as if_text_is, in_utf8 as in_utf8_is};
 ghost use Rattle.der_forms.specs.Texts.{text_of as text_is, units_of};
 
 use crate::breaks::{unfolded, with_breaks};
 use crate::hex_text::is_in_columns;
-use crate::lines::{has_words, is_text, without_mark};
+use crate::lines::{has_words, is_text};
 use std::alloc::{AllocError, Global};
 
 /// What is read of an input: its octets, or where it is text in UTF-16 behind a byte order mark, this text in UTF-8. In
@@ -18,8 +19,20 @@ pub fn text_of(alloc: Global, input: Vec<u8>) -> Result<Vec<u8>, AllocError>
 {
     let text = in_utf8(alloc, input)?;
     if has_begin(&text) {
-        let broken = with_breaks(alloc, without_mark(&text))?;
-        unfolded(alloc, &broken)
+        let unmarked = unmarked(alloc, text)?;
+        let broken = with_breaks(alloc, unmarked)?;
+        unfolded(alloc, broken)
+    } else {
+        Ok(text)
+    }
+}
+
+// The text without a byte order mark. Text that has none is not copied.
+fn unmarked(alloc: Global, text: Vec<u8>) -> Result<Vec<u8>, AllocError>
+    ensures { IfOk result (λ unmarked. unmarked.items ≡ without_mark text.items) }
+{
+    if text.starts_with(&[0xEF, 0xBB, 0xBF]) {
+        Vec::from_slice(alloc, &text[3..])
     } else {
         Ok(text)
     }

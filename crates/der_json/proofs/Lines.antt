@@ -1,70 +1,58 @@
 -- The text of an object, member by member.
-use Rattle.std.proofs.Common.{arith, length, true, ◌<◌, ◌==◌, ◌≡◌, ℕ, List, [], ◌∷◌, ◌++◌, ◌∙◌, false, codes, refl, sym, ap}
+use Rattle.std.proofs.Common.{arith, length, true, ◌<◌, ◌==◌, ◌≡◌, ℕ, List, [], ◌∷◌, ◌++◌, ◌∙◌, false, codes, refl, ap}
 use Rattle.std.specs.Prelude.{Option, None, Some}
-use Rattle.std.proofs.lemmas.List.{append_assoc, nil_from_length}
+use Rattle.std.proofs.lemmas.List.{nil_from_length}
 use Rattle.serde_json.proofs.OnLiterals.{serde_json_on_literals}
 use Rattle.serde_json.specs.Data.{Members, array, member, no_members, object, string}
 use Rattle.serde_json.specs.Written.{compact_text, has_float, items_text}
 use Rattle.der_json.specs.Json.{Departed, Row, FaultData, departed_json, fault_json, items_of, line_text, member_if, number_if, refusal_json}
 use Rattle.std.proofs.lemmas.Bool.Decides.{nat_tests}
 use Rattle.der_json.specs.Json.{is_der, marks_text, row_json, rows_text}
+use Rattle.der_json.proofs.ShownText.{shown_text-line}
+use Rattle.der_json.specs.Shown.{shown_text}
 use Rattle.der_json.specs.declared.rows.Departure.{Departure}
 use Rattle.der_json.specs.Rows.{end_text, departures_of, text_member}
 
--- a text behind its name, and what follows it
-behind : (name text rest : List ℕ) → (name ++ text) ++ (rest ++ 10 ∷ []) ≡ (name ++ (text ++ rest)) ++ 10 ∷ []
-behind name text rest =
-    append_assoc name text (rest ++ 10 ∷ [])
-    ∙ ap (λ z. name ++ z) (sym (append_assoc text rest (10 ∷ [])))
-    ∙ sym (append_assoc name (text ++ rest) (10 ∷ []))
-
 label_end :
     (label : Option (List ℕ)) →
-    text_member (codes ",\"label\":") label ++ codes "}\n"
-    ≡ end_text (member_if (codes "label") label no_members) ++ 10 ∷ []
+    text_member (codes ",\"label\":") label ++ 125 ∷ []
+    ≡ end_text (member_if (codes "label") label no_members)
 unfolding serde_json_on_literals
 label_end None = refl
-label_end (Some t) = behind (codes ",\"label\":") (compact_text (string t)) (125 ∷ [])
+label_end (Some t) = refl
 
 file_end :
-    (file : Option (List ℕ)) (others : Members) (rest : List ℕ) → rest ≡ end_text others ++ 10 ∷ [] →
-    text_member (codes ",\"file\":") file ++ rest ≡ end_text (member_if (codes "file") file others) ++ 10 ∷ []
+    (file : Option (List ℕ)) (others : Members) (rest : List ℕ) → rest ≡ end_text others →
+    text_member (codes ",\"file\":") file ++ rest ≡ end_text (member_if (codes "file") file others)
 unfolding serde_json_on_literals
 file_end None others rest e = e
-file_end (Some t) others rest e =
-    ap (λ z. (codes ",\"file\":" ++ compact_text (string t)) ++ z) e
-    ∙ behind (codes ",\"file\":") (compact_text (string t)) (end_text others)
+file_end (Some t) others rest e = ap (λ z. (codes ",\"file\":" ++ compact_text (string t)) ++ z) e
 
--- both texts, and the end of the line
+-- both texts, and the end of the object
 pub origin_end :
     (file label : Option (List ℕ)) →
-    text_member (codes ",\"file\":") file ++ (text_member (codes ",\"label\":") label ++ codes "}\n")
-    ≡ end_text (member_if (codes "file") file (member_if (codes "label") label no_members)) ++ 10 ∷ []
+    text_member (codes ",\"file\":") file ++ (text_member (codes ",\"label\":") label ++ 125 ∷ [])
+    ≡ end_text (member_if (codes "file") file (member_if (codes "label") label no_members))
 origin_end file label = file_end file (member_if (codes "label") label no_members) _ (label_end label)
 
 pub document_line : (origin : Members) (rows : List Row)
-    → codes "{\"blocks\":[" ++ (items_text false (items_of row_json rows) ++ (end_text origin ++ 10 ∷ []))
+    → codes "{\"blocks\":[" ++ (shown_text (items_text false (items_of row_json rows))
+    ++ (shown_text (end_text origin) ++ 10 ∷ []))
     ≡ rows_text rows origin
 unfolding serde_json_on_literals
-document_line origin rows =
-    ap (λ z. codes "{\"blocks\":[" ++ z)
-    (sym (append_assoc (items_text false (items_of row_json rows)) (end_text origin) (10 ∷ [])))
+document_line origin rows = shown_text-line (items_text false (items_of row_json rows)) origin
 
 pub marks_line : (origin : Members) (marks : List Departed)
-    → codes "{\"not_der\":[" ++ (items_text false (items_of departed_json marks) ++ (end_text origin ++ 10 ∷ []))
-    ≡ compact_text (object (member (codes "not_der") (array (items_of departed_json marks)) origin)) ++ 10 ∷ []
+    → codes "{\"not_der\":[" ++ (items_text false (items_of departed_json marks) ++ end_text origin)
+    ≡ compact_text (object (member (codes "not_der") (array (items_of departed_json marks)) origin))
 unfolding serde_json_on_literals
-marks_line origin marks =
-    ap (λ z. codes "{\"not_der\":[" ++ z)
-    (sym (append_assoc (items_text false (items_of departed_json marks)) (end_text origin) (10 ∷ [])))
+marks_line origin marks = refl
 
 pub refusal_line : (origin : Members) (fault : FaultData)
-    → codes "{\"fault\":" ++ (compact_text (fault_json fault) ++ (end_text origin ++ 10 ∷ []))
-    ≡ compact_text (refusal_json fault origin) ++ 10 ∷ []
+    → (codes "{\"fault\":" ++ compact_text (fault_json fault)) ++ end_text origin
+    ≡ compact_text (refusal_json fault origin)
 unfolding serde_json_on_literals
-refusal_line origin fault =
-    ap (λ z. codes "{\"fault\":" ++ z)
-    (sym (append_assoc (compact_text (fault_json fault)) (end_text origin) (10 ∷ [])))
+refusal_line origin fault = refl
 
 fault_exact_of : (code : Option (List ℕ)) (offset : Option ℕ) (words : List ℕ) →
     has_float (object (member_if (codes "code") code

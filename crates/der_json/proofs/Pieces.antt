@@ -13,6 +13,7 @@ use Rattle.serde_json.specs.Data.{Items, null, string}
 use Rattle.serde_json.specs.View.{view}
 use Rattle.der_elements.specs.Headers.{is_gone_into, is_stray_form}
 use Rattle.der_elements.specs.Ends.{taken}
+use Rattle.der_pieces.specs.Fronts.{Meaning}
 use Rattle.der_pieces.specs.Steps.{header_front}
 use Rattle.der_contents.specs.Faults.{IsFault, IsNamed}
 use Rattle.der_contents.specs.Values.{IsMeaning}
@@ -141,14 +142,14 @@ module _ (left : List ℕ) (offset depth : ℕ) (rules : List Rule) (object : Ob
     (told_is : option_map fault_data object.fault ≡ option_map (placed_data object.offset) fault) where
   -- an encoding with the header
   encoding_row :
-      (header : Header) (h : IsAtFront left header) →
+      {meaning : Option Meaning} (header : Header) (h : IsAtFront left header) →
       object.size ≡ (if header.is_indefinite then None
       else Some (taken header.is_indefinite (header.size + header.announced) (length left))) →
       IsHeaderTag header object.tag →
-      IsJudged left (header_front offset depth rules header) object.offset header.class header.constructed header.tag
-      (is_stray_form header.constructed (drop (length h.identifier) left)) (view object.value)
+      IsJudged left (header_front offset depth rules meaning header) object.offset header.class header.constructed
+      header.tag (is_stray_form header.constructed (drop (length h.identifier) left)) (view object.value)
       (option_map string_bytes object.octets) (option_map fault_data object.fault) →
-      IsRowOf left (header_front offset depth rules header) (row_of object inside marks)
+      IsRowOf left (header_front offset depth rules meaning header) (row_of object inside marks)
   encoding_row header h size tag judged = of_encoding (record {
     class = header.class;
     constructed = header.constructed;
@@ -175,14 +176,14 @@ module _ (left : List ℕ) (offset depth : ℕ) (rules : List Rule) (object : Ob
       let (words, told) = told_named offset object.offset incomplete fault is in inr (zero, (words, told_is ∙ told))
 
   opened_judged :
-      (header : Header) (stray : Bool) (contents : List ℕ) (joined : Option Joined) →
+      {meaning : Option Meaning} (header : Header) (stray : Bool) (contents : List ℕ) (joined : Option Joined) →
       is_gone_into header.class header.constructed header.tag ≡ true →
       contents ≡ slice_range left header.size
       (taken header.is_indefinite (header.size + header.announced) (length left)) →
       IfSome joined (IsJoined header contents) → IsOpenedFault stray offset fault →
       view object.value ≡ opened_json fault joined → option_map string_bytes object.octets ≡ None →
-      IsJudged left (header_front offset depth rules header) object.offset header.class header.constructed header.tag
-      stray (view object.value) (option_map string_bytes object.octets) (option_map fault_data object.fault)
+      IsJudged left (header_front offset depth rules meaning header) object.offset header.class header.constructed
+      header.tag stray (view object.value) (option_map string_bytes object.octets) (option_map fault_data object.fault)
   opened_judged header stray contents joined o e j (inl (is, there)) v d =
       let (words, told) = told_nameless offset object.offset fault there in
       of_stray_form is (v ∙ null_there (IsNameless offset) fault joined there) d words (told_is ∙ told)
@@ -213,14 +214,15 @@ module _ (left : List ℕ) (offset depth : ℕ) (rules : List Rule) (object : Ob
       (primitive_closed header.class header.constructed header.tag o) is)))
 
   leaf_judged :
-      (header : Header) (h : IsAtFront left header) (contents : List ℕ) (value : Option LeafValue) →
+      {meaning : Option Meaning} (header : Header) (h : IsAtFront left header) (contents : List ℕ)
+      (value : Option LeafValue) →
       is_gone_into header.class header.constructed header.tag ≡ false →
       contents ≡ slice_range left header.size (header.size + header.announced) →
       IsLeafMeaning left header (drop (length h.identifier) left) offset value fault →
       view object.value ≡ leaf_json contents value →
       option_map string_bytes object.octets ≡ leaf_octets fault contents value →
-      IsJudged left (header_front offset depth rules header) object.offset header.class header.constructed header.tag
-      (is_stray_form header.constructed (drop (length h.identifier) left)) (view object.value)
+      IsJudged left (header_front offset depth rules meaning header) object.offset header.class header.constructed
+      header.tag (is_stray_form header.constructed (drop (length h.identifier) left)) (view object.value)
       (option_map string_bytes object.octets) (option_map fault_data object.fault)
   leaf_judged header h contents value o e (inl (stray, none, there)) v d =
       let (words, told) = told_nameless offset object.offset fault there in

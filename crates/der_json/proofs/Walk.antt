@@ -20,12 +20,14 @@ use Rattle.der_pieces.specs.declared.place.Place.{Place}
 use Rattle.der_pieces.specs.declared.walk.Walk.{Walk}
 use Rattle.der_json.specs.Json.{AreInside, AreRows, Departed, IsInside, IsRow, Row, FaultData, earlier_of, fault_offsets, fault_data}
 use Rattle.der_json.specs.Json.{first_fault, items_of, mark_of, marks_at, marks_of, row_json, data_offset}
-use Rattle.der_json.specs.Rows.{AreRowsAt, IsArray, IsNestedJson, IsObject, found_departures, row_of, texts, placed_data}
+use Rattle.der_json.specs.Rows.{AreListed, AreRowsAt, IsArray, IsNestedJson, IsObject, found_departures, row_of, texts, placed_data}
 use Rattle.der_pieces.specs.Marks.{are_some, breach_of}
 use Rattle.der_json.specs.declared.object.Object.{Object}
 use Rattle.der_json.specs.declared.rows.Problems.{Problems}
 use Rattle.der_json.proofs.Arrays.{all_texts, one_text, some_more}
 use Rattle.der_json.proofs.Pieces.{fault_there}
+use Rattle.der_json.proofs.ShownText.{IsBreak-row, shown_text-append, shown_text-more}
+use Rattle.der_json.specs.Shown.{shown_text}
 
 -- what stands inside contents octets
 inside_by :
@@ -49,7 +51,7 @@ abbrev IsRowAt : Place → List ℕ → Front → Row → Type 0
 IsRowAt place octets = IsRow (AreInside place.documents) place.is_inside octets place.base place.depth
 
 -- what was put up to where the walk is
-pub record RowsTo (place : Place) (octets : List ℕ) (walk : Walk) (later : Bool) (found : Problems)
+pub record RowsTo (strict : Bool) (place : Place) (octets : List ℕ) (walk : Walk) (later : Bool) (found : Problems)
     (a b : Option (List ℕ)) : Type 0 where
   pub fronts : List Front
   pub faults : List ℕ
@@ -61,17 +63,18 @@ pub record RowsTo (place : Place) (octets : List ℕ) (walk : Walk) (later : Boo
   pub told : AllZip (IsRowAt place octets) fronts rows
   pub faults_are : fault_offsets rows ≡ map (λ z. place.base + z) faults
   pub some : later ≡ are_some rows
-  pub marks_are : found_departures found ≡ marks_of rows
+  pub marks_are : AreListed strict (found_departures found) (marks_of rows)
   pub first_is : option_map fault_data found.first ≡ first_fault rows
-  pub text_is : Appends a b (texts row_json false rows)
+  pub text_is : Appends a b (shown_text (texts row_json false rows))
 
 pub rows_none :
-    (place : Place) (octets : List ℕ) (walk : Walk) (found : Problems) (a : Option (List ℕ)) →
+    (strict : Bool) (place : Place) (octets : List ℕ) (walk : Walk) (found : Problems) (a : Option (List ℕ)) →
     walk.cursor.octets.now ≡ octets →
     walk.place ≡ place →
     ((fronts : List Front) (faults : List ℕ) → IsAhead walk.cursor fronts faults → AreFrontsOf octets fronts faults) →
-    found_departures found ≡ [] → option_map fault_data found.first ≡ None → RowsTo place octets walk false found a a
-rows_none place octets walk found a o p ahead none no_fault = record {
+    found_departures found ≡ [] → option_map fault_data found.first ≡ None →
+    RowsTo strict place octets walk false found a a
+rows_none strict place octets walk found a o p ahead none no_fault = record {
   fronts = [];
   faults = [];
   rows = [];
@@ -81,7 +84,7 @@ rows_none place octets walk found a o p ahead none no_fault = record {
   told = tt;
   faults_are = refl;
   some = refl;
-  marks_are = none;
+  marks_are = λ _. none;
   first_is = no_fault;
   text_is = Appends-nil a;
 }
@@ -120,18 +123,22 @@ told_offsets base offset at (Some f) told e o there =
 
 -- one more
 pub rows_more :
-    (place : Place) (octets : List ℕ) (old new : Walk) (piece : Piece) (object : Object) (inside : Option Items)
-    (marks : List Departed) (later : Bool) (found next : Problems) (a b comma c : Option (List ℕ))
+    (strict : Bool) (place : Place) (octets : List ℕ) (old new : Walk) (piece : Piece) (object : Object)
+    (inside : Option Items) (listed marks : List Departed) (later : Bool) (found next : Problems)
+    (a b comma c : Option (List ℕ))
     (p : Passes old new piece) →
-    RowsTo place octets old later found a b → IsObject p.left piece object →
+    RowsTo strict place octets old later found a b → IsObject p.left piece object →
+    AreListed strict listed marks →
     IsNestedJson piece.place (object.offset + object.header) piece.nested inside marks →
-    Appends b comma (comma_if later) → Appends comma c (compact_text (row_json (row_of object inside marks))) →
-    found_departures next
-    ≡ found_departures found ++ (marks_at object.offset (map breach_of object.not_der.items) ++ marks) →
+    Appends b comma (comma_if later) →
+    Appends comma c (shown_text (compact_text (row_json (row_of object inside marks)))) →
+    AreListed strict (found_departures next)
+    (found_departures found ++ (marks_at object.offset (map breach_of object.not_der.items) ++ listed)) →
     option_map fault_data next.first
     ≡ earlier_of (option_map fault_data found.first) (option_map fault_data object.fault) →
-    RowsTo place octets new true next a c
-rows_more place octets old new piece object inside marks later found next a b comma c p s o nested put_comma put mm nn =
+    RowsTo strict place octets new true next a c
+rows_more strict place octets old new piece object inside listed marks later found next a b comma c p s o all nested
+    put_comma put mm nn =
     let g = front_of p.levels piece in
     let row = row_of object inside marks in
     let own = fault_offset piece.fault in
@@ -172,28 +179,36 @@ rows_more place octets old new piece object inside marks later found next a b co
           (fault_there p.left piece.offset piece.kind piece.fault p.kind))
           ∙ sym (map-append (λ y. place.base + y) s.faults own)));
       some = some_more s.rows row;
-      marks_are = mm ∙ (ap (λ z. z ++ mark_of row) s.marks_are ∙ sym (marks_more s.rows row));
+      marks_are = λ is_strict.
+          mm is_strict
+          ∙ (ap (λ z. found_departures found ++ (marks_at object.offset (map breach_of object.not_der.items) ++ z))
+          (all is_strict)
+          ∙ (ap (λ z. z ++ mark_of row) (s.marks_are is_strict) ∙ sym (marks_more s.rows row)));
       first_is = nn ∙ (ap (λ z. earlier_of z row.fault) s.first_is ∙ first_more s.rows row);
-      text_is = subst (Appends a c) (one_text row_json s.rows row later [] before (before ++ comma_if later) _ s.some
-          refl refl refl)
-          (Appends-trans a comma c (before ++ comma_if later) own_text
-          (Appends-trans a b comma before (comma_if later) s.text_is put_comma) put);
+      text_is = subst (Appends a c)
+          (shown_text-more before own_text later (IsBreak-row row)
+          ∙ ap shown_text (one_text row_json s.rows row later [] before (before ++ comma_if later) _ s.some
+          refl refl refl))
+          (Appends-trans a comma c (shown_text before ++ comma_if later) (shown_text own_text)
+          (Appends-trans a b comma (shown_text before) (comma_if later) s.text_is put_comma) put);
     }
 
 -- all
 pub rows_all :
-    (place : Place) (octets : List ℕ) (walk : Walk) (later : Bool) (found : Problems)
-    (a b c : Option (List ℕ)) → RowsTo place octets walk later found a b → IsAhead walk.cursor [] [] →
-    Appends b c (93 ∷ []) → IsWritten (IsArray place octets found) a c
-rows_all place octets walk later found a b c s ended e =
+    (strict : Bool) (place : Place) (octets : List ℕ) (walk : Walk) (later : Bool) (found : Problems)
+    (a b c : Option (List ℕ)) → RowsTo strict place octets walk later found a b →
+    IsAhead walk.cursor [] [] → Appends b c (93 ∷ []) → IsWritten (IsArray strict place octets found) a c
+rows_all strict place octets walk later found a b c s ended e =
     let all : AreFrontsOf octets s.fronts s.faults =
     subst (λ x. AreFrontsOf octets x s.faults) (append-nil s.fronts)
     (subst (AreFrontsOf octets (s.fronts ++ [])) (append-nil s.faults) (s.goes_on [] [] ended)) in
     let before = texts row_json false s.rows in
     let are : AreRowsAt place octets s.rows =
     record { fronts = s.fronts; faults = s.faults; read = all; told = s.told; faults_are = s.faults_are } in (
-      items_text false (items_of row_json s.rows),
-      subst (Appends a c) (all_texts row_json s.rows [] before (before ++ 93 ∷ []) refl refl)
-          (Appends-trans a b c before (93 ∷ []) s.text_is e),
+      shown_text (items_text false (items_of row_json s.rows)),
+      subst (Appends a c)
+          (sym (shown_text-append before (93 ∷ []) refl)
+          ∙ ap shown_text (all_texts row_json s.rows [] before (before ++ 93 ∷ []) refl refl))
+          (Appends-trans a b c (shown_text before) (93 ∷ []) s.text_is e),
       (s.rows, are, s.marks_are, s.first_is, refl),
     )

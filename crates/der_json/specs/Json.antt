@@ -33,6 +33,7 @@ use Rattle.der_elements.specs.Segments.{AreSegmentsOf}
 use Rattle.der_contents.specs.Values.{HasShortFront, IsBerTime, has_wide_characters, is_wide}
 use Rattle.der_values.specs.Strings.{has_text, has_words, is_string}
 use Rattle.der_values.specs.Times.{AreFractionOf, IsMomentText}
+use Rattle.der_json.specs.Shown.{shown_text}
 use Rattle.der_json.specs.declared.fault.Fault.{Fault}
 use Rattle.der_json.specs.declared.line.Origin.{Origin}
 
@@ -457,9 +458,9 @@ origin_members file label = member_if (codes "file") file (member_if (codes "lab
 abbrev pub origin_data : Origin → Members
 origin_data origin = origin_members (option_map (λ t. t.now) origin.file) (option_map (λ t. t.now) origin.label)
 
--- the text of JSON, and the end of a line
+-- the text of JSON, in which each character is shown, and the end of a line
 abbrev pub line_text : Data → List ℕ
-line_text json = compact_text json ++ 10 ∷ []
+line_text json = shown_text (compact_text json) ++ 10 ∷ []
 
 -- an object with a fault
 abbrev pub refusal_json : FaultData → Members → Data

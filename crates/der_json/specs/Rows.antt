@@ -25,6 +25,7 @@ use Rattle.der_contents.specs.declared.value.LeafValue.TheVariants.{BerTime, Bit
 use Rattle.der_json.specs.Json.{AreInside, AreRows, AreRowsOf, Departed, IsRowOf, Row, FaultData}
 use Rattle.der_json.specs.Json.{bits_json, boolean_or_null, fault_json, fault_data, first_fault, items_of, marks_of, natural_json}
 use Rattle.der_json.specs.Json.{number_or_null, row_json, rows_text, rule_json, text_or_null, whole_json}
+use Rattle.der_json.specs.Shown.{shown_text}
 use Rattle.der_json.specs.declared.object.Object.{Object}
 use Rattle.der_json.specs.declared.object.Tag.{Tag}
 use Rattle.der_json.specs.declared.rows.Departure.{Departure}
@@ -239,17 +240,21 @@ found_departures found = departures_of found.marks.items
 abbrev pub AreRowsAt : Place → List ℕ → List Row → Type 0
 AreRowsAt place octets = AreRows (AreInside place.documents) place.is_inside octets place.base place.depth
 
+-- these are the rules that are broken, if they are listed: where octets have to be DER
+abbrev pub AreListed : Bool → List Departed → List Departed → Type 0
+AreListed strict listed marks = strict ≡ true → listed ≡ marks
+
 -- the objects of octets at the place, and the end of their array; and what was found in them
-abbrev pub IsArray : Place → List ℕ → Problems → List ℕ → Type 0
-IsArray place octets found text =
-    (rows : List Row) × AreRowsAt place octets rows × (found_departures found ≡ marks_of rows)
+abbrev pub IsArray : Bool → Place → List ℕ → Problems → List ℕ → Type 0
+IsArray strict place octets found text =
+    (rows : List Row) × AreRowsAt place octets rows × AreListed strict (found_departures found) (marks_of rows)
     × (option_map fault_data found.first ≡ first_fault rows)
-    × (text ≡ items_text false (items_of row_json rows))
+    × (text ≡ shown_text (items_text false (items_of row_json rows)))
 
 -- the line of the rows of a document, and what was found in them
-abbrev pub IsRowsLine : List ℕ → Members → Problems → List ℕ → Type 0
-IsRowsLine octets origin found text =
-    (rows : List Row) × AreRowsOf octets rows × (found_departures found ≡ marks_of rows)
+abbrev pub IsRowsLine : Bool → List ℕ → Members → Problems → List ℕ → Type 0
+IsRowsLine strict octets origin found text =
+    (rows : List Row) × AreRowsOf octets rows × AreListed strict (found_departures found) (marks_of rows)
     × (option_map fault_data found.first ≡ first_fault rows) × (text ≡ rows_text rows origin)
 
 -- objects of the octets, if there are any, in contents octets that stand at the offset of the document, and the rules

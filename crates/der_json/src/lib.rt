@@ -54,6 +54,9 @@
 //! [`push_strict_json`] adds a line of what is not DER, if anything is, also inside octets of strings: `not_der` is an
 //! array of such rules, each with the `offset` of its encoding in front.
 //!
+//! A character that is not shown in a dump, as a control or format character, is an escape: `\u200b`, which means the
+//! same.
+//!
 //! Numbers beyond 2^53 - 1 are texts since `jq` and JavaScript round them, as RFC 7493 (section 2.2) lets readers do.
 #![tactic(auto)]
 
@@ -64,6 +67,7 @@ mod member;
 mod object;
 mod piece;
 mod rows;
+mod shown;
 mod strict;
 mod value;
 

@@ -7,11 +7,13 @@ ghost use Rattle.der_pieces.specs.Texts.{Adds};
 ghost use Rattle.der_json.specs.Json.{IsEmptyLine, IsJsonOf, fault_data, first_text, line_text, refusal_json};
 ghost use Rattle.der_json.specs.Json.{origin_data};
 ghost use Rattle.der_json.specs.Rows.{IsRowsLine, end_text};
+ghost use Rattle.der_json.specs.Shown.{shown_text};
 
 use crate::fault::{Fault, fault_at};
 use crate::member::push_text_if;
 use crate::object::push_fault_object;
 use crate::rows::{Problems, push_rows};
+use crate::shown::{push_shown, write_shown};
 use asn1_headers::error::ASN1DecodeErr;
 use der_io::{StreamFault, write_part};
 use der_names::Names;
@@ -35,8 +37,8 @@ pub struct Origin<'a> {
 /// `{"fault":{"code":..,"offset":..,"text":".."}}`; of no octets it is the only one. Where the octets are from follows,
 /// as the members `file` and `label`. Of the style only the names of fields count. Whether nothing is at fault.
 ///
-/// Each object is written before the next is made. It takes the memory of one object, two words for each encoding that
-/// is open, and some for each rule of DER that is broken.
+/// Each object is written before the next is made. It takes the memory of one object, and two words for each encoding
+/// that is open.
 ///
 /// # Errors
 /// `Memory`, after which what was written before stays, which may be a part of a line; `Write`, after which nothing is
@@ -58,7 +60,7 @@ pub fn push_json<W: Write>(
         write_part(out, &line)?;
         return Ok(false);
     }
-    let found = push_blocks(alloc, names, style, origin, octets, out)?;
+    let found = push_blocks(alloc, names, style, origin, octets, false, out)?;
     let is_right = push_first(alloc, origin, &found.first, &mut line)?;
     write_part(out, &line)?;
     Ok(is_right)
@@ -85,20 +87,29 @@ fn all_of(style: Style) -> Style
     }
 }
 
-// Writes the line of the objects of octets. What was found in them.
+// Writes the line of the objects of octets. What was found in them; rules that are broken are listed where octets have
+// to be DER.
 pub fn push_blocks<W: Write>(
     alloc: Global,
     names: &Names,
     style: Style,
     origin: Origin<'_>,
     octets: &[u8],
+    is_strict: bool,
     out: &mut W,
 ) -> Result<Problems, StreamFault>
-    ensures { IfOk result (λ found. IsWritten (IsRowsLine octets.now (origin_data origin.entry) found)
+    ensures { IfOk result (λ found. IsWritten (IsRowsLine is_strict octets.now (origin_data origin.entry) found)
         (W.contents out.old) (W.contents out.new)) }
 {
     write_part(out, b"{\"blocks\":[")?;
-    let found = push_rows(alloc, names, octets, outermost(all_of(style)), out)?;
+    let found = push_rows(
+        alloc,
+        names,
+        octets,
+        outermost(all_of(style)),
+        is_strict,
+        out,
+    )?;
     write_end(alloc, origin, out)?;
     Ok(found)
 }
@@ -106,11 +117,12 @@ pub fn push_blocks<W: Write>(
 // Writes the end of an object and of its line, with where the octets are from.
 fn write_end<W: Write>(alloc: Global, origin: Origin<'_>, out: &mut W) -> Result<(), StreamFault>
     ensures { OnOk result (Appends (W.contents out.old) (W.contents out.new)
-        (end_text (origin_data origin.entry) ++ 10 ∷ [])) }
+        (shown_text (end_text (origin_data origin.entry)) ++ 10 ∷ [])) }
 {
     let mut end = Vec::new(alloc);
     push_end(alloc, origin, &mut end)?;
-    write_part(out, &end)?;
+    write_shown(alloc, &end, out)?;
+    write_part(out, b"\n")?;
     Ok(())
 }
 
@@ -148,17 +160,28 @@ pub fn push_refusal(
     ensures { OnOk result (out.new.items ≡ out.old.items
         ++ line_text (refusal_json (fault_data fault.now) (origin_data origin.entry))) }
 {
-    push_fault_object(alloc, b"{\"fault\":", fault, out)?;
-    push_end(alloc, origin, out)?;
+    let mut object = Vec::new(alloc);
+    push_fault_object(alloc, b"{\"fault\":", fault, &mut object)?;
+    push_end(alloc, origin, &mut object)?;
+    push_line(alloc, &object, out)?;
     Ok(())
 }
 
-// Puts the end of an object and of its line, with where the octets are from.
+// Puts the line of an object, in which each character is shown.
+pub fn push_line(alloc: Global, object: &[u8], out: &mut Vec<u8>) -> Result<(), AllocError>
+    ensures { OnOk result (out.new.items ≡ out.old.items ++ (shown_text object.now ++ 10 ∷ [])) }
+{
+    push_shown(alloc, object, out)?;
+    out.push(b'\n')?;
+    Ok(())
+}
+
+// Puts the end of an object, with where the octets are from.
 pub fn push_end(alloc: Global, origin: Origin<'_>, out: &mut Vec<u8>) -> Result<(), AllocError>
-    ensures { OnOk result (out.new.items ≡ out.old.items ++ (end_text (origin_data origin.entry) ++ 10 ∷ [])) }
+    ensures { OnOk result (out.new.items ≡ out.old.items ++ end_text (origin_data origin.entry)) }
 {
     push_text_if(alloc, b",\"file\":", origin.file, out)?;
     push_text_if(alloc, b",\"label\":", origin.label, out)?;
-    out.extend_from_slice(b"}\n")?;
+    out.push(b'}')?;
     Ok(())
 }

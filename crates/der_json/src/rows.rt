@@ -1,16 +1,18 @@
 // The objects of a document, in the order of its lines.
-ghost use Rattle.std.specs.Prelude.{◌≡◌, ◌++◌, ◌+◌, ◌<◌, IfOk, IfSome, OnOk, Option, map, option_map};
+ghost use Rattle.std.specs.Prelude.{◌≡◌, ◌++◌, ◌+◌, ◌<◌, IfOk, IfSome, List, OnOk, Option, map, option_map};
 ghost use Rattle.std.specs.Io.KnownBytes.{Appends};
 ghost use Rattle.der_io.specs.Output.{IsWritten};
 ghost use Rattle.serde_json.specs.Data.{Items};
 ghost use Rattle.serde_json.specs.Written.{comma_if, compact_text};
 ghost use Rattle.der_pieces.specs.Marks.{breach_of};
-ghost use Rattle.der_json.specs.Json.{earlier_of, fault_data, marks_at, row_json};
-ghost use Rattle.der_json.specs.Rows.{IsArray, IsExact, IsNestedJson, blocks_text, found_departures, row_of, departures_of};
+ghost use Rattle.der_json.specs.Json.{Departed, earlier_of, fault_data, marks_at, row_json};
+ghost use Rattle.der_json.specs.Shown.{shown_text};
+ghost use Rattle.der_json.specs.Rows.{AreListed, IsArray, IsExact, IsNestedJson, blocks_text, found_departures, row_of, departures_of};
 
 use crate::fault::Fault;
 use crate::object::{Object, members_of};
 use crate::piece::object_of;
+use crate::shown::write_shown;
 use der_elements::sum::sum_of;
 use der_io::{StreamFault, write_part};
 use der_names::Names;
@@ -28,7 +30,8 @@ pub struct Departure {
     pub told: BrokenRule,
 }
 
-// What was found in a document: the rules that are broken, also inside octets of strings, and the first fault.
+// What was found in a document: the rules that are broken, also inside octets of strings, if they are listed, and the
+// first fault.
 #[derive(Drop)]
 pub struct Problems {
     pub marks: Vec<Departure>,
@@ -36,10 +39,15 @@ pub struct Problems {
 }
 
 impl Problems {
-    // Keeps what one more object tells, and the rules that are broken inside it.
-    fn keep(&mut self, object: Object, mut inside: Vec<Departure>) -> Result<(), AllocError>
-        ensures marks { OnOk result (found_departures self.new ≡ found_departures self.old
-            ++ (marks_at object.offset (map breach_of object.not_der.items) ++ departures_of inside.items)) }
+    // Keeps what one more object tells, and if rules that are broken are listed, its own and those inside it.
+    fn keep(
+        &mut self,
+        object: Object,
+        mut inside: Vec<Departure>,
+        is_strict: bool,
+    ) -> Result<(), AllocError>
+        ensures marks { OnOk result (AreListed is_strict (found_departures self.new) (found_departures self.old
+            ++ (marks_at object.offset (map breach_of object.not_der.items) ++ departures_of inside.items))) }
         ensures first { OnOk result (option_map fault_data self.new.first
             ≡ earlier_of (option_map fault_data self.old.first) (option_map fault_data object.fault)) }
     {
@@ -49,8 +57,10 @@ impl Problems {
             fault,
             ..
         } = object;
-        push_marks(offset, &not_der, &mut self.marks)?;
-        self.marks.append(&mut inside)?;
+        if is_strict {
+            push_marks(offset, &not_der, &mut self.marks)?;
+            self.marks.append(&mut inside)?;
+        }
         if self.first.is_none() {
             self.first = fault;
         }
@@ -83,9 +93,10 @@ pub fn push_rows<W: Write>(
     names: &Names,
     octets: &[u8],
     place: Place,
+    is_strict: bool,
     out: &mut W,
 ) -> Result<Problems, StreamFault>
-    ensures { IfOk result (λ found. IsWritten (IsArray place octets.now found)
+    ensures { IfOk result (λ found. IsWritten (IsArray is_strict place octets.now found)
         (W.contents out.old) (W.contents out.new)) }
 {
     let mut found = Problems {
@@ -98,8 +109,8 @@ pub fn push_rows<W: Write>(
         let (here, nested) = (piece.place, piece.nested);
         let object = object_of(alloc, names, piece)?;
         write_part(out, comma(is_later))?;
-        let inside = push_object(alloc, names, &object, nested, here, out)?;
-        found.keep(object, inside)?;
+        let inside = push_object(alloc, names, &object, nested, here, is_strict, out)?;
+        found.keep(object, inside, is_strict)?;
         is_later = true;
     }
     write_part(out, b"]")?;
@@ -113,7 +124,8 @@ fn comma(is_later: bool) -> &'static [u8]
     if is_later { b"," } else { &[] }
 }
 
-// Writes the object, of a piece at the place, with the blocks inside its contents octets. The rules that these break.
+// Writes the object, of a piece at the place, with the blocks inside its contents octets. The rules that these break,
+// if they are listed.
 #[cycle(rows)]
 fn push_object<W: Write>(
     alloc: Global,
@@ -121,25 +133,27 @@ fn push_object<W: Write>(
     object: &Object,
     nested: Option<Nested<'_>>,
     place: Place,
+    is_strict: bool,
     out: &mut W,
 ) -> Result<Vec<Departure>, StreamFault>
     requires exact { IsExact object.now }
     requires more { IfSome nested (λ _. 0 < place.documents) }
-    ensures { IfOk result (λ marks. (inside : Option Items)
-        × IsNestedJson place (object.now.offset + object.now.header) nested.entry inside (departures_of marks.items)
+    ensures { IfOk result (λ listed. (inside : Option Items) × (marks : List Departed)
+        × AreListed is_strict (departures_of listed.items) marks
+        × IsNestedJson place (object.now.offset + object.now.header) nested.entry inside marks
         × Appends (W.contents out.old) (W.contents out.new)
-        (compact_text (row_json (row_of object.now inside (departures_of marks.items))))) }
+        (shown_text (compact_text (row_json (row_of object.now inside marks))))) }
 {
     let members = members_of(alloc, object)?;
-    write_part(out, &members)?;
+    write_shown(alloc, &members, out)?;
     let before = sum_of(object.offset, object.header)?;
-    let marks = push_nested(alloc, names, nested, before, place, out)?;
+    let marks = push_nested(alloc, names, nested, before, place, is_strict, out)?;
     write_part(out, b"}")?;
     Ok(marks)
 }
 
 // Writes the member of the blocks inside contents octets, which stand at the offset of the document, if there are any.
-// The rules that they break.
+// The rules that they break, if they are listed.
 #[cycle(rows)]
 fn push_nested<W: Write>(
     alloc: Global,
@@ -147,18 +161,20 @@ fn push_nested<W: Write>(
     nested: Option<Nested<'_>>,
     offset: usize,
     place: Place,
+    is_strict: bool,
     out: &mut W,
 ) -> Result<Vec<Departure>, StreamFault>
     requires { IfSome nested (λ _. 0 < place.documents) }
-    ensures { IfOk result (λ marks. (inside : Option Items)
-        × IsNestedJson place offset nested.entry inside (departures_of marks.items)
-        × Appends (W.contents out.old) (W.contents out.new) (blocks_text inside)) }
+    ensures { IfOk result (λ listed. (inside : Option Items) × (marks : List Departed)
+        × AreListed is_strict (departures_of listed.items) marks
+        × IsNestedJson place offset nested.entry inside marks
+        × Appends (W.contents out.old) (W.contents out.new) (shown_text (blocks_text inside))) }
 {
     let Some(nested) = nested else {
         return Ok(Vec::new(alloc));
     };
     write_part(out, b",\"blocks\":[")?;
     let inside = place.inside(sum_of(offset, nested.before)?)?;
-    let found = push_rows(alloc, names, nested.octets, inside, out)?;
+    let found = push_rows(alloc, names, nested.octets, inside, is_strict, out)?;
     Ok(found.marks)
 }

@@ -7,7 +7,7 @@ ghost use Rattle.der_json.specs.Json.{IsStrictJsonOf, departed_json, is_der, ite
 ghost use Rattle.der_json.specs.Json.{origin_data};
 ghost use Rattle.der_json.specs.Rows.{departed_of, departures_of};
 
-use crate::line::{Origin, push_blocks, push_empty, push_end, push_first};
+use crate::line::{Origin, push_blocks, push_empty, push_end, push_first, push_line};
 use crate::member::push_member;
 use crate::object::push_comma;
 use crate::rows::Departure;
@@ -23,7 +23,7 @@ use std::io::Write;
 /// `{"not_der":[{"offset":..,"rule":"..","section":"..","text":".."},..]}`. Last is the line of the first fault, if
 /// there is one. Whether all is DER, and nothing is at fault.
 ///
-/// It takes memory as `push_json` does, and for the list.
+/// It takes memory as `push_json` does, and some for each rule of DER that is broken.
 ///
 /// # Errors
 /// Those of `push_json`.
@@ -44,7 +44,7 @@ pub fn push_strict_json<W: Write>(
         write_part(out, &lines)?;
         return Ok(false);
     }
-    let found = push_blocks(alloc, names, style, origin, octets, out)?;
+    let found = push_blocks(alloc, names, style, origin, octets, true, out)?;
     let is_der = push_marks(alloc, origin, &found.marks, &mut lines)?;
     let is_right = push_first(alloc, origin, &found.first, &mut lines)?;
     write_part(out, &lines)?;
@@ -71,9 +71,11 @@ fn push_marks(
     if marks.is_empty() {
         return Ok(true);
     }
-    out.extend_from_slice(b"{\"not_der\":[")?;
-    push_list(alloc, marks, out)?;
-    push_end(alloc, origin, out)?;
+    let mut object = Vec::new(alloc);
+    object.extend_from_slice(b"{\"not_der\":[")?;
+    push_list(alloc, marks, &mut object)?;
+    push_end(alloc, origin, &mut object)?;
+    push_line(alloc, &object, out)?;
     Ok(false)
 }
 

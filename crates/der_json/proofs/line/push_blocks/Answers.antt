@@ -5,6 +5,7 @@ use Rattle.std.specs.Io.KnownBytes.{Appends}
 use Rattle.serde_json.specs.Written.{items_text}
 use Rattle.der_json.specs.Json.{AreInside, AreRows, AreRowsOf, items_of, row_json, rows_text, origin_data}
 use Rattle.der_json.specs.Rows.{end_text}
+use Rattle.der_json.specs.Shown.{shown_text}
 use Rattle.der_json.proofs.Lines.{document_line}
 use Rattle.der_json.proofs.line.push_blocks.Goals as goal
 
@@ -17,8 +18,8 @@ returns g c =
     let filled = g.W.Write.contents c.push_rows.new.out in
     let after = g.W.Write.contents c.write_end.new.out in
     let name = codes "{\"blocks\":[" in
-    let items = items_text false (items_of row_json rows) in
-    let end = end_text origin ++ 10 ∷ [] in
+    let items = shown_text (items_text false (items_of row_json rows)) in
+    let end = shown_text (end_text origin) ++ 10 ∷ [] in
     let ended : Appends begun after (items ++ end) =
     Appends-trans begun filled after items end (subst (Appends begun filled) is put) c.in_ok-write_end.ensures in
     let line : Appends out after (rows_text rows origin) =

@@ -15,7 +15,7 @@ decreases-push_rows g l = 3 * l.place.documents + 2
 
 -- the objects of the pieces before the walk were put
 abbrev pub invariant-push_rows-loop-walk : goal.invariant-push_rows-loop-walk
-invariant-push_rows-loop-walk g l = RowsTo l.fn.place l.fn.octets l.walk l.is_later l.found
+invariant-push_rows-loop-walk g l = RowsTo l.fn.is_strict l.fn.place l.fn.octets l.walk l.is_later l.found
     (g.W.Write.contents l.fn.out) (g.W.Write.contents l.out)
 
 abbrev pub decreases-push_rows-loop-walk : goal.decreases-push_rows-loop-walk

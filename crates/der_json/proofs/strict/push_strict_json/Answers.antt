@@ -29,7 +29,7 @@ returns g c =
     let (text, put, (rows, are, marks, first, is)) = c.in_ok-found.ensures in
     let list = marks_text (marks_of rows) origin in
     let last = first_text (first_fault rows) origin in
-    let all = ap departures_of c.deref-2.ensures.value ∙ marks in
+    let all = ap departures_of c.deref-2.ensures.value ∙ marks refl in
     let listed = c.in_ok-is_der.ensures.text ∙ ap (λ z. none ++ marks_text z origin) all in
     let right = c.both.ensures
     ∙ (ap (λ z. z && c.in_ok-is_right.is_right) (c.in_ok-is_der.ensures.right ∙ ap is_der all)

@@ -1,8 +1,8 @@
--- For `breaks::unfolded`: what each turn of its loop keeps and what grows less, so that it ends.
+-- For `breaks::wanting_put`: what each turn of its loop keeps and what grows less, so that it ends.
 use Rattle.std.proofs.Common.{◌≡◌, ◌++◌, length}
 use Rattle.der_forms.specs.Texts.{unfolded}
 use Rattle.der_forms.specs.declared.breaks.Place.TheVariants.{Blank}
-use Rattle.der_forms.proofs.breaks.unfolded.Given as goal
+use Rattle.der_forms.proofs.breaks.wanting_put.Given as goal
 
 abbrev pub invariant-loop-rest : goal.invariant-loop-rest
 invariant-loop-rest l =

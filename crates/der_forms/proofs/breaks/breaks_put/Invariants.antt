@@ -1,7 +1,7 @@
--- For `breaks::with_breaks`: what each turn of its loop keeps and what grows less, so that it ends.
+-- For `breaks::breaks_put`: what each turn of its loop keeps and what grows less, so that it ends.
 use Rattle.std.proofs.Common.{◌≡◌, ◌++◌, length}
 use Rattle.der_forms.specs.Texts.{with_breaks}
-use Rattle.der_forms.proofs.breaks.with_breaks.Given as goal
+use Rattle.der_forms.proofs.breaks.breaks_put.Given as goal
 
 abbrev pub invariant-loop-rest : goal.invariant-loop-rest
 invariant-loop-rest l =

@@ -1,8 +1,0 @@
--- For `objects::push_symbols`: what each turn of its loop keeps.
-use Rattle.std.proofs.Common.{◌≡◌, ◌++◌, drop}
-use Rattle.der_forms.specs.Forms.{without_spaces}
-use Rattle.der_forms.proofs.objects.push_symbols.Given as goal
-
-abbrev pub invariant-loop-b : goal.invariant-loop-b
-invariant-loop-b l =
-    l.symbols.items ++ without_spaces (drop l.b-index l.line) ≡ l.fn.symbols.items ++ without_spaces l.line
