@@ -1,10 +1,32 @@
--- Kinds of documents, by the fields of their SEQUENCEs: signed structures (RFC 5280, sections 4.1 and 5.1; RFC 2986,
--- section 4), and keys (RFC 5280, section 4.1; RFC 5958; RFC 8017, appendix A.1; RFC 5915, section 3).
-use Rattle.std.specs.Prelude.{◌==◌, ◌&&◌, ◌||◌, ◌+◌, ◌-◌, ◌^◌, ℕ, Bool, true, false, List, [], ◌∷◌, if◌then◌else◌, min, nat_lt}
+-- Kinds of documents, as modules in ASN.1 define them: by the tags of the fields of their SEQUENCEs, in order.
+use Rattle.std.specs.Prelude.{◌==◌, ◌&&◌, ◌||◌, ℕ, Bool, true, false, List, [], ◌∷◌, if◌then◌else◌}
 use Rattle.asn1_headers.specs.declared.header.ASN1Class.{ASN1Class}
 use Rattle.asn1_headers.specs.declared.header.ASN1Class.TheVariants.{ContextSpecific, Universal}
-use Rattle.asn1_outline.specs.Triple.{entry_at}
-use Rattle.asn1_outline.specs.declared.entry.Entry.{Entry}
+use Rattle.asn1_blocks.specs.declared.parsed.PlacedHeader.{PlacedHeader}
+use Rattle.asn1_outline.specs.Shapes.{Shapes, more_shapes, no_shapes}
+
+mutual
+  -- what a definition asks of an encoding
+  pub data Form : Type 0 where
+    -- a tag of class Universal with this number (X.690 8.1.2.2)
+    universal : ℕ → Form
+    -- a tag of class context-specific with this number
+    context : ℕ → Form
+    -- a CHOICE of two
+    either : Form → Form → Form
+    -- a SEQUENCE (X.690 8.9) of these fields
+    sequence : Fields → Form
+
+  -- what it asks of the encodings that the contents octets of a SEQUENCE are
+  pub data Fields : Type 0 where
+    -- nothing: any may follow
+    and_more : Fields
+    -- none follows
+    no_more : Fields
+    -- a field, and then these
+    one : Form → Fields → Fields
+    -- an OPTIONAL field, and then these
+    optional : Form → Fields → Fields
 
 abbrev pub is_universal : ASN1Class → Bool
 is_universal Universal = true
@@ -14,132 +36,113 @@ abbrev pub is_context : ASN1Class → Bool
 is_context ContextSpecific = true
 is_context _ = false
 
--- fields that are left of a SEQUENCE: the index of the next one among the entries, and how many there are
-pub record Place : Type 0 where
-  pub next : ℕ
-  pub left : ℕ
+abbrev mutual
+  -- the encoding with the header, around these encodings, is of the form
+  pub is_of : Form → PlacedHeader → Shapes → Bool
+  is_of (universal tag) header items = is_universal header.class && header.tag == tag
+  is_of (context tag) header items = is_context header.class && header.tag == tag
+  is_of (either a b) header items = is_of a header items || is_of b header items
+  is_of (sequence fields) header items = (is_universal header.class && header.tag == 16) && are_of fields items
 
--- the fields of the encoding with the index. An index is at most the greatest that a field can be
-abbrev pub inside : List Entry → ℕ → Place
-inside entries index = record {
-  next = min (index + 1) (2 ^ 64 - 1);
-  left = (entry_at entries index).items;
-}
+  -- the encodings side by side are these fields. Where the next one is of the form of an optional field, it is this
+  -- field
+  pub are_of : Fields → Shapes → Bool
+  are_of and_more _ = true
+  are_of no_more no_shapes = true
+  are_of no_more (more_shapes offset header items rest) = false
+  are_of (one form fields) no_shapes = false
+  are_of (one form fields) (more_shapes offset header items rest) = is_of form header items && are_of fields rest
+  are_of (optional form fields) no_shapes = are_of fields no_shapes
+  are_of (optional form fields) (more_shapes offset header items rest) =
+      if is_of form header items then are_of fields rest
+      else are_of fields (more_shapes offset header items rest)
 
--- the fields behind the next one
-abbrev pub behind : List Entry → Place → Place
-behind entries place = record {
-  next = (entry_at entries place.next).next;
-  left = place.left - 1;
-}
+-- fields of these forms, and then others
+abbrev pub each : List Form → Fields → Fields
+each [] fields = fields
+each (form ∷ forms) fields = one form (each forms fields)
 
--- the next field is of class Universal with the tag
-abbrev pub begins : ℕ → List Entry → Place → Bool
-begins tag entries place =
-    nat_lt 0 place.left
-    && (is_universal (entry_at entries place.next).class && (entry_at entries place.next).tag == tag)
+-- types of which the tag alone is asked (X.680 8.4, table 1): INTEGER, BIT STRING, OCTET STRING, and a SEQUENCE, as
+-- AlgorithmIdentifier, Name and SubjectPublicKeyInfo are
+abbrev pub integer : Form
+integer = universal 2
 
--- the next field is of class context-specific with the tag
-abbrev pub begins_context : ℕ → List Entry → Place → Bool
-begins_context tag entries place =
-    nat_lt 0 place.left
-    && (is_context (entry_at entries place.next).class && (entry_at entries place.next).tag == tag)
+abbrev pub bit_string : Form
+bit_string = universal 3
 
--- the next field is a time
-abbrev pub begins_time : List Entry → Place → Bool
-begins_time entries place = begins 23 entries place || begins 24 entries place
+abbrev pub octet_string : Form
+octet_string = universal 4
 
--- the next fields are of class Universal with these tags
-abbrev pub begin : List ℕ → List Entry → Place → Bool
-begin [] entries place = true
-begin (tag ∷ tags) entries place = begins tag entries place && begin tags entries (behind entries place)
+abbrev pub some_sequence : Form
+some_sequence = universal 16
 
--- the fields are of class Universal with these tags, and no others
-abbrev pub are : List ℕ → List Entry → Place → Bool
-are [] entries place = place.left == 0
-are (tag ∷ tags) entries place = begins tag entries place && are tags entries (behind entries place)
+-- Time (RFC 5280, section 4.1): UTCTime or GeneralizedTime
+abbrev pub time : Form
+time = either (universal 23) (universal 24)
 
--- the fields behind a next one that may be missing
-abbrev pub behind_optional : ℕ → List Entry → Place → Place
-behind_optional tag entries place = if begins tag entries place then behind entries place else place
+-- Validity (RFC 5280, section 4.1): notBefore and notAfter
+abbrev pub validity_fields : Fields
+validity_fields = each (time ∷ time ∷ []) and_more
 
-abbrev pub behind_context : ℕ → List Entry → Place → Place
-behind_context tag entries place = if begins_context tag entries place then behind entries place else place
+-- TBSCertificate (RFC 5280, section 4.1): version, serialNumber, signature, issuer, validity, subject and
+-- subjectPublicKeyInfo
+abbrev pub tbs_certificate : Fields
+tbs_certificate =
+    optional (context 0)
+    (each
+    (integer ∷ some_sequence ∷ some_sequence ∷ sequence validity_fields ∷ some_sequence ∷ some_sequence ∷ [])
+    and_more)
 
--- a signed structure: what was signed, an algorithm, and the bits of a signature
-abbrev pub is_signed : List Entry → ℕ → Bool
-is_signed entries index = are (16 ∷ 16 ∷ 3 ∷ []) entries (inside entries index)
+-- TBSCertList (RFC 5280, section 5.1): version, signature, issuer and thisUpdate
+abbrev pub tbs_list : Fields
+tbs_list = optional integer (each (some_sequence ∷ some_sequence ∷ time ∷ []) and_more)
 
--- two times
-abbrev pub is_validity : List Entry → ℕ → Bool
-is_validity entries index =
-    begins_time entries (inside entries index) && begins_time entries (behind entries (inside entries index))
+-- CertificationRequestInfo (RFC 2986, section 4.1): version, subject, subjectPKInfo, and attributes, which some leave
+-- out
+abbrev pub request_info : Fields
+request_info = each (integer ∷ some_sequence ∷ some_sequence ∷ []) (optional (context 0) no_more)
 
--- serial number, signature, issuer, validity, subject and key of a TBSCertificate, behind its version
-abbrev pub is_certificate_at : List Entry → Place → Bool
-is_certificate_at entries serial =
-    begin (2 ∷ 16 ∷ 16 ∷ 16 ∷ 16 ∷ 16 ∷ []) entries serial
-    && is_validity entries (behind entries (behind entries (behind entries serial))).next
+-- Certificate, CertificateList and CertificationRequest (RFC 5280, sections 4.1 and 5.1; RFC 2986, section 4.2): what
+-- was signed, of these fields; the algorithm, and the bits of the signature
+abbrev pub signed : Fields → Fields
+signed content = each (sequence content ∷ some_sequence ∷ bit_string ∷ []) no_more
 
-abbrev pub is_certificate : List Entry → ℕ → Bool
-is_certificate entries index = is_certificate_at entries (behind_context 0 entries (inside entries index))
+-- SubjectPublicKeyInfo (RFC 5280, section 4.1): algorithm and subjectPublicKey
+abbrev pub public_key : Fields
+public_key = each (some_sequence ∷ bit_string ∷ []) and_more
 
--- signature, issuer and time of a TBSCertList, behind its version
-abbrev pub is_list_at : List Entry → Place → Bool
-is_list_at entries signature =
-    begin (16 ∷ 16 ∷ []) entries signature && begins_time entries (behind entries (behind entries signature))
+-- OneAsymmetricKey (RFC 5958, section 2): version, privateKeyAlgorithm and privateKey
+abbrev pub private_key : Fields
+private_key = each (integer ∷ some_sequence ∷ octet_string ∷ []) and_more
 
-abbrev pub is_revocation_list : List Entry → ℕ → Bool
-is_revocation_list entries index = is_list_at entries (behind_optional 2 entries (inside entries index))
+-- RSAPrivateKey (RFC 8017, appendix A.1.2): version, modulus, publicExponent, privateExponent, prime1, prime2,
+-- exponent1, exponent2 and coefficient
+abbrev pub rsa_key : Fields
+rsa_key =
+    each (integer ∷ integer ∷ integer ∷ integer ∷ integer ∷ integer ∷ integer ∷ integer ∷ integer ∷ []) and_more
 
--- version, subject and key of a CertificationRequestInfo, and attributes, which may be missing
-abbrev pub is_request_at : List Entry → Place → Bool
-is_request_at entries version =
-    begin (2 ∷ 16 ∷ 16 ∷ []) entries version
-    && (behind_context 0 entries (behind entries (behind entries (behind entries version)))).left == 0
+-- ECPrivateKey (RFC 5915, section 3): version and privateKey
+abbrev pub ec_key : Fields
+ec_key = each (integer ∷ octet_string ∷ []) and_more
 
-abbrev pub is_request : List Entry → ℕ → Bool
-is_request entries index = is_request_at entries (inside entries index)
+-- EncryptedPrivateKeyInfo (RFC 5958, section 3): encryptionAlgorithm and encryptedData
+abbrev pub encrypted_key : Fields
+encrypted_key = each (some_sequence ∷ octet_string ∷ []) no_more
 
--- what was signed is a certificate, a list of revoked certificates, or a request
-abbrev pub is_known_content : List Entry → ℕ → Bool
-is_known_content entries index =
-    is_certificate entries index || (is_revocation_list entries index || is_request entries index)
+-- the encodings are the fields of one of these
+abbrev pub are_of_some : List Fields → Shapes → Bool
+are_of_some [] _ = false
+are_of_some (fields ∷ others) shapes = are_of fields shapes || are_of_some others shapes
 
--- a SubjectPublicKeyInfo: an algorithm, and the bits of the key
-abbrev pub is_public_key : List Entry → ℕ → Bool
-is_public_key entries index = begin (16 ∷ 3 ∷ []) entries (inside entries index)
+-- what an account can be of
+abbrev pub signed_kinds : List Fields
+signed_kinds = signed tbs_certificate ∷ signed tbs_list ∷ signed request_info ∷ []
 
--- a PrivateKeyInfo: version, algorithm, and the octets of the key
-abbrev pub is_private_key : List Entry → ℕ → Bool
-is_private_key entries index = begin (2 ∷ 16 ∷ 4 ∷ []) entries (inside entries index)
+abbrev pub key_kinds : List Fields
+key_kinds = public_key ∷ private_key ∷ rsa_key ∷ ec_key ∷ encrypted_key ∷ []
 
--- an RSAPrivateKey: version and eight numbers
-abbrev pub is_rsa_key : List Entry → ℕ → Bool
-is_rsa_key entries index =
-    begin (2 ∷ 2 ∷ 2 ∷ 2 ∷ 2 ∷ 2 ∷ 2 ∷ 2 ∷ 2 ∷ []) entries (inside entries index)
-
--- an ECPrivateKey: version, and the octets of the key
-abbrev pub is_ec_key : List Entry → ℕ → Bool
-is_ec_key entries index = begin (2 ∷ 4 ∷ []) entries (inside entries index)
-
--- an EncryptedPrivateKeyInfo: an algorithm, and encrypted octets
-abbrev pub is_encrypted_key : List Entry → ℕ → Bool
-is_encrypted_key entries index = are (16 ∷ 4 ∷ []) entries (inside entries index)
-
-abbrev pub is_plain_key : List Entry → ℕ → Bool
-is_plain_key entries index =
-    is_private_key entries index || (is_rsa_key entries index || is_ec_key entries index)
-
-abbrev pub is_key : List Entry → ℕ → Bool
-is_key entries index =
-    is_public_key entries index || (is_plain_key entries index || is_encrypted_key entries index)
-
--- the encoding with the index is of a known kind: a signed structure with known content, or a key
-abbrev pub is_known_at : List Entry → ℕ → Bool
-is_known_at entries index =
-    if is_signed entries index then is_known_content entries (inside entries index).next else is_key entries index
-
--- the first encoding of a document is of a known kind
-abbrev pub is_known : List Entry → Bool
-is_known entries = is_known_at entries 0
+-- the first encoding of a document is a SEQUENCE of the fields of one of these
+abbrev pub is_known : Shapes → Bool
+is_known no_shapes = false
+is_known (more_shapes offset header items rest) =
+    is_of some_sequence header items && (are_of_some signed_kinds items || are_of_some key_kinds items)

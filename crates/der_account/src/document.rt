@@ -1,42 +1,48 @@
-// Certificates, certification requests, revocation lists and keys, each by its fields.
-ghost use Rattle.std.specs.Prelude.{◌≡◌, IfOk, IfSome, is_some};
-ghost use Rattle.der_account.specs.Kinds.{inside, is_certificate, is_encrypted_key, is_key, is_plain_key, is_request};
-ghost use Rattle.der_account.specs.Kinds.{is_revocation_list, is_signed, is_validity};
-ghost use Rattle.der_account.specs.Places.{entries_around};
-
+// What is shown of certificates, certification requests, revocation lists and keys.
 use crate::extension::push_extensions;
+use crate::kind::{ATTRIBUTES, Content, Key, Kind, PUBLIC_KEY, VERSION, has_fields};
 use crate::lines::Lines;
 use crate::name::name_text;
-use crate::node::{BIT_STRING, Fields, INTEGER, Node, OCTET_STRING, SEQUENCE};
+use crate::node::{INTEGER, Items, Node, SEQUENCE, Tag};
 use crate::value::{
     algorithm_text, ec_key_text, end_text, private_key_text, public_key_text, rsa_key_text,
     serial_text, time_text,
 };
 use jiff::civil::DateTime;
-use std::alloc::{AllocError, Global};
+use sha2::{Digest, Sha256};
+use std::alloc::AllocError;
 
-// What is signed, and how: the parts of a signed structure (RFC 5280, section 4.1.1).
-#[derive(Clone, Copy)]
-pub struct Signed<'h, 'd> {
-    pub content: Node<'h, 'd>,
-    pub algorithm: Node<'h, 'd>,
+// Pushes the account of a document of the kind, of which this is the first encoding.
+pub fn push_document(
+    lines: &mut Lines<'_>,
+    kind: Kind,
+    first: &Node<'_, '_>,
+    now: Option<DateTime>,
+) -> Result<(), AllocError> {
+    match kind {
+        Kind::Signed(content) => push_signed(lines, content, first, now),
+        Kind::Key(key) => push_key(lines, key, first),
+    }
 }
 
-impl<'h, 'd> Signed<'h, 'd> {
-    pub fn find(first: &Node<'h, 'd>) -> Option<Signed<'h, 'd>>
-        ensures found { is_some result ≡ is_signed (entries_around first.now) first.now.index }
-        ensures content { IfSome result (λ signed. (signed.content.headers.now ≡ first.now.headers.now)
-            × (signed.content.index ≡ (inside (entries_around first.now) first.now.index).next)) }
-    {
-        let mut fields = Fields::of(first);
-        let content = fields.take(SEQUENCE)?;
-        let algorithm = fields.take(SEQUENCE)?;
-        fields.take(BIT_STRING)?;
-        if !fields.is_at_end() {
-            return None;
-        }
-        Some(Signed { content, algorithm })
+// Pushes the account of a signed structure (RFC 5280, section 4.1.1): what was signed, and how; and the fingerprint of
+// it, SHA-256 of the encoding.
+fn push_signed(
+    lines: &mut Lines<'_>,
+    kind: Content,
+    first: &Node<'_, '_>,
+    now: Option<DateTime>,
+) -> Result<(), AllocError> {
+    let mut items = Items::of(first);
+    let content = items.take_next();
+    match kind {
+        Content::Certificate => Certificate::of(&content).push(lines, now)?,
+        Content::RevocationList => RevocationList::of(&content).push(lines, now)?,
+        Content::Request => Request::of(&content).push(lines)?,
     }
+    push_algorithm(lines, "signature", &items.take_next())?;
+    let digest = hex::encode_upper(lines.alloc, &Sha256::digest(first.encoding()))?;
+    lines.line("SHA-256", &digest)
 }
 
 // The fields of a TBSCertificate (RFC 5280, section 4.1) that an account shows.
@@ -52,30 +58,26 @@ pub struct Certificate<'h, 'd> {
 }
 
 impl<'h, 'd> Certificate<'h, 'd> {
-    pub fn find(content: &Node<'h, 'd>) -> Option<Certificate<'h, 'd>>
-        ensures { is_some result ≡ is_certificate (entries_around content.now) content.now.index }
-    {
-        let mut fields = Fields::of(content);
-        fields.take_context(0);
-        let serial = fields.take(INTEGER)?;
-        fields.take(SEQUENCE)?;
-        let issuer = fields.take(SEQUENCE)?;
-        let validity = fields.take(SEQUENCE)?;
-        let subject = fields.take(SEQUENCE)?;
-        let key = fields.take(SEQUENCE)?;
-        let (not_before, not_after) = times_in(&validity)?;
-        Some(Certificate {
+    fn of(content: &Node<'h, 'd>) -> Certificate<'h, 'd> {
+        let mut fields = Items::of(content);
+        fields.take(VERSION);
+        let serial = fields.take_next();
+        // the algorithm of the signature
+        fields.take_next();
+        let issuer = fields.take_next();
+        let mut validity = Items::of(&fields.take_next());
+        Certificate {
             serial,
             issuer,
-            not_before,
-            not_after,
-            subject,
-            key,
+            not_before: validity.take_next(),
+            not_after: validity.take_next(),
+            subject: fields.take_next(),
+            key: fields.take_next(),
             extensions: certificate_extensions(&mut fields),
-        })
+        }
     }
 
-    pub fn push(&self, lines: &mut Lines<'_>, now: Option<DateTime>) -> Result<(), AllocError> {
+    fn push(&self, lines: &mut Lines<'_>, now: Option<DateTime>) -> Result<(), AllocError> {
         lines.title("certificate")?;
         push_name(lines, "subject", &self.subject)?;
         push_name(lines, "issuer", &self.issuer)?;
@@ -85,7 +87,7 @@ impl<'h, 'd> Certificate<'h, 'd> {
         lines.line("not before", &not_before)?;
         let not_after = end_text(lines.alloc, &self.not_after, now)?;
         lines.line("not after", &not_after)?;
-        push_public_key(lines, &self.key)?;
+        push_public_key(lines, "public key", &self.key)?;
         match &self.extensions {
             Some(extensions) => push_extensions(lines, extensions),
             None => Ok(()),
@@ -93,21 +95,11 @@ impl<'h, 'd> Certificate<'h, 'd> {
     }
 }
 
-// The two times of a Validity.
-fn times_in<'h, 'd>(validity: &Node<'h, 'd>) -> Option<(Node<'h, 'd>, Node<'h, 'd>)>
-    ensures { is_some result ≡ is_validity (entries_around validity.now) validity.now.index }
-{
-    let mut times = Fields::of(validity);
-    let not_before = times.take_time()?;
-    let not_after = times.take_time()?;
-    Some((not_before, not_after))
-}
-
 // The extensions of a TBSCertificate, behind its key and its unique identifiers.
-fn certificate_extensions<'h, 'd>(fields: &mut Fields<'h, 'd>) -> Option<Node<'h, 'd>> {
-    fields.take_context(1);
-    fields.take_context(2);
-    fields.take_context(3)?.inner()
+fn certificate_extensions<'h, 'd>(fields: &mut Items<'h, 'd>) -> Option<Node<'h, 'd>> {
+    fields.take(Tag::Context(1));
+    fields.take(Tag::Context(2));
+    fields.take(Tag::Context(3))?.inner()
 }
 
 // The fields of a CertificationRequestInfo (RFC 2986, section 4.1).
@@ -122,28 +114,21 @@ pub struct Request<'h, 'd> {
 const EXTENSION_REQUEST: &[u8] = &[0x2A, 0x86, 0x48, 0x86, 0xF7, 0x0D, 1, 9, 14];
 
 impl<'h, 'd> Request<'h, 'd> {
-    pub fn find(content: &Node<'h, 'd>) -> Option<Request<'h, 'd>>
-        ensures { is_some result ≡ is_request (entries_around content.now) content.now.index }
-    {
-        let mut fields = Fields::of(content);
-        fields.take(INTEGER)?;
-        let subject = fields.take(SEQUENCE)?;
-        let key = fields.take(SEQUENCE)?;
-        let attributes = fields.take_context(0);
-        if !fields.is_at_end() {
-            return None;
+    fn of(content: &Node<'h, 'd>) -> Request<'h, 'd> {
+        let mut fields = Items::of(content);
+        // the version
+        fields.take_next();
+        Request {
+            subject: fields.take_next(),
+            key: fields.take_next(),
+            attributes: fields.take(ATTRIBUTES),
         }
-        Some(Request {
-            subject,
-            key,
-            attributes,
-        })
     }
 
-    pub fn push(&self, lines: &mut Lines<'_>) -> Result<(), AllocError> {
+    fn push(&self, lines: &mut Lines<'_>) -> Result<(), AllocError> {
         lines.title("certification request")?;
         push_name(lines, "subject", &self.subject)?;
-        push_public_key(lines, &self.key)?;
+        push_public_key(lines, "public key", &self.key)?;
         let Some(attributes) = &self.attributes else {
             return Ok(());
         };
@@ -180,24 +165,21 @@ pub struct RevocationList<'h, 'd> {
 }
 
 impl<'h, 'd> RevocationList<'h, 'd> {
-    pub fn find(content: &Node<'h, 'd>) -> Option<RevocationList<'h, 'd>>
-        ensures { is_some result ≡ is_revocation_list (entries_around content.now) content.now.index }
-    {
-        let mut fields = Fields::of(content);
+    fn of(content: &Node<'h, 'd>) -> RevocationList<'h, 'd> {
+        let mut fields = Items::of(content);
         fields.take(INTEGER);
-        fields.take(SEQUENCE)?;
-        let issuer = fields.take(SEQUENCE)?;
-        let this_update = fields.take_time()?;
-        Some(RevocationList {
-            issuer,
-            this_update,
-            next_update: fields.take_time(),
+        // the algorithm of the signature
+        fields.take_next();
+        RevocationList {
+            issuer: fields.take_next(),
+            this_update: fields.take_next(),
+            next_update: fields.take(Tag::Time),
             revoked: revoked_count(&mut fields),
             extensions: list_extensions(&mut fields),
-        })
+        }
     }
 
-    pub fn push(&self, lines: &mut Lines<'_>, now: Option<DateTime>) -> Result<(), AllocError> {
+    fn push(&self, lines: &mut Lines<'_>, now: Option<DateTime>) -> Result<(), AllocError> {
         lines.title("list of revoked certificates")?;
         push_name(lines, "issuer", &self.issuer)?;
         let this_update = time_text(lines.alloc, &self.this_update)?;
@@ -216,15 +198,15 @@ impl<'h, 'd> RevocationList<'h, 'd> {
 }
 
 // How many certificates are revoked.
-fn revoked_count(fields: &mut Fields<'_, '_>) -> usize {
+fn revoked_count(fields: &mut Items<'_, '_>) -> usize {
     match fields.take(SEQUENCE) {
         Some(list) => list.item_count(),
         None => 0,
     }
 }
 
-fn list_extensions<'h, 'd>(fields: &mut Fields<'h, 'd>) -> Option<Node<'h, 'd>> {
-    fields.take_context(0)?.inner()
+fn list_extensions<'h, 'd>(fields: &mut Items<'h, 'd>) -> Option<Node<'h, 'd>> {
+    fields.take(Tag::Context(0))?.inner()
 }
 
 fn push_name(lines: &mut Lines<'_>, label: &str, name: &Node<'_, '_>) -> Result<(), AllocError> {
@@ -232,64 +214,43 @@ fn push_name(lines: &mut Lines<'_>, label: &str, name: &Node<'_, '_>) -> Result<
     lines.line(label, &text)
 }
 
-fn push_public_key(lines: &mut Lines<'_>, key: &Node<'_, '_>) -> Result<(), AllocError> {
-    let text = public_key_text(lines.alloc, lines.names, key)?;
-    lines.line_if("public key", text.as_deref())
-}
-
-// Pushes the line of the algorithm of a signature.
-pub fn push_signature(lines: &mut Lines<'_>, algorithm: &Node<'_, '_>) -> Result<(), AllocError> {
+fn push_algorithm(
+    lines: &mut Lines<'_>,
+    label: &str,
+    algorithm: &Node<'_, '_>,
+) -> Result<(), AllocError> {
     let text = algorithm_text(lines.alloc, lines.names, algorithm)?;
-    lines.line("signature", &text)
+    lines.line(label, &text)
 }
 
-// Pushes the account of a key, and returns whether the encoding is one.
-pub fn push_key(lines: &mut Lines<'_>, first: &Node<'_, '_>) -> Result<bool, AllocError>
-    ensures { IfOk result (λ known. known ≡ is_key (entries_around first.now) first.now.index) }
-{
-    let alloc = lines.alloc;
-    if let Some(text) = public_key_text(alloc, lines.names, first)? {
-        lines.title("public key")?;
-        lines.line("key", &text)?;
-        return Ok(true);
+// Pushes the line of a SubjectPublicKeyInfo, if it is one.
+fn push_public_key(
+    lines: &mut Lines<'_>,
+    label: &str,
+    key: &Node<'_, '_>,
+) -> Result<(), AllocError> {
+    if !has_fields(key, PUBLIC_KEY) {
+        return Ok(());
     }
-    if let Some(text) = private_key_in(alloc, lines, first)? {
-        lines.title("private key")?;
-        lines.line("key", &text)?;
-        return Ok(true);
-    }
-    push_encrypted(lines, first)
+    let text = public_key_text(lines.alloc, lines.names, key)?;
+    lines.line(label, &text)
 }
 
-fn private_key_in(
-    alloc: Global,
-    lines: &Lines<'_>,
-    first: &Node<'_, '_>,
-) -> Result<Option<String>, AllocError>
-    ensures { IfOk result (λ text. is_some text ≡ is_plain_key (entries_around first.now) first.now.index) }
-{
-    if let Some(text) = private_key_text(alloc, lines.names, first)? {
-        return Ok(Some(text));
-    }
-    if let Some(text) = rsa_key_text(alloc, first)? {
-        return Ok(Some(text));
-    }
-    ec_key_text(alloc, lines.names, first)
-}
-
-// Pushes the account of an EncryptedPrivateKeyInfo (RFC 5958, section 3), and returns whether the encoding is one.
-fn push_encrypted(lines: &mut Lines<'_>, first: &Node<'_, '_>) -> Result<bool, AllocError>
-    ensures { IfOk result (λ known. known ≡ is_encrypted_key (entries_around first.now) first.now.index) }
-{
-    let mut fields = Fields::of(first);
-    let (Some(algorithm), Some(_)) = (fields.take(SEQUENCE), fields.take(OCTET_STRING)) else {
-        return Ok(false);
+// Pushes the account of a key.
+fn push_key(lines: &mut Lines<'_>, kind: Key, key: &Node<'_, '_>) -> Result<(), AllocError> {
+    let text = match kind {
+        Key::Public => {
+            lines.title("public key")?;
+            return push_public_key(lines, "key", key);
+        }
+        Key::Encrypted => {
+            lines.title("encrypted private key")?;
+            return push_algorithm(lines, "encryption", &Items::of(key).take_next());
+        }
+        Key::Private => private_key_text(lines.alloc, lines.names, key)?,
+        Key::Rsa => rsa_key_text(lines.alloc, key)?,
+        Key::Ec => ec_key_text(lines.alloc, lines.names, key)?,
     };
-    if !fields.is_at_end() {
-        return Ok(false);
-    }
-    lines.title("encrypted private key")?;
-    let text = algorithm_text(lines.alloc, lines.names, &algorithm)?;
-    lines.line("encryption", &text)?;
-    Ok(true)
+    lines.title("private key")?;
+    lines.line("key", &text)
 }

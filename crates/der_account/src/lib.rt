@@ -22,18 +22,19 @@
 ghost use Rattle.std.specs.Prelude.{◌≡◌, ℕ, IfOk, IsErr, IsNone, false, is_some};
 ghost use Rattle.asn1_headers.specs.Fault.{DecodeFault};
 ghost use Rattle.asn1_headers.specs.declared.error.ASN1DecodeErr.TheVariants.{OutOfMemory};
-ghost use Rattle.asn1_outline.specs.Shapes.{FirstHeaderFaultAt, HasShapes, Shapes, entries_of};
-ghost use Rattle.der_account.specs.Kinds.{is_known, is_known_at};
-ghost use Rattle.der_account.specs.Places.{entries_around};
+ghost use Rattle.asn1_outline.specs.Shapes.{FirstHeaderFaultAt, HasShapes, Shapes};
+ghost use Rattle.der_account.specs.Kinds.{is_known};
 
 mod document;
 mod extension;
+mod kind;
 mod lines;
 mod name;
 mod node;
 mod value;
 
-use crate::document::{Certificate, Request, RevocationList, Signed, push_key, push_signature};
+use crate::document::push_document;
+use crate::kind::kind_of;
 use crate::lines::Lines;
 pub use crate::lines::{Line, joined};
 use crate::node::Node;
@@ -42,7 +43,6 @@ use asn1_headers::error::ASN1DecodeErr;
 use asn1_outline::headers::Headers;
 use der_names::Names;
 use jiff::civil::DateTime;
-use sha2::{Digest, Sha256};
 use std::alloc::{AllocError, Global};
 
 /// The account of a document.
@@ -71,7 +71,7 @@ pub fn account_of(
     ensures unreadable { (fault : DecodeFault) (offset : ℕ) → FirstHeaderFaultAt octets.now fault offset
         → IfOk result (λ account. account.is_known ≡ false) }
     ensures kind { (all : Shapes) → HasShapes octets.now all
-        → IfOk result (λ account. account.is_known ≡ is_known (entries_of 0 0 all)) }
+        → IfOk result (λ account. account.is_known ≡ is_known all) }
 {
     match known_account(alloc, names, octets, now)? {
         Some(lines) => Ok(Account {
@@ -105,21 +105,22 @@ fn known_account(
     ensures unreadable { (fault : DecodeFault) (offset : ℕ) → FirstHeaderFaultAt octets.now fault offset
         → IfOk result (λ lines. IsNone lines) }
     ensures kind { (all : Shapes) → HasShapes octets.now all
-        → IfOk result (λ lines. is_some lines ≡ is_known (entries_of 0 0 all)) }
+        → IfOk result (λ lines. is_some lines ≡ is_known all) }
 {
     let headers = match Headers::read(alloc, octets) {
         Ok(headers) => headers,
         Err(e) => return none_unless_memory(&e.error),
     };
     let first = Node::first(&headers);
+    let Some(kind) = kind_of(&first) else {
+        return Ok(None);
+    };
     let mut lines = Lines {
         alloc,
         names,
         pushed: Vec::new(alloc),
     };
-    if !push_known(&mut lines, &first, now)? {
-        return Ok(None);
-    }
+    push_document(&mut lines, kind, &first, now)?;
     push_departures(&mut lines, octets)?;
     Ok(Some(lines.pushed))
 }
@@ -133,38 +134,6 @@ fn none_unless_memory(error: &ASN1DecodeErr) -> Result<Option<Vec<Line>>, AllocE
         ASN1DecodeErr::OutOfMemory => Err(AllocError),
         _ => Ok(None),
     }
-}
-
-// Pushes the account of a document of a known kind, and returns whether it is of one.
-fn push_known(
-    lines: &mut Lines<'_>,
-    first: &Node<'_, '_>,
-    now: Option<DateTime>,
-) -> Result<bool, AllocError>
-    ensures { IfOk result (λ known. known ≡ is_known_at (entries_around first.now) first.now.index) }
-{
-    let Some(signed) = Signed::find(first) else {
-        return push_key(lines, first);
-    };
-    if let Some(certificate) = Certificate::find(&signed.content) {
-        certificate.push(lines, now)?;
-    } else if let Some(list) = RevocationList::find(&signed.content) {
-        list.push(lines, now)?;
-    } else if let Some(request) = Request::find(&signed.content) {
-        request.push(lines)?;
-    } else {
-        return Ok(false);
-    }
-    push_signature(lines, &signed.algorithm)?;
-    push_digest(lines, first.encoding())?;
-    Ok(true)
-}
-
-// Pushes the line of the fingerprint: SHA-256 of the encoding.
-fn push_digest(lines: &mut Lines<'_>, octets: &[u8]) -> Result<(), AllocError> {
-    let digest = Sha256::digest(octets);
-    let text = hex::encode_upper(lines.alloc, &digest)?;
-    lines.line("SHA-256", &text)
 }
 
 // Pushes a line for each rule of DER that is broken.

@@ -70,12 +70,4 @@ impl Lines<'_> {
         let text = format!(in self.alloc; "  {label:<LABEL_WIDTH$}{value}")?;
         self.title(&text)
     }
-
-    // Pushes such a line, if there is a value.
-    pub fn line_if(&mut self, label: &str, value: Option<&str>) -> Result<(), AllocError> {
-        match value {
-            Some(value) => self.line(label, value),
-            None => Ok(()),
-        }
-    }
 }

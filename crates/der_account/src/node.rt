@@ -1,32 +1,43 @@
-// Encodings among those that headers list, and the fields of a SEQUENCE in order.
-ghost use Rattle.std.specs.Prelude.{◌≡◌, ◌<◌, ◌&&◌, ◌==◌, IfSome, if◌then◌else◌, is_some};
+// Encodings among those that headers list, and those inside a SEQUENCE in order.
+ghost use Rattle.std.specs.Prelude.{◌≡◌, ◌<◌, ◌^◌, ◌&&◌, ◌==◌, ℕ, is_some, length};
+ghost use Rattle.asn1_blocks.specs.declared.parsed.PlacedHeader.{PlacedHeader};
+ghost use Rattle.asn1_outline.specs.Shapes.{Shapes, more_shapes};
 ghost use Rattle.asn1_outline.specs.Triple.{entry_at};
-ghost use Rattle.der_account.specs.Kinds.{begins, begins_context, begins_time, behind, inside, is_context as is_context_by, is_universal as is_universal_by};
-ghost use Rattle.der_account.specs.Places.{entries_around, entries_in, place_of};
+ghost use Rattle.der_account.specs.Kinds.{are_of, is_context as is_context_class, is_of, is_universal as is_universal_class, no_more};
+ghost use Rattle.der_account.specs.Places.{AreLeft, HasTaken, IsAt, entries_around, form_of};
 
 use asn1_headers::header::ASN1Class;
 use asn1_outline::entry::Entry;
 use asn1_outline::headers::Headers;
 use std::alloc::{AllocError, Global};
 
+// The tag of an encoding.
+#[derive(Clone, Copy)]
+pub enum Tag {
+    // Of class Universal, with this number.
+    Universal(u8),
+    // Of class context-specific, with this number.
+    Context(u8),
+    // That of a UTCTime or a GeneralizedTime.
+    Time,
+}
+
 // Tags of class Universal (X.680 8.4, table 1).
-pub const BOOLEAN: u64 = 1;
+pub const BOOLEAN: Tag = Tag::Universal(1);
 
-pub const INTEGER: u64 = 2;
+pub const INTEGER: Tag = Tag::Universal(2);
 
-pub const BIT_STRING: u64 = 3;
+pub const BIT_STRING: Tag = Tag::Universal(3);
 
-pub const OCTET_STRING: u64 = 4;
+pub const OCTET_STRING: Tag = Tag::Universal(4);
 
-pub const IDENTIFIER: u64 = 6;
+pub const IDENTIFIER: Tag = Tag::Universal(6);
 
-pub const SEQUENCE: u64 = 16;
+pub const SEQUENCE: Tag = Tag::Universal(16);
 
-pub const SET: u64 = 17;
+pub const UTC_TIME: Tag = Tag::Universal(23);
 
-pub const UTC_TIME: u64 = 23;
-
-pub const GENERALIZED_TIME: u64 = 24;
+pub const GENERALIZED_TIME: Tag = Tag::Universal(24);
 
 // An encoding among those that headers list, by its index.
 #[derive(Clone, Copy)]
@@ -48,20 +59,22 @@ const NO_ENTRY: Entry = Entry {
     depth: 0,
 };
 
-fn is_universal(class: ASN1Class) -> bool
-    ensures { result ≡ is_universal_by class }
+// Whether an entry is of class Universal with this tag number.
+fn is_universal(entry: &Entry, number: u8) -> bool
+    ensures { result ≡ (is_universal_class entry.now.class && entry.now.tag == number) }
 {
-    match class {
-        ASN1Class::Universal => true,
+    match entry.class {
+        ASN1Class::Universal => entry.tag == u64::from(number),
         ASN1Class::Application | ASN1Class::ContextSpecific | ASN1Class::Private => false,
     }
 }
 
-fn is_context_specific(class: ASN1Class) -> bool
-    ensures { result ≡ is_context_by class }
+// Whether it is of class context-specific with this one.
+fn is_context_specific(entry: &Entry, number: u8) -> bool
+    ensures { result ≡ (is_context_class entry.now.class && entry.now.tag == number) }
 {
-    match class {
-        ASN1Class::ContextSpecific => true,
+    match entry.class {
+        ASN1Class::ContextSpecific => entry.tag == u64::from(number),
         ASN1Class::Universal | ASN1Class::Application | ASN1Class::Private => false,
     }
 }
@@ -77,7 +90,8 @@ impl<'h, 'd> Node<'h, 'd> {
 
     // Its entry.
     pub fn entry(&self) -> Entry
-        ensures { result ≡ entry_at (entries_around self.now) self.now.index }
+        ensures entry { result ≡ entry_at (entries_around self.now) self.now.index }
+        ensures few { length (entries_around self.now) < 2 ^ 64 }
     {
         match self.headers.entries().get(self.index) {
             Some(entry) => *entry,
@@ -85,22 +99,18 @@ impl<'h, 'd> Node<'h, 'd> {
         }
     }
 
-    // Whether it is of class Universal with this tag.
-    pub fn is(&self, tag: u64) -> bool
-        ensures { result ≡ (is_universal_by (entry_at (entries_around self.now) self.now.index).class
-            && (entry_at (entries_around self.now) self.now.index).tag == tag) }
+    // Whether it has the tag.
+    pub fn is(&self, tag: Tag) -> bool
+        ensures { (offset : ℕ) (header : PlacedHeader) (items rest : Shapes)
+            → IsAt self.now offset header items rest
+            → result ≡ is_of (form_of tag) header items }
     {
         let entry = self.entry();
-        is_universal(entry.class) && entry.tag == tag
-    }
-
-    // Whether it is of class context-specific with this tag.
-    pub fn is_context(&self, tag: u64) -> bool
-        ensures { result ≡ (is_context_by (entry_at (entries_around self.now) self.now.index).class
-            && (entry_at (entries_around self.now) self.now.index).tag == tag) }
-    {
-        let entry = self.entry();
-        is_context_specific(entry.class) && entry.tag == tag
+        match tag {
+            Tag::Universal(number) => is_universal(&entry, number),
+            Tag::Context(number) => is_context_specific(&entry, number),
+            Tag::Time => is_universal(&entry, 23) || is_universal(&entry, 24),
+        }
     }
 
     // Its tag, if it is of class Universal.
@@ -138,62 +148,53 @@ impl<'h, 'd> Node<'h, 'd> {
 
     // The encodings directly inside it.
     pub fn items(&self, alloc: Global) -> Result<Vec<Node<'h, 'd>>, AllocError> {
-        let mut items = Vec::new(alloc);
-        let own = self.entry();
-        let depth = own.depth.saturating_add(1);
-        for (index, entry) in self.headers.entries().iter().enumerate() {
-            if index >= own.next {
-                break;
-            }
-            if index > self.index && entry.depth == depth {
-                items.push(Node {
-                    headers: self.headers,
-                    index,
-                })?;
-            }
+        let mut nodes = Vec::new(alloc);
+        let mut items = Items::of(self);
+        for _ in 0..self.item_count() {
+            nodes.push(items.take_next())?;
         }
-        Ok(items)
+        Ok(nodes)
     }
 
     // The one encoding directly inside it, or the first of some.
     pub fn inner(&self) -> Option<Node<'h, 'd>> {
-        if self.entry().items == 0 {
+        let items = Items::of(self);
+        if items.is_at_end() {
             return None;
         }
-        Some(Node {
-            headers: self.headers,
-            index: self.index.saturating_add(1),
-        })
+        Some(items.first())
     }
 }
 
-// The fields of a SEQUENCE, which are taken in order.
+// The encodings directly inside another one, which are taken in order.
 #[derive(Drop)]
-pub struct Fields<'h, 'd> {
+pub struct Items<'h, 'd> {
     pub headers: &'h Headers<'d>,
-    // the index of the next field
+    // the index of the next one
     pub next: usize,
-    // how many fields are left
+    // how many are left
     pub left: usize,
 }
 
-impl<'h, 'd> Fields<'h, 'd> {
-    // The fields of an encoding.
-    pub fn of(node: &Node<'h, 'd>) -> Fields<'h, 'd>
-        ensures headers { result.headers.now ≡ node.now.headers.now }
-        ensures place { place_of result ≡ inside (entries_around node.now) node.now.index }
+impl<'h, 'd> Items<'h, 'd> {
+    // Those inside an encoding.
+    pub fn of(node: &Node<'h, 'd>) -> Items<'h, 'd>
+        ensures { (offset : ℕ) (header : PlacedHeader) (items rest : Shapes)
+            → IsAt node.now offset header items rest → AreLeft result items }
     {
-        Fields {
+        Items {
             headers: node.headers,
             next: node.index.saturating_add(1),
             left: node.entry().items,
         }
     }
 
-    // The next field, whatever it is.
-    fn peek(&self) -> Node<'h, 'd>
+    // The first of those that are left.
+    pub fn first(&self) -> Node<'h, 'd>
         ensures headers { result.headers.now ≡ self.now.headers.now }
         ensures index { result.index ≡ self.now.next }
+        ensures first { (offset : ℕ) (header : PlacedHeader) (items rest : Shapes)
+            → AreLeft self.now (more_shapes offset header items rest) → IsAt result offset header items rest }
     {
         Node {
             headers: self.headers,
@@ -201,64 +202,45 @@ impl<'h, 'd> Fields<'h, 'd> {
         }
     }
 
-    // Goes on behind the next field.
+    // Takes the next one, if it has the tag.
+    pub fn take(&mut self, tag: Tag) -> Option<Node<'h, 'd>>
+        ensures { (shapes : Shapes) → AreLeft self.old shapes
+            → HasTaken (form_of tag) shapes (is_some result) self.new }
+    {
+        let first = self.first();
+        if self.left == 0 || !first.is(tag) {
+            return None;
+        }
+        self.skip();
+        Some(first)
+    }
+
+    // Takes the next one, whatever it is; one past the end of the document if none is left.
+    pub fn take_next(&mut self) -> Node<'h, 'd> {
+        if self.left == 0 {
+            return Node {
+                headers: self.headers,
+                index: usize::MAX,
+            };
+        }
+        let first = self.first();
+        self.skip();
+        first
+    }
+
+    // Goes on behind the next one.
     fn skip(&mut self)
         requires { 0 < self.old.left }
-        ensures headers { self.new.headers.now ≡ self.old.headers.now }
-        ensures place { place_of self.new ≡ behind (entries_in self.old) (place_of self.old) }
+        ensures { (offset : ℕ) (header : PlacedHeader) (items rest : Shapes)
+            → AreLeft self.old (more_shapes offset header items rest) → AreLeft self.new rest }
     {
-        self.next = self.peek().entry().next;
+        self.next = self.first().entry().next;
         self.left -= 1;
-    }
-
-    // The next field, if it is of class Universal with this tag.
-    pub fn take(&mut self, tag: u64) -> Option<Node<'h, 'd>>
-        ensures headers { self.new.headers.now ≡ self.old.headers.now }
-        ensures found { is_some result ≡ begins tag (entries_in self.old) (place_of self.old) }
-        ensures node { IfSome result (λ node. (node.headers.now ≡ self.old.headers.now)
-            × (node.index ≡ self.old.next)) }
-        ensures place { place_of self.new ≡ (if begins tag (entries_in self.old) (place_of self.old)
-            then behind (entries_in self.old) (place_of self.old) else place_of self.old) }
-    {
-        let node = self.peek();
-        if self.left == 0 || !node.is(tag) {
-            return None;
-        }
-        self.skip();
-        Some(node)
-    }
-
-    // The next field, if it is of class context-specific with this tag.
-    pub fn take_context(&mut self, tag: u64) -> Option<Node<'h, 'd>>
-        ensures headers { self.new.headers.now ≡ self.old.headers.now }
-        ensures found { is_some result ≡ begins_context tag (entries_in self.old) (place_of self.old) }
-        ensures place { place_of self.new ≡ (if begins_context tag (entries_in self.old) (place_of self.old)
-            then behind (entries_in self.old) (place_of self.old) else place_of self.old) }
-    {
-        let node = self.peek();
-        if self.left == 0 || !node.is_context(tag) {
-            return None;
-        }
-        self.skip();
-        Some(node)
-    }
-
-    // The next field, if it is a time.
-    pub fn take_time(&mut self) -> Option<Node<'h, 'd>>
-        ensures headers { self.new.headers.now ≡ self.old.headers.now }
-        ensures found { is_some result ≡ begins_time (entries_in self.old) (place_of self.old) }
-        ensures place { place_of self.new ≡ (if begins_time (entries_in self.old) (place_of self.old)
-            then behind (entries_in self.old) (place_of self.old) else place_of self.old) }
-    {
-        match self.take(UTC_TIME) {
-            Some(time) => Some(time),
-            None => self.take(GENERALIZED_TIME),
-        }
     }
 
     // Whether none is left.
     pub fn is_at_end(&self) -> bool
-        ensures { result ≡ ((place_of self.now).left == 0) }
+        ensures { (shapes : Shapes) → AreLeft self.now shapes → result ≡ are_of no_more shapes }
     {
         self.left == 0
     }

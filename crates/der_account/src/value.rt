@@ -1,13 +1,6 @@
 // Numbers, times, algorithms and keys, in a few words.
-ghost use Rattle.std.specs.Prelude.{◌≡◌, IfOk, is_some};
-ghost use Rattle.der_account.specs.Kinds.{is_ec_key, is_private_key, is_public_key, is_rsa_key};
-ghost use Rattle.der_account.specs.Places.{entries_around};
-
 use crate::name::{identifier_text, string_text};
-use crate::node::{
-    BIT_STRING, Fields, GENERALIZED_TIME, IDENTIFIER, INTEGER, Node, OCTET_STRING, SEQUENCE,
-    UTC_TIME,
-};
+use crate::node::{GENERALIZED_TIME, IDENTIFIER, INTEGER, Items, Node, Tag, UTC_TIME};
 use asn1_leaves::contents::{generalized_time, utc_time};
 use asn1_outline::headers::Headers;
 use der_names::Names;
@@ -69,10 +62,12 @@ fn bit_count(octets: &[u8]) -> usize {
 
 // The moment of a time in the form of DER.
 pub fn moment_of(time: &Node<'_, '_>) -> Option<DateTime> {
-    match time.universal_tag() {
-        Some(UTC_TIME) => utc_time::moment(time.contents()),
-        Some(GENERALIZED_TIME) => generalized_time::moment(time.contents()),
-        _ => None,
+    if time.is(UTC_TIME) {
+        utc_time::moment(time.contents())
+    } else if time.is(GENERALIZED_TIME) {
+        generalized_time::moment(time.contents())
+    } else {
+        None
     }
 }
 
@@ -164,94 +159,56 @@ fn modulus_bits(alloc: Global, key: &[u8], before: usize) -> Result<Option<usize
     }
 }
 
-// The kind and size of a SubjectPublicKeyInfo (RFC 5280, section 4.1), if it is one.
+// The kind and size of a SubjectPublicKeyInfo (RFC 5280, section 4.1).
 pub fn public_key_text(
     alloc: Global,
     names: &Names,
     key: &Node<'_, '_>,
-) -> Result<Option<String>, AllocError>
-    ensures { IfOk result (λ text. is_some text ≡ is_public_key (entries_around key.now) key.now.index) }
-{
-    let mut fields = Fields::of(key);
-    let (Some(algorithm), Some(bits)) = (fields.take(SEQUENCE), fields.take(BIT_STRING)) else {
-        return Ok(None);
-    };
-    let key = match bits.contents() {
+) -> Result<String, AllocError> {
+    let mut fields = Items::of(key);
+    let algorithm = fields.take_next();
+    let key = match fields.take_next().contents() {
         [0, key @ ..] => key,
         _ => &[],
     };
-    Ok(Some(key_text(alloc, names, &algorithm, key, 0)?))
+    key_text(alloc, names, &algorithm, key, 0)
 }
 
-// The kind and size of a PrivateKeyInfo (RFC 5958, section 2), if it is one.
+// The kind and size of a OneAsymmetricKey (RFC 5958, section 2).
 pub fn private_key_text(
     alloc: Global,
     names: &Names,
     key: &Node<'_, '_>,
-) -> Result<Option<String>, AllocError>
-    ensures { IfOk result (λ text. is_some text ≡ is_private_key (entries_around key.now) key.now.index) }
-{
-    let mut fields = Fields::of(key);
-    let (Some(_), Some(algorithm), Some(octets)) = (
-        fields.take(INTEGER),
-        fields.take(SEQUENCE),
-        fields.take(OCTET_STRING),
-    ) else {
-        return Ok(None);
-    };
-    Ok(Some(key_text(alloc, names, &algorithm, octets.contents(), 1)?))
+) -> Result<String, AllocError> {
+    let mut fields = Items::of(key);
+    // the version
+    fields.take_next();
+    let algorithm = fields.take_next();
+    let octets = fields.take_next();
+    key_text(alloc, names, &algorithm, octets.contents(), 1)
 }
 
-// How many bits the modulus of an RSAPrivateKey has (RFC 8017, appendix A.1.2), if it is one.
-pub fn rsa_key_text(alloc: Global, key: &Node<'_, '_>) -> Result<Option<String>, AllocError>
-    ensures { IfOk result (λ text. is_some text ≡ is_rsa_key (entries_around key.now) key.now.index) }
-{
-    match modulus_in(key) {
-        Some(modulus) => {
-            let bits = bit_count(modulus.contents());
-            Ok(Some(format!(in alloc; "RSA, {bits} bits")?))
-        }
-        None => Ok(None),
-    }
+// How many bits the modulus of an RSAPrivateKey has (RFC 8017, appendix A.1.2), behind its version.
+pub fn rsa_key_text(alloc: Global, key: &Node<'_, '_>) -> Result<String, AllocError> {
+    let mut fields = Items::of(key);
+    fields.take_next();
+    let bits = bit_count(fields.take_next().contents());
+    format!(in alloc; "RSA, {bits} bits")
 }
 
-// The modulus of an RSAPrivateKey, between the version and the seven other numbers, if it is one.
-fn modulus_in<'h, 'd>(key: &Node<'h, 'd>) -> Option<Node<'h, 'd>>
-    ensures { is_some result ≡ is_rsa_key (entries_around key.now) key.now.index }
-{
-    let mut fields = Fields::of(key);
-    fields.take(INTEGER)?;
-    let modulus = fields.take(INTEGER)?;
-    fields.take(INTEGER)?;
-    fields.take(INTEGER)?;
-    fields.take(INTEGER)?;
-    fields.take(INTEGER)?;
-    fields.take(INTEGER)?;
-    fields.take(INTEGER)?;
-    fields.take(INTEGER)?;
-    Some(modulus)
-}
-
-// The curve of an ECPrivateKey (RFC 5915, section 3), if it is one.
-pub fn ec_key_text(
-    alloc: Global,
-    names: &Names,
-    key: &Node<'_, '_>,
-) -> Result<Option<String>, AllocError>
-    ensures { IfOk result (λ text. is_some text ≡ is_ec_key (entries_around key.now) key.now.index) }
-{
-    let mut fields = Fields::of(key);
-    let (Some(_), Some(_)) = (fields.take(INTEGER), fields.take(OCTET_STRING)) else {
-        return Ok(None);
-    };
-    let Some(parameters) = fields.take_context(0) else {
-        return Ok(Some(String::from_str(alloc, "EC")?));
+// The curve of an ECPrivateKey (RFC 5915, section 3), behind its version and its key.
+pub fn ec_key_text(alloc: Global, names: &Names, key: &Node<'_, '_>) -> Result<String, AllocError> {
+    let mut fields = Items::of(key);
+    fields.take_next();
+    fields.take_next();
+    let Some(parameters) = fields.take(Tag::Context(0)) else {
+        return String::from_str(alloc, "EC");
     };
     match parameters.inner() {
         Some(curve) if curve.is(IDENTIFIER) => {
             let curve = identifier_text(alloc, names, &curve)?;
-            Ok(Some(format!(in alloc; "EC, {curve}")?))
+            format!(in alloc; "EC, {curve}")
         }
-        _ => Ok(Some(String::from_str(alloc, "EC")?)),
+        _ => String::from_str(alloc, "EC"),
     }
 }
