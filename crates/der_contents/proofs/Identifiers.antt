@@ -4,12 +4,12 @@ use Rattle.asn1_leaves.specs.Contents.ObjectIdentifier.{ObjectIdentifierContents
 use Rattle.der_contents.specs.Values.{HasShortFront}
 
 -- an octet that others of its subidentifier follow is none
-pub no_short_front :
+pub HasShortFront-none :
     (components contents : List ℕ) (octet : ℕ) (rest : List ℕ) → ObjectIdentifierContents components contents →
     contents ≡ octet ∷ rest → 128 ≤ octet → HasShortFront components → ⊥
-no_short_front [] contents octet rest is e long short = absurd is
-no_short_front (x ∷ []) contents octet rest is e long short = absurd is
-no_short_front (x ∷ y ∷ ns) contents octet rest (b, more, same, (sum, few, small), others) e long
+HasShortFront-none [] contents octet rest is e long short = absurd is
+HasShortFront-none (x ∷ []) contents octet rest is e long short = absurd is
+HasShortFront-none (x ∷ y ∷ ns) contents octet rest (b, more, same, (sum, few, small), others) e long
     (first, later, f, less) =
     let p : b ≡ octet = ap (λ z. get_or z 0 0) (sym same ∙ e) in
     let q : 40 * x + y ≡ first = ap (λ z. get_or z 0 0) f in

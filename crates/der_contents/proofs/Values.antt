@@ -20,11 +20,11 @@ pub primitive_of : (class : ASN1Class) (constructed : Bool) (tag : ℕ) → is_g
 primitive_of class true tag e = absurd (false≢true (sym e))
 primitive_of class false tag e = refl
 
-group_gone_into : (constructed : Bool) (g : GroupKind) → is_gone_into Universal constructed (group_tag g) ≡ true
-group_gone_into true Sequence = refl
-group_gone_into true Set = refl
-group_gone_into false Sequence = refl
-group_gone_into false Set = refl
+is_gone_into-group_tag : (constructed : Bool) (g : GroupKind) → is_gone_into Universal constructed (group_tag g) ≡ true
+is_gone_into-group_tag true Sequence = refl
+is_gone_into-group_tag true Set = refl
+is_gone_into-group_tag false Sequence = refl
+is_gone_into-group_tag false Set = refl
 
 module _ (octets contents : List ℕ) (class : ASN1Class) (constructed : Bool) (tag header : ℕ)
     (e : Encoding octets class constructed tag contents header) where
@@ -47,7 +47,7 @@ module _ (octets contents : List ℕ) (class : ASN1Class) (constructed : Bool) (
     | unknown_tag t ↦ (refl, header, e, inl (u, t))
     | group_tag_of g t ↦ absurd (false≢true
         (sym closed ∙ subst (λ z. is_gone_into z constructed tag ≡ true) (sym u)
-        (subst (λ z. is_gone_into Universal constructed z ≡ true) (sym t) (group_gone_into constructed g))))
+        (subst (λ z. is_gone_into Universal constructed z ≡ true) (sym t) (is_gone_into-group_tag constructed g))))
     | leaf_tag_of t ↦ absurd (false≢true (sym none ∙ t))
   ]
 

@@ -8,13 +8,13 @@ use Rattle.asn1_leaves.specs.Contents.Text.{TextFault, text_form}
 use Rattle.asn1_leaves.specs.StringKind.{StringKind}
 use Rattle.asn1_blocks.specs.Contents.{LeafFault, of_text, string_tag}
 
-and_false : (b : Bool) → (b && false) ≡ false
-and_false true = refl
-and_false false = refl
+and-false : (b : Bool) → (b && false) ≡ false
+and-false true = refl
+and-false false = refl
 
--- those of no tag of a UniversalString or a BMPString
-pub no_wide : (contents : List ℕ) → (not (length contents == 0) && false) ≡ false
-no_wide contents = and_false (not (length contents == 0))
+-- contents octets with a tag of neither a UniversalString nor a BMPString have no wide characters
+pub and-not_empty_false : (contents : List ℕ) → (not (length contents == 0) && false) ≡ false
+and-not_empty_false contents = and-false (not (length contents == 0))
 
 -- the fault of a string of characters goes on
 pub IfErr-text_fault :

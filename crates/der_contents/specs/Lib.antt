@@ -1,2 +1,3 @@
 pub mod Faults
+pub mod Scalars
 pub mod Values

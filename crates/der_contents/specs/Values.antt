@@ -2,6 +2,7 @@
 use Rattle.std.specs.Prelude.{◌≡◌, ◌≢◌, ◌⊎◌, ◌==◌, ◌||◌, ◌&&◌, not, ℕ, ◌<◌, Bool, true, false, List, [], ◌∷◌, length, IfSome, Option, None, Some, string_bytes}
 use Rattle.std.specs.Str.{chars}
 use Rattle.asn1_numbers.specs.TwosComplement.{signed_number}
+use Rattle.asn1_headers.specs.declared.tags.TheConstants.{ENUMERATED, TELETEX_STRING, UNIVERSAL_STRING, BMP_STRING}
 use Rattle.asn1_headers.specs.Fault.{DecodeFault}
 use Rattle.asn1_headers.specs.declared.header.ASN1Class.{ASN1Class}
 use Rattle.asn1_headers.specs.declared.header.ASN1Class.TheVariants.{Universal}
@@ -21,12 +22,12 @@ use Rattle.der_contents.specs.declared.value.LeafValue.TheVariants.{BerTime, Bit
 
 -- strings that the library takes for UTF-8 where X.690 has other characters: TeletexString, UniversalString, BMPString
 abbrev pub is_wide : ASN1Class → ℕ → Bool
-is_wide Universal tag = (tag == 20) || (tag == 28) || (tag == 30)
+is_wide Universal tag = (tag == TELETEX_STRING) || (tag == UNIVERSAL_STRING) || (tag == BMP_STRING)
 is_wide class tag = false
 
 -- the tags of UniversalString and BMPString
 abbrev pub is_wide_tag : ℕ → Bool
-is_wide_tag tag = (tag == 28) || (tag == 30)
+is_wide_tag tag = (tag == UNIVERSAL_STRING) || (tag == BMP_STRING)
 
 -- contents octets of a UniversalString or a BMPString that is not empty: X.690 has characters of four or of two octets
 -- there (8.23.7, 8.23.8), which the library takes for UTF-8
@@ -69,7 +70,7 @@ IsMomentOf class tag contents words =
 abbrev pub IsValue : ASN1Class → ℕ → List ℕ → LeafValue → Type 0
 IsValue class tag contents (Boolean is_true) = IsLeaf class tag contents (boolean is_true)
 IsValue class tag contents (Integer n) =
-    IsLeaf class tag contents (integer n) ⊎ ((class ≡ Universal) × (tag ≡ 10) × (n ≡ signed_number contents))
+    IsLeaf class tag contents (integer n) ⊎ ((class ≡ Universal) × (tag ≡ ENUMERATED) × (n ≡ signed_number contents))
 IsValue class tag contents (Bits bits) = IsLeaf class tag contents (bit_string bits.count bits.octets.items)
 IsValue class tag contents (Octets shown) = IsLeaf class tag contents (octet_string contents)
 IsValue class tag contents Null = IsLeaf class tag contents null
@@ -85,7 +86,7 @@ IsValue class tag contents (OtherText characters) =
 IsValue class tag contents (Notation words) = IsNoLeaf class tag true × (has_words tag ≡ true)
 IsValue class tag contents (OfMoment words) = IsMomentOf class tag contents (string_bytes words)
 IsValue class tag contents (BerTime words) = IsBerTime class tag contents
-IsValue class tag contents (Other shown) = IsNoLeaf class tag false × ((tag == 10) ≡ false)
+IsValue class tag contents (Other shown) = IsNoLeaf class tag false × ((tag == ENUMERATED) ≡ false)
 IsValue class tag contents (Tagged value) = class ≢ Universal
 IsValue class tag contents (NoText shown) =
     ((has_wide_characters class tag contents ≡ true)

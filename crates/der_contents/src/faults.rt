@@ -6,12 +6,13 @@ ghost use Rattle.der_contents.specs.Faults.{IsNamed};
 
 use crate::scalars::{write_after_space, write_quoted};
 use asn1_headers::error::ASN1DecodeErr;
+use asn1_headers::tags::{
+    BIT_STRING, BOOLEAN, GENERALIZED_TIME, OBJECT_IDENTIFIER, PRINTABLE_STRING, UTC_TIME,
+};
 use der_values::text_beside;
 use std::alloc::{AllocError, Global};
 use std::str;
 use std::str::Utf8Error;
-
-const PRINTABLE_STRING: u8 = 19;
 
 // What is wrong, and at which offset: the name of an error, as ASN1DecodeErr::name has it, if it has one, and a
 // message.
@@ -44,7 +45,7 @@ pub fn fault_at(alloc: Global, offset: usize, error: &ASN1DecodeErr) -> Result<F
 pub fn leaf_fault(
     alloc: Global,
     offset: usize,
-    universal: Option<u8>,
+    universal: Option<u64>,
     contents: &[u8],
     error: &ASN1DecodeErr,
 ) -> Result<Fault, AllocError>
@@ -65,12 +66,12 @@ pub fn leaf_fault(
 // Contents octets as text, where they are those of a string or a time that they do not make.
 fn text_at_fault(
     alloc: Global,
-    universal: Option<u8>,
+    universal: Option<u64>,
     contents: &[u8],
 ) -> Result<Option<String>, AllocError> {
     match universal {
-        Some(1 | 3 | 6) | None => Ok(None),
-        Some(tag) => match text_beside(u64::from(tag), contents) {
+        Some(BOOLEAN | BIT_STRING | OBJECT_IDENTIFIER) | None => Ok(None),
+        Some(tag) => match text_beside(tag, contents) {
             Some(text) => Ok(Some(String::from_str(alloc, text)?)),
             None => Ok(None),
         },
@@ -80,7 +81,7 @@ fn text_at_fault(
 // What is wrong with contents octets of a type of class Universal, and the name of the error.
 fn leaf_message(
     alloc: Global,
-    universal: Option<u8>,
+    universal: Option<u64>,
     contents: &[u8],
     fault: &ASN1DecodeErr,
 ) -> Result<String, AllocError> {
@@ -96,16 +97,16 @@ fn with_name(mut message: String, fault: &ASN1DecodeErr) -> Result<String, Alloc
 
 fn contents_text(
     alloc: Global,
-    universal: Option<u8>,
+    universal: Option<u64>,
     contents: &[u8],
     fault: &ASN1DecodeErr,
 ) -> Result<String, AllocError> {
     match (universal, fault) {
-        (Some(6), ASN1DecodeErr::Incomplete) => identifier_text(alloc, contents),
-        (Some(23), ASN1DecodeErr::InvalidDateValue(_)) => {
+        (Some(OBJECT_IDENTIFIER), ASN1DecodeErr::Incomplete) => identifier_text(alloc, contents),
+        (Some(UTC_TIME), ASN1DecodeErr::InvalidDateValue(_)) => {
             time_fault_text(alloc, "UTCTime", "YYMMDDhhmmssZ", contents)
         }
-        (Some(24), ASN1DecodeErr::InvalidDateValue(_)) => time_fault_text(
+        (Some(GENERALIZED_TIME), ASN1DecodeErr::InvalidDateValue(_)) => time_fault_text(
             alloc,
             "GeneralizedTime",
             "YYYYMMDDhhmmssZ, with or without a fraction",

@@ -16,6 +16,11 @@ use asn1_blocks::parsed::PlacedHeader;
 use asn1_headers::error::ASN1DecodeErr;
 use asn1_headers::front::Header;
 use asn1_headers::header::ASN1Class;
+use asn1_headers::tags::{
+    BIT_STRING, BMP_STRING, BOOLEAN, ENUMERATED, GENERALIZED_TIME, IA5_STRING, INTEGER, NULL,
+    OBJECT_IDENTIFIER, OCTET_STRING, PRINTABLE_STRING, TELETEX_STRING, UNIVERSAL_STRING, UTC_TIME,
+    UTF8_STRING,
+};
 use asn1_leaves::contents::text::TextForm;
 use asn1_leaves::contents::{bit_string, boolean, generalized_time, integer, text, utc_time};
 use asn1_leaves::oid;
@@ -29,8 +34,6 @@ use std::alloc::{AllocError, Global};
 use std::str;
 
 // The tag of an ENUMERATED (X.680 8.4, table 1).
-const ENUMERATED: u64 = 10;
-
 // The value of contents octets, or what is wrong with them.
 #[derive(Drop)]
 pub struct Read {
@@ -60,7 +63,8 @@ pub fn read_contents(
     if let Some(text) = time_of(alloc, header, contents)? {
         return Ok(right(LeafValue::BerTime(text)));
     }
-    let fault = leaf_fault(alloc, offset, universal_tag(header), contents, &error)?;
+    let universal = universal_tag(header).map(u64::from);
+    let fault = leaf_fault(alloc, offset, universal, contents, &error)?;
     Ok(Read {
         value: None,
         fault: Some(fault),
@@ -109,40 +113,40 @@ fn universal_value(
     ensures refused { IfErr result (OutOfMemoryOr (LeafFault tag contents.now)) }
 {
     match tag {
-        1 => boolean_value(contents),
-        2 => integer_value(alloc, contents),
-        3 => bits_value(alloc, contents, role),
-        4 => octets_value(alloc, contents),
-        5 => Ok(LeafValue::Null),
-        6 => identifier_value(alloc, contents),
-        12 => utf8_value(alloc, contents),
-        19 => printable_value(alloc, contents),
-        20 => teletex_value(alloc, contents),
-        22 => ia5_value(alloc, contents),
-        23 => utc_value(alloc, contents),
-        24 => generalized_value(alloc, contents),
-        28 => universal_string_value(alloc, contents),
-        30 => bmp_value(alloc, contents),
+        BOOLEAN => boolean_value(contents),
+        INTEGER => integer_value(alloc, contents),
+        BIT_STRING => bits_value(alloc, contents, role),
+        OCTET_STRING => octets_value(alloc, contents),
+        NULL => Ok(LeafValue::Null),
+        OBJECT_IDENTIFIER => identifier_value(alloc, contents),
+        UTF8_STRING => utf8_value(alloc, contents),
+        PRINTABLE_STRING => printable_value(alloc, contents),
+        TELETEX_STRING => teletex_value(alloc, contents),
+        IA5_STRING => ia5_value(alloc, contents),
+        UTC_TIME => utc_value(alloc, contents),
+        GENERALIZED_TIME => generalized_value(alloc, contents),
+        UNIVERSAL_STRING => universal_string_value(alloc, contents),
+        BMP_STRING => bmp_value(alloc, contents),
         _ => Ok(unknown_value(alloc, tag, contents)?),
     }
 }
 
 fn boolean_value(contents: &[u8]) -> Result<LeafValue, ASN1DecodeErr>
-    ensures found { IfOk result (IsValue Universal 1 contents.now) }
+    ensures found { IfOk result (IsValue Universal BOOLEAN contents.now) }
     ensures refused { IfErr result (OutOfMemoryOr (LeafFault 1 contents.now)) }
 {
     Ok(LeafValue::Boolean(boolean::read(contents)?))
 }
 
 fn integer_value(alloc: Global, contents: &[u8]) -> Result<LeafValue, ASN1DecodeErr>
-    ensures found { IfOk result (IsValue Universal 2 contents.now) }
+    ensures found { IfOk result (IsValue Universal INTEGER contents.now) }
     ensures refused { IfErr result (OutOfMemoryOr (LeafFault 2 contents.now)) }
 {
     Ok(LeafValue::Integer(integer::read(alloc, contents)?))
 }
 
 fn bits_value(alloc: Global, contents: &[u8], role: Role) -> Result<LeafValue, ASN1DecodeErr>
-    ensures found { IfOk result (IsValue Universal 3 contents.now) }
+    ensures found { IfOk result (IsValue Universal BIT_STRING contents.now) }
     ensures refused { IfErr result (OutOfMemoryOr (LeafFault 3 contents.now)) }
 {
     let (count, octets) = bit_string::read(alloc, contents)?;
@@ -155,14 +159,14 @@ fn bits_value(alloc: Global, contents: &[u8], role: Role) -> Result<LeafValue, A
 }
 
 fn octets_value(alloc: Global, contents: &[u8]) -> Result<LeafValue, ASN1DecodeErr>
-    ensures found { IfOk result (IsValue Universal 4 contents.now) }
+    ensures found { IfOk result (IsValue Universal OCTET_STRING contents.now) }
     ensures refused { IfErr result (OutOfMemoryOr (LeafFault 4 contents.now)) }
 {
     Ok(LeafValue::Octets(likely_text(alloc, contents)?))
 }
 
 fn identifier_value(alloc: Global, contents: &[u8]) -> Result<LeafValue, ASN1DecodeErr>
-    ensures found { IfOk result (IsValue Universal 6 contents.now) }
+    ensures found { IfOk result (IsValue Universal OBJECT_IDENTIFIER contents.now) }
     ensures refused { IfErr result (OutOfMemoryOr (LeafFault 6 contents.now)) }
 {
     let read = oid::read(alloc, contents)?;
@@ -170,7 +174,7 @@ fn identifier_value(alloc: Global, contents: &[u8]) -> Result<LeafValue, ASN1Dec
 }
 
 fn utf8_value(alloc: Global, contents: &[u8]) -> Result<LeafValue, ASN1DecodeErr>
-    ensures found { IfOk result (IsValue Universal 12 contents.now) }
+    ensures found { IfOk result (IsValue Universal UTF8_STRING contents.now) }
     ensures refused { IfErr result (OutOfMemoryOr (LeafFault 12 contents.now)) }
 {
     let text = text::read(alloc, TextForm::Utf8, contents)?;
@@ -178,7 +182,7 @@ fn utf8_value(alloc: Global, contents: &[u8]) -> Result<LeafValue, ASN1DecodeErr
 }
 
 fn printable_value(alloc: Global, contents: &[u8]) -> Result<LeafValue, ASN1DecodeErr>
-    ensures found { IfOk result (IsValue Universal 19 contents.now) }
+    ensures found { IfOk result (IsValue Universal PRINTABLE_STRING contents.now) }
     ensures refused { IfErr result (OutOfMemoryOr (LeafFault 19 contents.now)) }
 {
     let text = text::read(alloc, TextForm::Printable, contents)?;
@@ -186,7 +190,7 @@ fn printable_value(alloc: Global, contents: &[u8]) -> Result<LeafValue, ASN1Deco
 }
 
 fn teletex_value(alloc: Global, contents: &[u8]) -> Result<LeafValue, ASN1DecodeErr>
-    ensures found { IfOk result (IsValue Universal 20 contents.now) }
+    ensures found { IfOk result (IsValue Universal TELETEX_STRING contents.now) }
     ensures refused { IfErr result (OutOfMemoryOr (LeafFault 20 contents.now)) }
 {
     let text = text::read(alloc, TextForm::Utf8, contents)?;
@@ -195,7 +199,7 @@ fn teletex_value(alloc: Global, contents: &[u8]) -> Result<LeafValue, ASN1Decode
 
 // An octet is a character of an IA5String, also beyond 127.
 fn ia5_value(alloc: Global, contents: &[u8]) -> Result<LeafValue, ASN1DecodeErr>
-    ensures found { IfOk result (IsValue Universal 22 contents.now) }
+    ensures found { IfOk result (IsValue Universal IA5_STRING contents.now) }
     ensures refused { IfErr result (OutOfMemoryOr (LeafFault 22 contents.now)) }
 {
     let text = text::read(alloc, TextForm::Octets, contents)?;
@@ -203,7 +207,7 @@ fn ia5_value(alloc: Global, contents: &[u8]) -> Result<LeafValue, ASN1DecodeErr>
 }
 
 fn utc_value(alloc: Global, contents: &[u8]) -> Result<LeafValue, ASN1DecodeErr>
-    ensures found { IfOk result (IsValue Universal 23 contents.now) }
+    ensures found { IfOk result (IsValue Universal UTC_TIME contents.now) }
     ensures refused { IfErr result (OutOfMemoryOr (LeafFault 23 contents.now)) }
 {
     let moment = utc_time::read(alloc, contents)?;
@@ -213,7 +217,7 @@ fn utc_value(alloc: Global, contents: &[u8]) -> Result<LeafValue, ASN1DecodeErr>
 
 // A GeneralizedTime has each digit of its fraction, where a moment has nine at most.
 fn generalized_value(alloc: Global, contents: &[u8]) -> Result<LeafValue, ASN1DecodeErr>
-    ensures found { IfOk result (IsValue Universal 24 contents.now) }
+    ensures found { IfOk result (IsValue Universal GENERALIZED_TIME contents.now) }
     ensures refused { IfErr result (OutOfMemoryOr (LeafFault 24 contents.now)) }
 {
     let moment = generalized_time::read(alloc, contents)?;
@@ -224,7 +228,7 @@ fn generalized_value(alloc: Global, contents: &[u8]) -> Result<LeafValue, ASN1De
 
 // Octets of a UniversalString that the library takes for UTF-8 are no characters of it, unless there are none.
 fn universal_string_value(alloc: Global, contents: &[u8]) -> Result<LeafValue, ASN1DecodeErr>
-    ensures found { IfOk result (IsValue Universal 28 contents.now) }
+    ensures found { IfOk result (IsValue Universal UNIVERSAL_STRING contents.now) }
     ensures refused { IfErr result (OutOfMemoryOr (LeafFault 28 contents.now)) }
 {
     let text = text::read(alloc, TextForm::Utf8, contents)?;
@@ -237,7 +241,7 @@ fn universal_string_value(alloc: Global, contents: &[u8]) -> Result<LeafValue, A
 
 // Octets of a BMPString that the library takes for UTF-8 are no characters of it, unless there are none.
 fn bmp_value(alloc: Global, contents: &[u8]) -> Result<LeafValue, ASN1DecodeErr>
-    ensures found { IfOk result (IsValue Universal 30 contents.now) }
+    ensures found { IfOk result (IsValue Universal BMP_STRING contents.now) }
     ensures refused { IfErr result (OutOfMemoryOr (LeafFault 30 contents.now)) }
 {
     let text = text::read(alloc, TextForm::Utf8, contents)?;
@@ -356,13 +360,13 @@ fn form_of(header: &Header, contents: &[u8]) -> Option<Characters>
     if contents.is_empty() || !matches!(header.class, ASN1Class::Universal) {
         return None;
     }
-    if has_tag(&header.tag, 20) && str::from_utf8(contents).is_err() {
+    if has_tag(&header.tag, TELETEX_STRING) && str::from_utf8(contents).is_err() {
         return Some(Characters::Latin1);
     }
-    if has_tag(&header.tag, 28) {
+    if has_tag(&header.tag, UNIVERSAL_STRING) {
         return Some(Characters::Utf32);
     }
-    if has_tag(&header.tag, 30) {
+    if has_tag(&header.tag, BMP_STRING) {
         return Some(Characters::Utf16);
     }
     None
@@ -374,7 +378,8 @@ fn has_wide_characters(header: &Header, contents: &[u8]) -> bool
 {
     match header.class {
         ASN1Class::Universal => {
-            !contents.is_empty() && (has_tag(&header.tag, 28) || has_tag(&header.tag, 30))
+            !contents.is_empty()
+                && (has_tag(&header.tag, UNIVERSAL_STRING) || has_tag(&header.tag, BMP_STRING))
         }
         ASN1Class::Application | ASN1Class::ContextSpecific | ASN1Class::Private => false,
     }

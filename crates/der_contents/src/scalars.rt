@@ -1,4 +1,7 @@
 // Octets, characters and numbers.
+ghost use Rattle.std.specs.Prelude.{◌≡◌, ◌++◌, OnOk, string_bytes};
+ghost use Rattle.der_contents.specs.Scalars.{after_space, form_name as form_name_is, hex_text, in_form, pair, pairs, quoted};
+
 use der_io::push_escaped;
 use der_values::Characters;
 use std::alloc::AllocError;
@@ -13,7 +16,9 @@ pub const LEAST_TEXT: usize = 5;
 pub const LEAST_HEX: usize = 5;
 
 // Puts a space and the octets at the end, if there are any.
-pub fn write_after_space(out: &mut String, octets: &[u8], is_full: bool) -> Result<(), AllocError> {
+pub fn write_after_space(out: &mut String, octets: &[u8], is_full: bool) -> Result<(), AllocError>
+    ensures { OnOk result (string_bytes out.new ≡ string_bytes out.old ++ after_space is_full octets.now) }
+{
     if octets.is_empty() {
         return Ok(());
     }
@@ -22,7 +27,9 @@ pub fn write_after_space(out: &mut String, octets: &[u8], is_full: bool) -> Resu
 }
 
 // Puts the octets at the end in pairs of hex digits, all of them or as many as are written at most.
-pub fn write_hex(out: &mut String, octets: &[u8], is_full: bool) -> Result<(), AllocError> {
+pub fn write_hex(out: &mut String, octets: &[u8], is_full: bool) -> Result<(), AllocError>
+    ensures { OnOk result (string_bytes out.new ≡ string_bytes out.old ++ hex_text is_full octets.now) }
+{
     if is_full || octets.len() <= MOST_OCTETS {
         return write_pairs(out, octets);
     }
@@ -32,29 +39,45 @@ pub fn write_hex(out: &mut String, octets: &[u8], is_full: bool) -> Result<(), A
     write!(out, ".. ({n} bytes)")
 }
 
-fn write_pairs(out: &mut String, octets: &[u8]) -> Result<(), AllocError> {
+fn write_pairs(out: &mut String, octets: &[u8]) -> Result<(), AllocError>
+    ensures { OnOk result (string_bytes out.new ≡ string_bytes out.old ++ pairs octets.now) }
+{
     for octet in octets {
-        write!(out, "{octet:02x}")?;
+        write_pair(out, *octet)?;
     }
     Ok(())
 }
 
+fn write_pair(out: &mut String, octet: u8) -> Result<(), AllocError>
+    ensures { OnOk result (string_bytes out.new ≡ string_bytes out.old ++ pair octet) }
+{
+    let high = octet / 16;
+    let low = octet % 16;
+    write!(out, "{high:x}{low:x}")
+}
+
 // Puts the text at the end in quotation marks, with what is no printed character escaped.
-pub fn write_quoted(out: &mut String, text: &str) -> Result<(), AllocError> {
+pub fn write_quoted(out: &mut String, text: &str) -> Result<(), AllocError>
+    ensures { OnOk result (string_bytes out.new ≡ string_bytes out.old ++ quoted text.now) }
+{
     out.push_str("\"")?;
     push_escaped(text, out)?;
     out.push_str("\"")
 }
 
 // Puts the name of the form and the characters at the end.
-pub fn write_as(out: &mut String, form: Characters, text: &str) -> Result<(), AllocError> {
+pub fn write_as(out: &mut String, form: Characters, text: &str) -> Result<(), AllocError>
+    ensures { OnOk result (string_bytes out.new ≡ string_bytes out.old ++ in_form form text.now) }
+{
     out.push_str(" (as ")?;
     out.push_str(form_name(form))?;
     out.push_str(") ")?;
     write_quoted(out, text)
 }
 
-fn form_name(form: Characters) -> &'static str {
+fn form_name(form: Characters) -> &'static str
+    ensures { result.now ≡ form_name_is form }
+{
     match form {
         Characters::Utf16 => "UTF-16",
         Characters::Utf32 => "UTF-32",

@@ -18,7 +18,7 @@ IsString-no_header element none (size, announced, constructed, tag, header, is) 
     HasNoHeader-begins element size announced Universal constructed tag none header
 
 module _ (element : List ℕ) (header : Header) (front : IsAtFront element header) where
-  -- those of another type are none
+  -- an element of another type is no string
   pub IsString-other_type : (header.class ≡ Universal → is_string_tag header.tag ≡ true → ⊥) → IsString element → ⊥
   IsString-other_type none (size, announced, constructed, tag, BeginsWithHeader-front, is) =
       let same = BeginsWithHeader-unique element header.size header.announced header.class header.constructed header.tag

@@ -1,5 +1,6 @@
 -- What stands behind headers, and what is gone into.
 use Rattle.std.specs.Prelude.{◌≡◌, ◌==◌, ◌||◌, ℕ, Bool, true, false, List, ◌++◌, ◌&&◌, not}
+use Rattle.asn1_headers.specs.declared.tags.TheConstants.{SEQUENCE, SET}
 use Rattle.asn1_headers.specs.Front.{IsHeader}
 use Rattle.asn1_headers.specs.declared.header.ASN1Class.{ASN1Class}
 use Rattle.asn1_headers.specs.declared.header.ASN1Class.TheVariants.{Universal}
@@ -12,7 +13,7 @@ StandsBehindHeader octets behind = (header : List ℕ) × (octets ≡ header ++ 
 -- the contents octets are encodings: those of a constructed encoding, and of a SEQUENCE or SET
 abbrev pub is_gone_into : ASN1Class → Bool → ℕ → Bool
 is_gone_into class true tag = true
-is_gone_into Universal false tag = tag == 16 || tag == 17
+is_gone_into Universal false tag = tag == SEQUENCE || tag == SET
 is_gone_into class false tag = false
 
 -- a primitive encoding has length octets of the indefinite form, which only a constructed one may have (X.690 8.1.3.2).

@@ -1,5 +1,6 @@
 -- At which offsets of a document elements begin, by headers that follow one another from its front.
 use Rattle.std.specs.Prelude.{◌≡◌, ℕ, zero, suc, ◌+◌, ◌<◌, Bool, true, false, List, [], ◌∷◌, ◌++◌, drop, length, take}
+use Rattle.asn1_headers.specs.declared.tags.TheConstants.{BIT_STRING, OCTET_STRING}
 use Rattle.asn1_headers.specs.declared.header.ASN1Class.{ASN1Class}
 use Rattle.asn1_headers.specs.declared.header.ASN1Class.TheVariants.{Universal}
 use Rattle.asn1_blocks.specs.Places.{IsEncoding}
@@ -25,11 +26,11 @@ pub data Holds (class : ASN1Class) (constructed : Bool) (tag : ℕ) (contents : 
       is_gone_into class constructed tag ≡ true → before ≡ 0 → inside ≡ contents →
       Holds class constructed tag contents before inside
   holds_octets :
-      class ≡ Universal → constructed ≡ false → tag ≡ 4 → before ≡ 0 → inside ≡ contents →
+      class ≡ Universal → constructed ≡ false → tag ≡ OCTET_STRING → before ≡ 0 → inside ≡ contents →
       AreEncodings inside →
       Holds class constructed tag contents before inside
   holds_bits :
-      class ≡ Universal → constructed ≡ false → tag ≡ 3 → before ≡ 1 → contents ≡ 0 ∷ inside →
+      class ≡ Universal → constructed ≡ false → tag ≡ BIT_STRING → before ≡ 1 → contents ≡ 0 ∷ inside →
       AreEncodings inside →
       Holds class constructed tag contents before inside
 

@@ -1,6 +1,7 @@
 -- The segments of a constructed string, and the contents octets that it has when they are joined.
 use Rattle.std.specs.Prelude.{◌≡◌, ◌↔◌, ◌==◌, ◌⊎◌, ◌&&◌, ℕ, ◌+◌, ◌≤◌, Bool, true, false, IsTrue, if◌then◌else◌, List, [], ◌∷◌}
 use Rattle.std.specs.Prelude.{◌++◌, drop, length, slice_range}
+use Rattle.asn1_headers.specs.declared.tags.TheConstants.{BIT_STRING, OCTET_STRING}
 use Rattle.asn1_headers.specs.Front.{BeginsWithHeader, HasIndefiniteForm}
 use Rattle.asn1_headers.specs.declared.header.ASN1Class.TheVariants.{Universal}
 use Rattle.der_elements.specs.Ends.{begins_with_end, end_at, taken}
@@ -9,11 +10,11 @@ use Rattle.der_elements.specs.declared.cursor.End.{End}
 
 -- the tag of segments: those of a BIT STRING are BIT STRINGs (X.690 8.6.4), those of others OCTET STRINGs (8.7.3, 8.23)
 abbrev pub segment_tag : ℕ → ℕ
-segment_tag tag = if tag == 3 then 3 else 4
+segment_tag tag = if tag == BIT_STRING then BIT_STRING else OCTET_STRING
 
 -- the contents octets of no segments: of a BIT STRING that there are no unused bits
 abbrev pub no_segments : ℕ → List ℕ
-no_segments tag = if tag == 3 then 0 ∷ [] else []
+no_segments tag = if tag == BIT_STRING then 0 ∷ [] else []
 
 -- bits with one segment more. Those before fill their octets (X.690 8.6.4.1), and the segment has its own unused bits,
 -- at most 7, and 0 where it has no bits (8.6.2)
@@ -25,7 +26,8 @@ JoinsBits before segment after =
 -- contents octets of a string with the tag, and then with one segment more
 abbrev pub Joins : ℕ → List ℕ → List ℕ → List ℕ → Type 0
 Joins tag before segment after =
-    ((tag == 3) ≡ true × JoinsBits before segment after) ⊎ ((tag == 3) ≡ false × (after ≡ before ++ segment))
+    ((tag == BIT_STRING) ≡ true × JoinsBits before segment after)
+    ⊎ ((tag == BIT_STRING) ≡ false × (after ≡ before ++ segment))
 
 -- from an offset of octets on, where contents octets that end so are open, the innermost first, stand segments alone of
 -- a string with the tag: primitive ones, which are joined to those before, and constructed ones, which hold others

@@ -2,6 +2,7 @@
 use Rattle.std.specs.Prelude.{◌≡◌, ◌↔◌, ◌==◌, ◌⊎◌, ◌||◌, ◌&&◌, ℕ, ◌≤◌, nat_le, Bool, true, false, IsTrue, List, [], ◌∷◌}
 use Rattle.std.specs.Prelude.{Result, Ok, Err, Vec, drop, length}
 use Rattle.std.specs.Global.{Global}
+use Rattle.asn1_headers.specs.declared.tags.TheConstants.{BIT_STRING, OCTET_STRING, OBJECT_DESCRIPTOR, UTF8_STRING, NUMERIC_STRING, UNIVERSAL_STRING, BMP_STRING}
 use Rattle.asn1_headers.specs.Front.{BeginsWithHeader, HasIndefiniteForm}
 use Rattle.asn1_headers.specs.declared.header.ASN1Class.TheVariants.{Universal}
 use Rattle.der_elements.specs.Headers.{is_stray_form}
@@ -12,7 +13,8 @@ use Rattle.der_elements.specs.declared.string_value.NoString.TheVariants.{Malfor
 -- the tags of strings, of ObjectDescriptor, UTCTime and GeneralizedTime too, which are strings (X.680 8.4, table 1)
 abbrev pub is_string_tag : ℕ → Bool
 is_string_tag tag =
-    tag == 3 || tag == 4 || tag == 7 || tag == 12 || (nat_le 18 tag && nat_le tag 28) || tag == 30
+    tag == BIT_STRING || tag == OCTET_STRING || tag == OBJECT_DESCRIPTOR || tag == UTF8_STRING
+    || (nat_le NUMERIC_STRING tag && nat_le tag UNIVERSAL_STRING) || tag == BMP_STRING
 
 -- contents octets in one piece: those of a primitive encoding, or the segments of a constructed one, joined
 abbrev pub AreInOnePiece : List ℕ → Bool → ℕ → List ℕ → List ℕ → Type 0
@@ -25,9 +27,9 @@ AreInOnePiece element true tag contents joined =
 -- is 7 at most, and 0 where there are no bits (X.690 8.6.2)
 abbrev pub AreOctetsOf : ℕ → List ℕ → List ℕ → Type 0
 AreOctetsOf tag contents octets =
-    ((tag == 3) ≡ true
+    ((tag == BIT_STRING) ≡ true
     × ((unused : ℕ) × (contents ≡ unused ∷ octets) × (unused ≤ 7) × (octets ≡ [] → unused ≡ 0)))
-    ⊎ ((tag == 3) ≡ false × (octets ≡ contents))
+    ⊎ ((tag == BIT_STRING) ≡ false × (octets ≡ contents))
 
 -- the element is a string that holds the octets
 pub record HoldsOctets (element octets : List ℕ) : Type 0 where

@@ -12,6 +12,7 @@ use crate::cursor::Step;
 use asn1_headers::error::ASN1DecodeErr;
 use asn1_headers::front::{Header, read_header};
 use asn1_headers::header::{ASN1Class, HeaderCount, identifier_at};
+use asn1_headers::tags::{SEQUENCE, SET};
 use asn1_numbers::number::big_uint::BigUint;
 use std::alloc::{AllocError, Global};
 
@@ -21,7 +22,7 @@ pub fn holds_encodings(header: &Header) -> bool
 {
     match header.class {
         ASN1Class::Universal => {
-            header.constructed || has_tag(&header.tag, 16) || has_tag(&header.tag, 17)
+            header.constructed || has_tag(&header.tag, SEQUENCE) || has_tag(&header.tag, SET)
         }
         _ => header.constructed,
     }
@@ -46,10 +47,10 @@ pub fn universal_tag(header: &Header) -> Option<u8>
 }
 
 // Whether the tag number is this one.
-pub fn has_tag(tag: &BigUint, number: u8) -> bool
+pub fn has_tag(tag: &BigUint, number: u64) -> bool
     ensures { result ≡ (tag.now == number) }
 {
-    match tag.to_u8() {
+    match tag.to_u64() {
         Some(n) => n == number,
         None => false,
     }

@@ -11,13 +11,10 @@ use crate::sum::sum_of;
 use asn1_blocks::encoding::encoding_at;
 use asn1_headers::front::Header;
 use asn1_headers::header::ASN1Class;
+use asn1_headers::tags::{BIT_STRING, OCTET_STRING};
 use std::alloc::{AllocError, Global};
 
 // The tags of strings that may hold encodings.
-const BIT_STRING: u8 = 3;
-
-const OCTET_STRING: u8 = 4;
-
 // What is looked for begins so many octets further on in octets, which stand inside so many contents octets of the
 // indefinite form.
 #[derive(Clone, Copy)]
@@ -211,7 +208,7 @@ fn octets_inside<'a>(header: &Header, contents: &'a [u8]) -> Option<(&'a [u8], u
 }
 
 // Whether it is the header of a primitive encoding of class Universal and this tag.
-fn is_primitive(header: &Header, number: u8) -> bool
+fn is_primitive(header: &Header, number: u64) -> bool
     ensures { IsTrue result ↔
         ((header.now.class ≡ Universal) × (header.now.constructed ≡ false) × (header.now.tag ≡ number)) }
 {

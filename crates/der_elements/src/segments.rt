@@ -7,11 +7,12 @@ ghost use Rattle.der_elements.specs.Steps.{HasNoSegment, IsSegment};
 use crate::cursor::{Cursor, Left, Step};
 use crate::header::{has_tag, is_universal, size_of, whole_header};
 use asn1_headers::front::Header;
+use asn1_headers::tags;
 use std::alloc::{AllocError, Global};
 
-const BIT_STRING: u8 = 3;
+const BIT_STRING: u8 = tags::BIT_STRING as u8;
 
-const OCTET_STRING: u8 = 4;
+const OCTET_STRING: u8 = tags::OCTET_STRING as u8;
 
 // The contents octets of a string with the tag, if what it holds are well-formed segments.
 pub fn joined_segments(
@@ -75,7 +76,7 @@ fn join_next(
 fn is_segment(header: &Header, tag: u8) -> bool
     ensures { IsTrue result ↔ ((header.now.class ≡ Universal) × (header.now.tag ≡ segment_tag_is tag)) }
 {
-    is_universal(header) && has_tag(&header.tag, segment_tag(tag))
+    is_universal(header) && has_tag(&header.tag, u64::from(segment_tag(tag)))
 }
 
 // The tag of the segments of a string.

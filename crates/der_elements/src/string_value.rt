@@ -8,9 +8,11 @@ ghost use Rattle.der_elements.specs.StringSteps.{HasNoPiece, HasPiece};
 use crate::header::{find_header, has_stray_form, universal_tag};
 use crate::segments::joined_segments;
 use asn1_headers::front::Header;
+use asn1_headers::tags::{
+    BIT_STRING, BMP_STRING, NUMERIC_STRING, OBJECT_DESCRIPTOR, OCTET_STRING, UNIVERSAL_STRING,
+    UTF8_STRING,
+};
 use std::alloc::{AllocError, Global};
-
-const BIT_STRING: u8 = 3;
 
 /// Why an element holds no octets of a string.
 #[derive(Clone, Copy, Debug, Drop, PartialEq)]
@@ -61,7 +63,14 @@ fn string_type(header: &Header) -> Option<u8>
 fn is_string_tag(tag: u8) -> bool
     ensures { result ≡ is_string_tag_is tag }
 {
-    matches!(tag, 3 | 4 | 7 | 12 | 18..=28 | 30)
+    matches!(
+        u64::from(tag),
+        BIT_STRING
+            | OCTET_STRING
+            | OBJECT_DESCRIPTOR
+            | UTF8_STRING
+            | NUMERIC_STRING..=UNIVERSAL_STRING | BMP_STRING
+    )
 }
 
 // The contents octets of a string in one piece, if they are well-formed.
@@ -94,7 +103,7 @@ fn octets_of(alloc: Global, tag: u8, contents: Vec<u8>) -> Result<Option<Vec<u8>
         ((octets : List ℕ) → AreOctetsOf tag contents.items octets → ⊥)
         (λ octets. AreOctetsOf tag contents.items octets.items)) }
 {
-    if tag != BIT_STRING {
+    if u64::from(tag) != BIT_STRING {
         return Ok(Some(contents));
     }
     let Some(bits) = bits_behind_unused(&contents) else {
@@ -108,8 +117,8 @@ fn octets_of(alloc: Global, tag: u8, contents: Vec<u8>) -> Result<Option<Vec<u8>
 // The octets of a BIT STRING behind the number of unused bits.
 fn bits_behind_unused(contents: &[u8]) -> Option<&[u8]>
     ensures { MatchOption result
-        ((octets : List ℕ) → AreOctetsOf 3 contents.now octets → ⊥)
-        (λ octets. AreOctetsOf 3 contents.now octets.now) }
+        ((octets : List ℕ) → AreOctetsOf BIT_STRING contents.now octets → ⊥)
+        (λ octets. AreOctetsOf BIT_STRING contents.now octets.now) }
 {
     let (unused, bits) = contents.split_first()?;
     if *unused > 7 {

@@ -235,7 +235,7 @@ impl Show {
     }
 
     // The shape that the label of a document says.
-    fn shape_of_label(&self, document: &Document) -> Option<usize> {
+    fn shape_of_label(&self, document: &Document) -> Option<u16> {
         let label = document.label.as_deref()?;
         self.names.shapes.labelled(str::from_utf8(label).ok()?)
     }

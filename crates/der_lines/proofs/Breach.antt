@@ -8,78 +8,78 @@ use Rattle.der_lines.specs.MarkText.{separator, words_text}
 use Rattle.der_lines.specs.Steps.{counted}
 
 -- marks after marks
-pub marked_join : (P : Front → Type 0) (fs gs : List Front) (a b : List ℕ) → AreMarked P fs a → AreMarked P gs b →
+pub AreMarked-append : (P : Front → Type 0) (fs gs : List Front) (a b : List ℕ) → AreMarked P fs a → AreMarked P gs b →
     AreMarked P (fs ++ gs) (a ++ b)
-marked_join P fs gs a b (no_more p q) h = rw (p, q) h
-marked_join P fs gs a b (one f later rest p q m) h =
+AreMarked-append P fs gs a b (no_more p q) h = rw (p, q) h
+AreMarked-append P fs gs a b (one f later rest p q m) h =
     one f (later ++ gs) (rest ++ b) (ap (λ z. z ++ gs) p)
-    (ap (λ z. z ++ b) q ∙ append_assoc (marked_offset f) rest b) (marked_join P later gs rest b m h)
-marked_join P fs gs a b (one_inside f rest q i m) h =
+    (ap (λ z. z ++ b) q ∙ append_assoc (marked_offset f) rest b) (AreMarked-append P later gs rest b m h)
+AreMarked-append P fs gs a b (one_inside f rest q i m) h =
     one_inside f (rest ++ b) (ap (λ z. z ++ b) q ∙ append_assoc (marked_offset f) rest b) i
-    (marked_join P fs gs rest b m h)
+    (AreMarked-append P fs gs rest b m h)
 
 -- what holds of those inside may be weaker
-pub marked_map : (P Q : Front → Type 0) → ((f : Front) → P f → Q f) → (fs : List Front) (a : List ℕ) →
+pub AreMarked-weaker : (P Q : Front → Type 0) → ((f : Front) → P f → Q f) → (fs : List Front) (a : List ℕ) →
     AreMarked P fs a → AreMarked Q fs a
-marked_map P Q m fs a (no_more p q) = no_more p q
-marked_map P Q m fs a (one f later rest p q h) = one f later rest p q (marked_map P Q m later rest h)
-marked_map P Q m fs a (one_inside f rest q i h) = one_inside f rest q (m f i) (marked_map P Q m fs rest h)
+AreMarked-weaker P Q m fs a (no_more p q) = no_more p q
+AreMarked-weaker P Q m fs a (one f later rest p q h) = one f later rest p q (AreMarked-weaker P Q m later rest h)
+AreMarked-weaker P Q m fs a (one_inside f rest q i h) = one_inside f rest q (m f i) (AreMarked-weaker P Q m fs rest h)
 
-pub counted_join : (inside : Bool) (fs gs : List Front) →
+pub counted-append : (inside : Bool) (fs gs : List Front) →
     counted inside (fs ++ gs) ≡ counted inside fs ++ counted inside gs
-counted_join true fs gs = refl
-counted_join false fs gs = refl
+counted-append true fs gs = refl
+counted-append false fs gs = refl
 
-pub counted_none : (inside : Bool) → counted inside [] ≡ []
-counted_none true = refl
-counted_none false = refl
+pub counted-nil : (inside : Bool) → counted inside [] ≡ []
+counted-nil true = refl
+counted-nil false = refl
 
 -- the mark of one
-pub marked_one : (P : Front → Type 0) (inside : Bool) (f : Front) → P f →
+pub AreMarked-one : (P : Front → Type 0) (inside : Bool) (f : Front) → P f →
     AreMarked P (counted inside (f ∷ [])) (marked_offset f)
-marked_one P true f i = one_inside f [] (sym (append-nil (marked_offset f))) i (no_more refl refl)
-marked_one P false f i = one f [] [] refl (sym (append-nil (marked_offset f))) (no_more refl refl)
+AreMarked-one P true f i = one_inside f [] (sym (append-nil (marked_offset f))) i (no_more refl refl)
+AreMarked-one P false f i = one f [] [] refl (sym (append-nil (marked_offset f))) (no_more refl refl)
 
 -- words after words
-words_later : (xs : List Breach) (x : Breach) →
+words_text-later : (xs : List Breach) (x : Breach) →
     words_text true (xs ++ x ∷ []) ≡ words_text true xs ++ (separator true ++ x.words)
-words_later [] x = ap (λ z. separator true ++ z) (append-nil x.words)
-words_later (y ∷ xs) x =
-    ap (λ z. separator true ++ (y.words ++ z)) (words_later xs x)
+words_text-later [] x = ap (λ z. separator true ++ z) (append-nil x.words)
+words_text-later (y ∷ xs) x =
+    ap (λ z. separator true ++ (y.words ++ z)) (words_text-later xs x)
     ∙ (ap (λ z. separator true ++ z) (sym (append_assoc y.words (words_text true xs) (separator true ++ x.words)))
     ∙ sym (append_assoc (separator true) (y.words ++ words_text true xs) (separator true ++ x.words)))
 
-words_more : (xs : List Breach) (x : Breach) →
+words_text-append : (xs : List Breach) (x : Breach) →
     words_text false (xs ++ x ∷ []) ≡ words_text false xs ++ (separator (are_some xs) ++ x.words)
-words_more [] x = append-nil x.words
-words_more (y ∷ xs) x =
-    ap (λ z. y.words ++ z) (words_later xs x)
+words_text-append [] x = append-nil x.words
+words_text-append (y ∷ xs) x =
+    ap (λ z. y.words ++ z) (words_text-later xs x)
     ∙ sym (append_assoc y.words (words_text true xs) (separator true ++ x.words))
 
-some_more : (xs : List Breach) (x : Breach) → true ≡ are_some (xs ++ x ∷ [])
-some_more [] x = refl
-some_more (y ∷ xs) x = refl
+are_some-append : (xs : List Breach) (x : Breach) → true ≡ are_some (xs ++ x ∷ [])
+are_some-append [] x = refl
+are_some-append (y ∷ xs) x = refl
 
 -- the words of one more were put, of those at an index
 pub put_at :
-    {A : Type 0} (told : A → Breach) (rules : List A) (i : ℕ) (d : A) (later : Bool)
+    {A : Type 0} (breach : A → Breach) (rules : List A) (i : ℕ) (d : A) (later : Bool)
     (before middle comma after : List ℕ) →
-    i < length rules → later ≡ are_some (map told (take i rules)) →
-    middle ≡ before ++ words_text false (map told (take i rules)) → comma ≡ middle ++ separator later →
-    after ≡ comma ++ (told (get_or rules i d)).words →
-    (true ≡ are_some (map told (take (i + 1) rules)))
-    × (after ≡ before ++ words_text false (map told (take (i + 1) rules)))
-put_at told rules i d later before middle comma after within some m c e =
-    let xs = map told (take i rules) in
+    i < length rules → later ≡ are_some (map breach (take i rules)) →
+    middle ≡ before ++ words_text false (map breach (take i rules)) → comma ≡ middle ++ separator later →
+    after ≡ comma ++ (breach (get_or rules i d)).words →
+    (true ≡ are_some (map breach (take (i + 1) rules)))
+    × (after ≡ before ++ words_text false (map breach (take (i + 1) rules)))
+put_at breach rules i d later before middle comma after within some m c e =
+    let xs = map breach (take i rules) in
     let x = get_or rules i d in
-    let y = told x in
-    let more : map told (take (i + 1) rules) ≡ xs ++ y ∷ [] =
-    ap (map told) (take_more rules i d within) ∙ map-append told (take i rules) (x ∷ []) in (
-      some_more xs y ∙ ap are_some (sym more),
+    let y = breach x in
+    let more : map breach (take (i + 1) rules) ≡ xs ++ y ∷ [] =
+    ap (map breach) (take_more rules i d within) ∙ map-append breach (take i rules) (x ∷ []) in (
+      are_some-append xs y ∙ ap are_some (sym more),
       e ∙ (ap (λ z. z ++ y.words) (c ∙ ap (λ z. z ++ separator later) m)
           ∙ (append_assoc (before ++ words_text false xs) (separator later) y.words
           ∙ (append_assoc before (words_text false xs) (separator later ++ y.words)
           ∙ ap (λ z. before ++ z)
-          (ap (λ z. words_text false xs ++ (separator z ++ y.words)) some ∙ sym (words_more xs y)))))
+          (ap (λ z. words_text false xs ++ (separator z ++ y.words)) some ∙ sym (words_text-append xs y)))))
           ∙ ap (λ z. before ++ words_text false z) (sym more),
     )

@@ -5,7 +5,7 @@ use Rattle.der_io.specs.declared.StreamFault.{StreamFault}
 use Rattle.der_lines.specs.Dump.{AreFaultLines, AreMarked, IsDump, IsDumpOfSome, StandsInside, down_to}
 use Rattle.der_pieces.specs.Fronts.{Front}
 use Rattle.der_lines.specs.Dump.{verdict_of, wrong_offsets}
-use Rattle.der_lines.specs.Steps.{IsFirstFault, IsLast, IsWholeDump, counted, mark_offsets, marks_by, outer}
+use Rattle.der_lines.specs.Steps.{IsFirstFault, IsLast, IsWholeDump, counted, kept_marks, mark_offsets, outer}
 use Rattle.der_lines.specs.declared.document.Verdict.{Verdict}
 use Rattle.der_lines.specs.declared.document.Verdict.TheVariants.{AllRead, Refused}
 use Rattle.der_lines.specs.declared.encodings.Problems.{Problems}
@@ -15,74 +15,73 @@ use Rattle.der_pieces.specs.declared.place.Place.{Place}
 use Rattle.der_rows.proofs.Printed.{IsPrinted-append}
 use Rattle.der_rows.specs.Printing.{IsPrinted}
 use Rattle.der_rows.specs.declared.printer.Printer.{Printer}
-use Rattle.der_lines.proofs.Dumps.{fault_line, fault_lines_join}
+use Rattle.der_lines.proofs.Dumps.{AreFaultLines-one, AreFaultLines-append}
 
-refused_by : (offsets : List ℕ) (offset : ℕ) → verdict_of (offsets ++ offset ∷ []) ≡ Refused
-refused_by [] offset = refl
-refused_by (first ∷ offsets) offset = refl
+verdict_of-append : (offsets : List ℕ) (offset : ℕ) → verdict_of (offsets ++ offset ∷ []) ≡ Refused
+verdict_of-append [] offset = refl
+verdict_of-append (first ∷ offsets) offset = refl
 
-lines_told :
-    (told : Option Fault) (marks faults a b : List ℕ) (verdict : Verdict) → IsFirstFault faults told →
-    AreFaultLines marks a → IsLast told marks verdict b →
+lines_of_faults :
+    (first : Option Fault) (marks faults a b : List ℕ) (verdict : Verdict) → IsFirstFault faults first →
+    AreFaultLines marks a → IsLast first marks verdict b →
     AreFaultLines (marks ++ take 1 faults) (a ++ b) × (verdict ≡ verdict_of (marks ++ take 1 faults))
-lines_told None marks faults a b verdict none lines (e, v) =
+lines_of_faults None marks faults a b verdict none lines (e, v) =
     let all : marks ++ take 1 faults ≡ marks = ap (λ z. marks ++ take 1 z) none ∙ append-nil marks in
     let same : a ++ b ≡ a = ap (λ z. a ++ z) e ∙ append-nil a in (
       subst (λ z. AreFaultLines z (a ++ b)) (sym all) (subst (AreFaultLines marks) (sym same) lines),
       v ∙ ap verdict_of (sym all),
     )
-lines_told (Some fault) marks faults a b verdict (later, is) lines (v, last) =
+lines_of_faults (Some fault) marks faults a b verdict (later, is) lines (v, last) =
     let all : marks ++ take 1 faults ≡ marks ++ fault.offset ∷ [] = ap (λ z. marks ++ take 1 z) is in (
       subst (λ z. AreFaultLines z (a ++ b)) (sym all)
-          (fault_lines_join marks (fault.offset ∷ []) a b lines (fault_line fault.offset b last)),
-      v ∙ (sym (refused_by marks fault.offset) ∙ ap verdict_of (sym all)),
+          (AreFaultLines-append marks (fault.offset ∷ []) a b lines (AreFaultLines-one fault.offset b last)),
+      v ∙ (sym (verdict_of-append marks fault.offset) ∙ ap verdict_of (sym all)),
     )
 
-outermost_dump :
+IsDump-outermost :
     (place : Place) (octets : List ℕ) (most : Option ℕ) (fronts : List Front) (text : List ℕ) →
     place.is_inside ≡ false →
     place.base ≡ 0 → place.most_depth ≡ most →
     IsDump (StandsInside place.base octets) (outer place.is_inside place.most_depth fronts) text →
     IsDump (StandsInside 0 octets) (down_to most fronts) text
-outermost_dump place octets most fronts text i z m dump =
+IsDump-outermost place octets most fronts text i z m dump =
     subst (λ y. IsDump (StandsInside 0 octets) (outer false y fronts) text) m
     (subst (λ y. IsDump (StandsInside 0 octets) (outer y place.most_depth fronts) text) i
     (subst (λ y. IsDump (StandsInside y octets) (outer place.is_inside place.most_depth fronts) text) z dump))
 
-wrong_is :
-    (strict : Bool) (marks : List Marked) (faults : List ℕ) →
-    mark_offsets (marks_by strict marks) ++ take 1 faults ≡ wrong_offsets strict (mark_offsets marks) faults
-wrong_is true marks faults = refl
-wrong_is false marks faults = refl
+wrong_offsets-kept : (strict : Bool) (marks faults : List ℕ) →
+    kept_marks strict marks ++ take 1 faults ≡ wrong_offsets strict marks faults
+wrong_offsets-kept true marks faults = refl
+wrong_offsets-kept false marks faults = refl
 
-outermost_marked :
+AreMarked-outermost :
     (place : Place) (octets : List ℕ) (fronts : List Front) (marks : List ℕ) → place.is_inside ≡ false →
     place.base ≡ 0 → AreMarked (StandsInside place.base octets) (counted place.is_inside fronts) marks →
     AreMarked (StandsInside 0 octets) fronts marks
-outermost_marked place octets fronts marks i z marked =
+AreMarked-outermost place octets fronts marks i z marked =
     subst (λ y. AreMarked (StandsInside 0 octets) (counted y fronts) marks) i
     (subst (λ y. AreMarked (StandsInside y octets) (counted place.is_inside fronts) marks) z marked)
 
 some_text :
     (place : Place) (strict : Bool) (octets : List ℕ) (most : Option ℕ) (found : Problems) (marks : List Marked)
     (x y w rest : List ℕ) (v : Verdict) → place.is_inside ≡ false → place.base ≡ 0 → place.most_depth ≡ most →
-    marks ≡ marks_by strict found.marks.items → IsWholeDump place octets found x → rest ≡ y ++ w →
+    marks ≡ found.marks.items → IsWholeDump strict place octets found x → rest ≡ y ++ w →
     AreFaultLines (mark_offsets marks) y → IsLast found.fault (mark_offsets marks) v w →
     IsDumpOfSome strict most octets v (x ++ rest)
 some_text place strict octets most found marks x y w rest v i z m these put same lines last =
-    let all_marks = mark_offsets found.marks.items in
-    let wrong : mark_offsets marks ++ take 1 put.faults ≡ wrong_offsets strict all_marks put.faults =
-    ap (λ z. mark_offsets z ++ take 1 put.faults) these ∙ wrong_is strict found.marks.items put.faults in
-    let (all, is) = lines_told found.fault (mark_offsets marks) put.faults y w v put.told lines last in (
+    let wrong : mark_offsets marks ++ take 1 put.faults ≡ wrong_offsets strict put.marks put.faults =
+    ap (λ z. mark_offsets z ++ take 1 put.faults) these
+    ∙ (ap (λ z. z ++ take 1 put.faults) put.kept ∙ wrong_offsets-kept strict put.marks put.faults) in
+    let (all, is) = lines_of_faults found.fault (mark_offsets marks) put.faults y w v put.first lines last in (
       put.fronts,
       put.faults,
-      all_marks,
+      put.marks,
       x,
       y ++ w,
       ap (λ z. x ++ z) same,
       put.read,
-      outermost_dump place octets most put.fronts x i z m put.dump,
-      outermost_marked place octets put.fronts all_marks i z put.marks,
+      IsDump-outermost place octets most put.fronts x i z m put.dump,
+      AreMarked-outermost place octets put.fronts put.marks i z put.marked,
       subst (λ z. AreFaultLines z (y ++ w)) wrong all,
       is ∙ ap verdict_of wrong,
     )
@@ -92,7 +91,7 @@ pub some_put :
     (found : Problems) (marks : List Marked)
     (a b c d : Printer W) (verdict : Result Verdict StreamFault) → place.is_inside ≡ false → place.base ≡ 0 →
     place.most_depth ≡ most →
-    marks ≡ marks_by strict found.marks.items → IsPrinted contents (IsWholeDump place octets found) a b →
+    marks ≡ found.marks.items → IsPrinted contents (IsWholeDump strict place octets found) a b →
     IsPrinted contents (AreFaultLines (mark_offsets marks)) b c →
     IfOk verdict (λ v. IsPrinted contents (IsLast found.fault (mark_offsets marks) v) c d) →
     IfOk verdict (λ v. IsPrinted contents (IsDumpOfSome strict most octets v) a d)
@@ -107,10 +106,10 @@ some_put contents place strict octets most found marks a b c d (Ok v) i z m thes
     × IsLast found.fault (mark_offsets marks) v w) b c d (λ y w are end. (y, w, refl, are, end)) lines last)
 
 -- the verdict where nothing is wrong, and where something is
-pub no_wrong : (marks : List Marked) → length marks ≡ 0 → AllRead ≡ verdict_of (mark_offsets marks)
-no_wrong [] none = refl
-no_wrong (mark ∷ marks) none = absurd (omega (arith, none))
+pub verdict_of-none : (marks : List Marked) → length marks ≡ 0 → AllRead ≡ verdict_of (mark_offsets marks)
+verdict_of-none [] none = refl
+verdict_of-none (mark ∷ marks) none = absurd (omega (arith, none))
 
-pub some_wrong : (marks : List Marked) → 0 < length marks → Refused ≡ verdict_of (mark_offsets marks)
-some_wrong [] some = absurd (omega (arith, some))
-some_wrong (mark ∷ marks) some = refl
+pub verdict_of-some : (marks : List Marked) → 0 < length marks → Refused ≡ verdict_of (mark_offsets marks)
+verdict_of-some [] some = absurd (omega (arith, some))
+verdict_of-some (mark ∷ marks) some = refl

@@ -3,8 +3,8 @@ use Rattle.std.proofs.Common.{◌≡◌, ℕ, zero, suc, ◌+◌, ◌-◌, ◌<�
 use Rattle.std.proofs.Common.{Bool, true, false, refl, sym, ap, ◌∙◌, subst, append_assoc, append-nil, arith, length}
 use Rattle.std.proofs.lemmas.List.{drop-drop}
 use Rattle.std.specs.Fmt.{decimal}
-use Rattle.std.specs.Prelude.{Option}
-use Rattle.der_lines.specs.Dump.{AreFaultLines, IsBlockLine, IsDump, IsFaultLine, IsLine}
+use Rattle.std.specs.Prelude.{IfSome, Option}
+use Rattle.der_lines.specs.Dump.{AreFaultLines, IsBlockLine, IsDump, IsFaultLine, IsLine, IsMeaningText}
 use Rattle.der_pieces.specs.Fronts.{Front}
 use Rattle.der_pieces.specs.Fronts.{StandAt, is_too_deep}
 use Rattle.der_lines.specs.Dump.{StandsInside, block_line, down_to, inside_line, no_lines}
@@ -19,31 +19,32 @@ use Rattle.der_rows.specs.declared.printer.Printer.{Printer}
 use Rattle.der_rows.specs.declared.row.Row.{Row}
 
 -- a dump after a dump
-pub dump_join : (P : Front → Type 0) (fs gs : List Front) (a b : List ℕ) → IsDump P fs a → IsDump P gs b →
+pub IsDump-append : (P : Front → Type 0) (fs gs : List Front) (a b : List ℕ) → IsDump P fs a → IsDump P gs b →
     IsDump P (fs ++ gs) (a ++ b)
-dump_join P fs gs a b (no_lines p q) h = rw (p, q) h
-dump_join P fs gs a b (block_line f later line rest p q l d) h =
+IsDump-append P fs gs a b (no_lines p q) h = rw (p, q) h
+IsDump-append P fs gs a b (block_line f later line rest p q l d) h =
     block_line f (later ++ gs) line (rest ++ b) (ap (λ z. z ++ gs) p)
-    (ap (λ z. z ++ b) q ∙ append_assoc line (10 ∷ rest) b) l (dump_join P later gs rest b d h)
-dump_join P fs gs a b (inside_line f line rest q l i d) h =
+    (ap (λ z. z ++ b) q ∙ append_assoc line (10 ∷ rest) b) l (IsDump-append P later gs rest b d h)
+IsDump-append P fs gs a b (inside_line f line rest q l i d) h =
     inside_line f line (rest ++ b) (ap (λ z. z ++ b) q ∙ append_assoc line (10 ∷ rest) b) l i
-    (dump_join P fs gs rest b d h)
+    (IsDump-append P fs gs rest b d h)
 
 -- what holds of those inside may be weaker
-pub dump_map : (P Q : Front → Type 0) → ((f : Front) → P f → Q f) → (fs : List Front) (a : List ℕ) → IsDump P fs a →
-    IsDump Q fs a
-dump_map P Q m fs a (no_lines p q) = no_lines p q
-dump_map P Q m fs a (block_line f later line rest p q l d) =
-    block_line f later line rest p q l (dump_map P Q m later rest d)
-dump_map P Q m fs a (inside_line f line rest q l i d) = inside_line f line rest q l (m f i) (dump_map P Q m fs rest d)
+pub IsDump-weaker : (P Q : Front → Type 0) → ((f : Front) → P f → Q f) → (fs : List Front) (a : List ℕ) →
+    IsDump P fs a → IsDump Q fs a
+IsDump-weaker P Q m fs a (no_lines p q) = no_lines p q
+IsDump-weaker P Q m fs a (block_line f later line rest p q l d) =
+    block_line f later line rest p q l (IsDump-weaker P Q m later rest d)
+IsDump-weaker P Q m fs a (inside_line f line rest q l i d) =
+    inside_line f line rest q l (m f i) (IsDump-weaker P Q m fs rest d)
 
-dump_unless :
+IsDump-unless :
     (P : Front → Type 0) (inside q : Bool) (f : Front) (text : List ℕ) → IsLineUnless q inside f text → P f →
     IsDump P (if inside then [] else if q then [] else f ∷ []) text
-dump_unless P true true f text e i = no_lines refl e
-dump_unless P true false f text (line, e, l) i = inside_line f line [] e l i (no_lines refl refl)
-dump_unless P false true f text e i = no_lines refl e
-dump_unless P false false f text (line, e, l) i = block_line f [] line [] refl e l (no_lines refl refl)
+IsDump-unless P true true f text e i = no_lines refl e
+IsDump-unless P true false f text (line, e, l) i = inside_line f line [] e l i (no_lines refl refl)
+IsDump-unless P false true f text e i = no_lines refl e
+IsDump-unless P false false f text (line, e, l) i = block_line f [] line [] refl e l (no_lines refl refl)
 
 -- the row of a piece was printed, or nothing where it stands too deep
 pub nothing_deep :
@@ -62,41 +63,41 @@ row_printed contents true inside row f faults a b e prints line = absurd (cc e)
 row_printed contents false inside row f faults a b e prints line =
     (row_line row ++ 10 ∷ [], prints, (row_line row, refl, line))
 
-outer_one :
+outer-one :
     (inside : Bool) (most : Option ℕ) (f : Front) →
     outer inside most (f ∷ []) ≡ (if inside then [] else if is_too_deep most f.depth then [] else f ∷ [])
-outer_one true most f = refl
-outer_one false most f = refl
+outer-one true most f = refl
+outer-one false most f = refl
 
 -- the line of an encoding, unless it stands too deep
-pub start_dump :
+pub IsDump-start :
     (P : Front → Type 0) (inside : Bool) (most : Option ℕ) (f : Front) (text : List ℕ) →
     IsLineUnless (is_too_deep most f.depth) inside f text → P f → IsDump P (outer inside most (f ∷ [])) text
-start_dump P inside most f text line i =
-    subst (λ z. IsDump P z text) (sym (outer_one inside most f))
-    (dump_unless P inside (is_too_deep most f.depth) f text line i)
+IsDump-start P inside most f text line i =
+    subst (λ z. IsDump P z text) (sym (outer-one inside most f))
+    (IsDump-unless P inside (is_too_deep most f.depth) f text line i)
 
-down_to_join_one :
+down_to-append-one :
     (q : Bool) (f : Front) (xs ys zs : List Front) → xs ≡ ys ++ zs →
     (if q then xs else f ∷ xs) ≡ (if q then ys else f ∷ ys) ++ zs
-down_to_join_one true f xs ys zs e = e
-down_to_join_one false f xs ys zs e = ap (λ z. f ∷ z) e
+down_to-append-one true f xs ys zs e = e
+down_to-append-one false f xs ys zs e = ap (λ z. f ∷ z) e
 
-down_to_join : (most : Option ℕ) (fs gs : List Front) → down_to most (fs ++ gs) ≡ down_to most fs ++ down_to most gs
-down_to_join most [] gs = refl
-down_to_join most (f ∷ fs) gs =
-    down_to_join_one (is_too_deep most f.depth) f (down_to most (fs ++ gs)) (down_to most fs) (down_to most gs)
-    (down_to_join most fs gs)
+down_to-append : (most : Option ℕ) (fs gs : List Front) → down_to most (fs ++ gs) ≡ down_to most fs ++ down_to most gs
+down_to-append most [] gs = refl
+down_to-append most (f ∷ fs) gs =
+    down_to-append-one (is_too_deep most f.depth) f (down_to most (fs ++ gs)) (down_to most fs) (down_to most gs)
+    (down_to-append most fs gs)
 
-pub outer_join :
+pub outer-append :
     (inside : Bool) (most : Option ℕ) (fs gs : List Front) →
     outer inside most (fs ++ gs) ≡ outer inside most fs ++ outer inside most gs
-outer_join true most fs gs = refl
-outer_join false most fs gs = down_to_join most fs gs
+outer-append true most fs gs = refl
+outer-append false most fs gs = down_to-append most fs gs
 
-pub outer_none : (inside : Bool) (most : Option ℕ) → outer inside most [] ≡ []
-outer_none true most = refl
-outer_none false most = refl
+pub outer-nil : (inside : Bool) (most : Option ℕ) → outer inside most [] ≡ []
+outer-nil true most = refl
+outer-nil false most = refl
 
 -- the line of a row behind its offset
 abbrev row_rest : Row → List ℕ
@@ -105,13 +106,18 @@ row_rest row =
     ++ (32 ∷ 32 ∷ [] ++ (indentation row.depth ++ (on_one_line row.field.now ++ (on_one_line row.type_name.now
     ++ (on_one_line row.value.now ++ (on_one_line (fault_message row) ++ on_one_line row.mark.now)))))))))
 
+-- what stands behind the type of a row, before its mark
+abbrev pub row_text : Row → List ℕ
+row_text row = on_one_line row.value.now ++ on_one_line (fault_message row)
+
 -- the line of a row
 row_block :
     (row : Row) (f : Front) → row.offset ≡ f.offset → row.header ≡ f.header → row.contents ≡ f.contents →
     row.is_indefinite ≡ f.indefinite → row.depth ≡ f.depth → on_one_line row.type_name.now ≡ f.words →
-    on_one_line row.mark.now ≡ mark_text (breaches_of f.rules f.has_spare_bits) → (width : ℕ) (line : List ℕ) →
+    on_one_line row.mark.now ≡ mark_text (breaches_of f.rules f.has_spare_bits) →
+    IfSome f.meaning (λ meaning. IsMeaningText meaning (row_text row)) → (width : ℕ) (line : List ℕ) →
     line ≡ right_of width row.offset ++ row_rest row → IsBlockLine f line
-row_block row f o h c i d w m width line is =
+row_block row f o h c i d w m v width line is =
     let field = on_one_line row.field.now in
     let value = on_one_line row.value.now in
     let fault = on_one_line (fault_message row) in
@@ -131,6 +137,7 @@ row_block row f o h c i d w m width line is =
       one =
           IsOneLine-append value fault (IsOneLine-on_one_line row.value.now)
           (IsOneLine-on_one_line (fault_message row));
+      value = v;
       mark_is = m;
     }
 
@@ -138,16 +145,17 @@ pub row_line_of :
     (inside : Bool) (row : Row) (f : Front) → row.is_inside ≡ inside → row.offset ≡ f.offset → row.header ≡ f.header →
     row.contents ≡ f.contents → row.is_indefinite ≡ f.indefinite → row.depth ≡ f.depth →
     on_one_line row.type_name.now ≡ f.words →
-    on_one_line row.mark.now ≡ mark_text (breaches_of f.rules f.has_spare_bits) → IsLineOf inside f (row_line row)
-row_line_of true row f q o h c i d w m =
+    on_one_line row.mark.now ≡ mark_text (breaches_of f.rules f.has_spare_bits) →
+    IfSome f.meaning (λ meaning. IsMeaningText meaning (row_text row)) → IsLineOf inside f (row_line row)
+row_line_of true row f q o h c i d w m v =
     let shown = right_of 6 row.offset ++ row_rest row in
     record {
       shown = shown;
       line_is = rw q (simp append_assoc);
-      block = row_block row f o h c i d w m 6 shown refl;
+      block = row_block row f o h c i d w m v 6 shown refl;
     }
-row_line_of false row f q o h c i d w m =
-    row_block row f o h c i d w m 7 (row_line row) (rw q (simp append_assoc))
+row_line_of false row f q o h c i d w m v =
+    row_block row f o h c i d w m v 7 (row_line row) (rw q (simp append_assoc))
 
 -- octets among octets among octets
 drop-append : (n : ℕ) (xs ys : List ℕ) → (zs : List ℕ) × (drop n (xs ++ ys) ≡ drop n xs ++ zs)
@@ -155,9 +163,9 @@ drop-append zero xs ys = (ys, refl)
 drop-append (suc n) [] ys = (drop (suc n) ys, refl)
 drop-append (suc n) (x ∷ xs) ys = drop-append n xs ys
 
-pub stand_deeper : (octets part inner : List ℕ) (m n : ℕ) → StandAt octets m part → StandAt part n inner →
+pub StandAt-inside : (octets part inner : List ℕ) (m n : ℕ) → StandAt octets m part → StandAt part n inner →
     StandAt octets (m + n) inner
-stand_deeper octets part inner m n (rest, p) (after, q) =
+StandAt-inside octets part inner m n (rest, p) (after, q) =
     let (zs, r) = drop-append n part rest in (
       after ++ zs,
       sym (drop-drop n m octets)
@@ -165,16 +173,16 @@ stand_deeper octets part inner m n (rest, p) (after, q) =
     )
 
 -- what stands inside octets that stand at a place stands inside the whole
-pub inside_deeper :
+pub StandsInside-inside :
     (octets part : List ℕ) (base m further : ℕ) (f : Front) → StandAt octets m part → further ≡ base + m →
     StandsInside further part f → StandsInside base octets f
-inside_deeper octets part base m further f at e s =
+StandsInside-inside octets part base m further f at e s =
     let l = s.place in
     let o : f.offset ≡ (further + s.before) + s.front.offset = l.offset in
     record {
       before = m + s.before;
       part = s.part;
-      position = stand_deeper octets part s.part m s.before at s.position;
+      position = StandAt-inside octets part s.part m s.before at s.position;
       fronts = s.fronts;
       faults = s.faults;
       read = s.read;
@@ -186,42 +194,43 @@ inside_deeper octets part base m further f at e s =
         offset = omega (arith, o, e);
         header = l.header;
         contents = l.contents;
-        indefinite =
-            l.indefinite;
+        indefinite = l.indefinite;
         words = l.words;
         rules = l.rules;
+        meaning = l.meaning;
       };
     }
 
 -- a mark
-pub no_mark : (told : List Breach) → length told ≡ 0 → mark_text told ≡ []
-no_mark [] e = refl
-no_mark (x ∷ told) e = absurd (omega (arith, e))
+pub mark_text-none : (breaches : List Breach) → length breaches ≡ 0 → mark_text breaches ≡ []
+mark_text-none [] e = refl
+mark_text-none (x ∷ breaches) e = absurd (omega (arith, e))
 
-some_mark : (told : List Breach) → 0 < length told →
-    mark_text told ≡ codes " (not DER: " ++ (words_text false told ++ codes ")")
-some_mark [] some = absurd (omega (arith, some))
-some_mark (x ∷ told) some = refl
+mark_text-some : (breaches : List Breach) → 0 < length breaches →
+    mark_text breaches ≡ codes " (not DER: " ++ (words_text false breaches ++ codes ")")
+mark_text-some [] some = absurd (omega (arith, some))
+mark_text-some (x ∷ breaches) some = refl
 
 pub mark_put :
-    (a b c d : List ℕ) (told : List Breach) → 0 < length told → b ≡ a ++ codes " (not DER: " →
-    c ≡ b ++ words_text false told → d ≡ c ++ 41 ∷ [] → d ≡ a ++ mark_text told
-mark_put a b c d told some p q r =
-    let whole : d ≡ a ++ (codes " (not DER: " ++ (words_text false told ++ codes ")")) =
+    (a b c d : List ℕ) (breaches : List Breach) → 0 < length breaches → b ≡ a ++ codes " (not DER: " →
+    c ≡ b ++ words_text false breaches → d ≡ c ++ 41 ∷ [] → d ≡ a ++ mark_text breaches
+mark_put a b c d breaches some p q r =
+    let whole : d ≡ a ++ (codes " (not DER: " ++ (words_text false breaches ++ codes ")")) =
     rw (r, q, p) (simp append_assoc) in
-    whole ∙ ap (λ z. a ++ z) (sym (some_mark told some))
+    whole ∙ ap (λ z. a ++ z) (sym (mark_text-some breaches some))
 
 -- lines of faults
-pub fault_line : (offset : ℕ) (text : List ℕ) → IsLine (IsFaultLine offset) text → AreFaultLines (offset ∷ []) text
-fault_line offset text line = (text, [], sym (append-nil text), line, refl)
+pub AreFaultLines-one : (offset : ℕ) (text : List ℕ) → IsLine (IsFaultLine offset) text →
+    AreFaultLines (offset ∷ []) text
+AreFaultLines-one offset text line = (text, [], sym (append-nil text), line, refl)
 
-pub fault_lines_join :
+pub AreFaultLines-append :
     (xs ys a b : List ℕ) → AreFaultLines xs a → AreFaultLines ys b → AreFaultLines (xs ++ ys) (a ++ b)
-fault_lines_join [] ys a b e more = subst (λ z. AreFaultLines ys (z ++ b)) (sym e) more
-fault_lines_join (x ∷ xs) ys a b (first, later, e, line, others) more = (
+AreFaultLines-append [] ys a b e more = subst (λ z. AreFaultLines ys (z ++ b)) (sym e) more
+AreFaultLines-append (x ∷ xs) ys a b (first, later, e, line, others) more = (
   first,
   later ++ b,
   ap (λ z. z ++ b) e ∙ append_assoc first later b,
   line,
-  fault_lines_join xs ys later b others more,
+  AreFaultLines-append xs ys later b others more,
 )

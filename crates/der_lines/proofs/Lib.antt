@@ -3,3 +3,4 @@ pub mod Dumps
 pub mod Fronts
 mod Shown
 pub mod Breach
+pub mod Meanings

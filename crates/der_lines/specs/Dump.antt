@@ -1,26 +1,37 @@
 -- What is written of octets: lines, one for each encoding in order, by their headers. The contents octets of
 -- constructed encodings, and of each SEQUENCE and SET, are gone into; those of others are looked at alone.
-use Rattle.std.specs.Prelude.{◌≡◌, ◌⊎◌, ℕ, ◌+◌, ◌<◌, Bool, true, false, if◌then◌else◌, Option, List, [], ◌∷◌, ◌++◌, length, take, replicate, codes, decimal}
+use Rattle.std.specs.Prelude.{◌≡◌, ◌⊎◌, ℕ, ◌+◌, ◌<◌, Bool, true, false, if◌then◌else◌, IfSome, Option, List, [], ◌∷◌, ◌++◌, length, take, replicate, codes, decimal}
 use Rattle.der_pieces.specs.Marks.{are_some, breaches_of}
 use Rattle.der_lines.specs.MarkText.{mark_text}
 use Rattle.der_lines.specs.declared.document.Verdict.{Verdict}
 use Rattle.der_lines.specs.declared.document.Verdict.TheVariants.{AllRead, Refused}
 use Rattle.der_io.specs.Characters.{colon, exclamation_mark, greater_than_sign, line_feed, space}
 use Rattle.der_rows.specs.Rows.{IsOneLine, contents_column, indentation, on_one_line, right_of}
-use Rattle.der_pieces.specs.Fronts.{AreFrontsOf, Front, StandAt, is_too_deep}
+use Rattle.der_pieces.specs.Fronts.{AreFrontsOf, Front, Meaning, StandAt, is_too_deep}
+use Rattle.der_lines.specs.ValueText.{IsValueText, parenthesized_if}
+use Rattle.der_lines.specs.declared.values.ValueStyle.{ValueStyle}
 
 -- the offset of one that is marked
 abbrev pub marked_offset : Front → List ℕ
 marked_offset front = if are_some (breaches_of front.rules front.has_spare_bits) then front.offset ∷ [] else []
 
--- those that stand inside no more than the most
+-- the fronts that stand inside no more than the most
 abbrev pub down_to : Option ℕ → List Front → List Front
 down_to most [] = []
 down_to most (front ∷ fronts) =
     if is_too_deep most front.depth then down_to most fronts else front ∷ down_to most fronts
 
+-- the text on one line is that of the value that contents octets mean, in some style, and the name of the value, if it
+-- has one
+pub record IsMeaningText (meaning : Meaning) (text : List ℕ) : Type 0 where
+  pub style : ValueStyle
+  pub value : List ℕ
+  pub name : Option (List ℕ)
+  pub value_is : IsValueText style meaning.octets meaning.value value
+  pub text_is : text ≡ on_one_line (value ++ parenthesized_if name)
+
 -- a line of an encoding: spaces, the offset, the sizes of header and contents in columns, spaces for the depth, the
--- field, the words, what else stands behind them, and the mark
+-- field, the words, what else stands behind them, which is its value if it has one, and the mark
 pub record IsBlockLine (front : Front) (line : List ℕ) : Type 0 where
   pub spaces : ℕ
   pub field : List ℕ
@@ -32,6 +43,7 @@ pub record IsBlockLine (front : Front) (line : List ℕ) : Type 0 where
       ++ (indentation front.depth ++ (field ++ (front.words ++ (text ++ mark))))))))))
   pub one_field : IsOneLine field
   pub one : IsOneLine text
+  pub value : IfSome front.meaning (λ meaning. IsMeaningText meaning text)
   pub mark_is : mark ≡ mark_text (breaches_of front.rules front.has_spare_bits)
 
 -- the line of one that stands inside octets of another: `>`, and then as any
@@ -60,6 +72,7 @@ pub record IsLater (base : ℕ) (front later : Front) : Type 0 where
   pub indefinite : later.indefinite ≡ front.indefinite
   pub words : later.words ≡ front.words
   pub rules : later.rules ≡ front.rules
+  pub meaning : later.meaning ≡ front.meaning
 
 -- it is of an encoding in octets among these, which stand so many octets later than these
 pub record StandsInside (base : ℕ) (octets : List ℕ) (later : Front) : Type 0 where

@@ -8,9 +8,9 @@ separator later = if later then codes ", " else []
 
 abbrev pub words_text : Bool → List Breach → List ℕ
 words_text later [] = []
-words_text later (told ∷ more) = separator later ++ (told.words ++ words_text true more)
+words_text later (breach ∷ more) = separator later ++ (breach.words ++ words_text true more)
 
 -- the mark at the end of a line
 abbrev pub mark_text : List Breach → List ℕ
 mark_text [] = []
-mark_text (told ∷ more) = codes " (not DER: " ++ (words_text false (told ∷ more) ++ codes ")")
+mark_text (breach ∷ more) = codes " (not DER: " ++ (words_text false (breach ∷ more) ++ codes ")")

@@ -27,39 +27,41 @@ abbrev pub outer : Bool → Option ℕ → List Front → List Front
 outer true most fronts = []
 outer false most fronts = down_to most fronts
 
--- what is told is the first of the faults, where there is one
+-- the first of the faults, where there is one
 abbrev pub IsFirstFault : List ℕ → Option Fault → Type 0
-IsFirstFault faults told =
-    MatchOption told (faults ≡ []) (λ fault. (later : List ℕ) × (faults ≡ fault.offset ∷ later))
+IsFirstFault faults first =
+    MatchOption first (faults ≡ []) (λ fault. (later : List ℕ) × (faults ≡ fault.offset ∷ later))
 
 -- the first of two
 abbrev pub earlier_fault : Option Fault → Option Fault → Option Fault
 earlier_fault None next = next
 earlier_fault (Some fault) next = Some fault
 
--- those of which the marks count that stand inside no octets of a string
+-- the fronts whose marks count where they stand inside no octets of a string
 abbrev pub counted : Bool → List Front → List Front
 counted true fronts = []
 counted false fronts = fronts
+
+-- the offsets of marks that are kept: all of them strictly, where they are wrong
+abbrev pub kept_marks : Bool → List ℕ → List ℕ
+kept_marks true offsets = offsets
+kept_marks false offsets = []
 
 -- where marks stand
 abbrev pub mark_offsets : List Marked → List ℕ
 mark_offsets marks = map (λ m. m.offset) marks
 
 -- the lines of octets
-pub record IsWholeDump (place : Place) (octets : List ℕ) (found : Problems) (text : List ℕ) : Type 0 where
+pub record IsWholeDump (strict : Bool) (place : Place) (octets : List ℕ) (found : Problems) (text : List ℕ)
+    : Type 0 where
   pub fronts : List Front
   pub faults : List ℕ
   pub read : AreFrontsOf octets fronts faults
-  pub told : IsFirstFault faults found.fault
-  pub marks : AreMarked (StandsInside place.base octets) (counted place.is_inside fronts)
-      (mark_offsets found.marks.items)
+  pub first : IsFirstFault faults found.fault
+  pub marks : List ℕ
+  pub marked : AreMarked (StandsInside place.base octets) (counted place.is_inside fronts) marks
+  pub kept : mark_offsets found.marks.items ≡ kept_marks strict marks
   pub dump : IsDump (StandsInside place.base octets) (outer place.is_inside place.most_depth fronts) text
-
--- marks, where they are wrong
-abbrev pub marks_by : Bool → List Marked → List Marked
-marks_by true marks = marks
-marks_by false marks = []
 
 -- the line of the first fault, if there is one; and the verdict is of the marks and of it
 abbrev pub IsLast : Option Fault → List ℕ → Verdict → List ℕ → Type 0

@@ -1,7 +1,7 @@
 // The rows of a document, and what is wrong with it.
-ghost use Rattle.std.specs.Prelude.{◌≡◌, IfOk, OnOk, false, true};
+ghost use Rattle.std.specs.Prelude.{IfOk, OnOk, false, true};
 ghost use Rattle.der_lines.specs.Dump.{AreFaultLines, IsDumpOf, IsDumpOfSome, IsFaultLine, IsLine};
-ghost use Rattle.der_lines.specs.Steps.{IsLast, mark_offsets, marks_by as marks_are};
+ghost use Rattle.der_lines.specs.Steps.{IsLast, mark_offsets};
 ghost use Rattle.der_rows.specs.Printing.{IsPrinted};
 
 use crate::encodings::{Marked, Problems, push_encodings};
@@ -33,8 +33,8 @@ pub enum Verdict {
 /// octets that are cut short, those of no value, end-of-contents octets that are missing, or the indefinite form of a
 /// primitive encoding, which is read as a length of 0. Octets inside strings count for nothing there.
 ///
-/// It takes the memory of one row, whose value may be that of a string in segments, two words for each encoding that is
-/// open, and some for each that breaks a rule of DER.
+/// It takes the memory of one row, whose value may be that of a string in segments, and two words for each encoding
+/// that is open.
 ///
 /// # Errors
 /// `Memory`, after which what was printed before stays written; `Write`, after which nothing is known of what was.
@@ -103,17 +103,9 @@ fn push_lines<W: Write>(
     ensures { IfOk result (λ verdict. IsPrinted W.contents (IsDumpOfSome is_strict style.most_depth octets.now verdict)
         printer.old printer.new) }
 {
-    let found = push_encodings(alloc, names, octets, outermost(style), printer)?;
-    let marks = marks_by(is_strict, &found.marks);
-    push_marks(alloc, marks, printer)?;
-    push_last(&found, marks, printer)
-}
-
-// Marks, where they are wrong.
-fn marks_by(is_strict: bool, marks: &[Marked]) -> &[Marked]
-    ensures { result.now ≡ marks_are is_strict marks.now }
-{
-    if is_strict { marks } else { &[] }
+    let found = push_encodings(alloc, names, octets, outermost(style), is_strict, printer)?;
+    push_marks(alloc, &found.marks, printer)?;
+    push_last(&found, &found.marks, printer)
 }
 
 // Prints a line for each mark.
@@ -139,7 +131,7 @@ fn push_mark_line<W: Write>(
 {
     let mut text = Vec::new(alloc);
     text.extend_from_slice(b"not DER: ")?;
-    push_words(&mark.told, &mut text)?;
+    push_words(&mark.rules, &mut text)?;
     push_fault(mark.offset, &text, printer)
 }
 

@@ -1,15 +1,23 @@
 // The rows of octets, one for each piece, and of what stands inside octets of strings.
-ghost use Rattle.std.specs.Prelude.{◌≡◌, ◌<◌, ◌++◌, ℕ, List, false, IfOk, IfSome, OnOk, is_some, string_bytes};
+ghost use Rattle.std.specs.Prelude.{◌≡◌, ◌<◌, ◌++◌, ◌∷◌, [], ℕ, List, false, IfOk, IfSome, None, OnOk, is_some, option_map, string_bytes};
+ghost use Rattle.der_contents.specs.Scalars.{after_space};
+ghost use Rattle.der_io.specs.Characters.{space};
 ghost use Rattle.der_lines.specs.Dump.{marked_offset};
 ghost use Rattle.der_pieces.specs.Pieces.{IsHolding, kind_words};
-ghost use Rattle.der_lines.specs.PieceRows.{IsFieldText, IsNamedBy, IsNestedDump, IsPieceDump, row_faults, shown_front};
+ghost use Rattle.der_lines.specs.PieceRows.{IsFieldText, IsKindText, IsNamedBy, IsNestedDump, IsOpenedText, IsPieceDump, IsPieceText, IsRight, row_faults, shown_front};
+ghost use Rattle.der_lines.specs.ValueText.{IsValueText, is_tagged};
 ghost use Rattle.der_rows.specs.Printing.{IsPrinted, IsPrintedAs};
-ghost use Rattle.der_lines.specs.Steps.{IsStart, IsWholeDump, earlier_fault, mark_offsets};
+ghost use Rattle.der_lines.specs.Steps.{IsStart, IsWholeDump, earlier_fault, kept_marks, mark_offsets};
 
 use crate::lines::push_mark;
-use crate::values::{ValueStyle, cut_text, write_opened, write_role, write_value};
+use crate::values::{
+    ValueStyle, cut_text, identifier_name, is_known_constructed, role_name, write_opened,
+    write_role, write_value, write_value_name,
+};
+use asn1_headers::front::Header;
 use der_contents::faults::Fault;
 use der_contents::scalars::write_after_space;
+use der_contents::value::LeafValue;
 use der_elements::header::holds_encodings;
 use der_elements::sum::sum_of;
 use der_io::StreamFault;
@@ -17,6 +25,7 @@ use der_names::Names;
 use der_pieces::marks::BrokenRule;
 use der_pieces::piece::{Kind, Piece};
 use der_pieces::place::{Place, is_too_deep};
+use der_pieces::strings::Joined;
 use der_pieces::walk::Walk;
 use der_rows::{Printer, Row};
 use der_shapes::Named;
@@ -24,14 +33,15 @@ use der_values::Role;
 use std::alloc::{AllocError, Global};
 use std::io::Write;
 
-// Where an encoding stands that has a mark, in the document, and which rules the mark tells.
+// Where an encoding stands that has a mark, in the document, and which rules it breaks.
 #[derive(Drop)]
 pub struct Marked {
     pub offset: usize,
-    pub told: Vec<BrokenRule>,
+    pub rules: Vec<BrokenRule>,
 }
 
-// What is wrong with octets: the first fault, and the encodings that have a mark, with those inside octets of strings.
+// What is wrong with octets: the first fault; and, strictly, the encodings that have a mark, with those inside octets
+// of strings.
 #[derive(Drop)]
 pub struct Problems {
     pub fault: Option<Fault>,
@@ -39,18 +49,19 @@ pub struct Problems {
 }
 
 impl Problems {
-    // Keeps what is wrong with one more piece, and the marks inside it.
+    // Keeps what is wrong with one more piece, and, strictly, the marks inside it.
     fn keep(
         &mut self,
         alloc: Global,
+        is_strict: bool,
         piece: Piece<'_>,
         mut inside: Vec<Marked>,
     ) -> Result<(), AllocError>
         ensures fault { OnOk result (self.new.fault ≡ earlier_fault self.old.fault piece.entry.fault) }
         ensures marks { OnOk result (mark_offsets self.new.marks.items ≡ mark_offsets self.old.marks.items
-            ++ (marked_offset (shown_front piece.entry) ++ mark_offsets inside.items)) }
+            ++ (kept_marks is_strict (marked_offset (shown_front piece.entry)) ++ mark_offsets inside.items)) }
     {
-        self.mark(alloc, &piece)?;
+        self.mark(alloc, is_strict, &piece)?;
         self.marks.append(&mut inside)?;
         self.keep_fault(piece.fault);
         Ok(())
@@ -66,34 +77,46 @@ impl Problems {
         }
     }
 
-    // Keeps the mark of a piece, if it has one.
-    fn mark(&mut self, alloc: Global, piece: &Piece<'_>) -> Result<(), AllocError>
+    // Keeps the mark of a piece, if it has one: strictly, since else it is not listed.
+    fn mark(&mut self, alloc: Global, is_strict: bool, piece: &Piece<'_>) -> Result<(), AllocError>
+        ensures fault { OnOk result (self.new.fault ≡ self.old.fault) }
+        ensures marks { OnOk result (mark_offsets self.new.marks.items
+            ≡ mark_offsets self.old.marks.items ++ kept_marks is_strict (marked_offset (shown_front piece.now))) }
+    {
+        if !is_strict {
+            return Ok(());
+        }
+        self.keep_mark(alloc, piece)
+    }
+
+    fn keep_mark(&mut self, alloc: Global, piece: &Piece<'_>) -> Result<(), AllocError>
         ensures fault { OnOk result (self.new.fault ≡ self.old.fault) }
         ensures marks { OnOk result (mark_offsets self.new.marks.items
             ≡ mark_offsets self.old.marks.items ++ marked_offset (shown_front piece.now)) }
     {
-        let told = piece.breaches.describe(alloc)?;
-        if told.is_empty() {
+        let rules = piece.breaches.describe(alloc)?;
+        if rules.is_empty() {
             return Ok(());
         }
         let offset = piece.document_offset()?;
-        self.marks.push(Marked { offset, told })?;
+        self.marks.push(Marked { offset, rules })?;
         Ok(())
     }
 }
 
-// Prints the rows of octets, and gives what is wrong with them.
+// Prints the rows of octets, and returns what is wrong with them.
 #[cycle(encodings)]
 pub fn push_encodings<W: Write>(
     alloc: Global,
     names: &Names,
     octets: &[u8],
     place: Place,
+    is_strict: bool,
     printer: &mut Printer<W>,
 ) -> Result<Problems, StreamFault>
     requires { place.is_inside ≡ false → (place.base ≡ 0) × (place.depth ≡ 0) }
     ensures { IfOk result (λ found.
-        IsPrinted W.contents (IsWholeDump place octets.now found) printer.old printer.new) }
+        IsPrinted W.contents (IsWholeDump is_strict place octets.now found) printer.old printer.new) }
 {
     let mut found = Problems {
         fault: None,
@@ -101,29 +124,32 @@ pub fn push_encodings<W: Write>(
     };
     let mut walk = Walk::over(alloc, &names.shapes, octets, place)?;
     while let Some(piece) = walk.next(alloc)? {
-        let inside = push_piece(alloc, names, &piece, printer)?;
-        found.keep(alloc, piece, inside)?;
+        let inside = push_piece(alloc, names, &piece, is_strict, printer)?;
+        found.keep(alloc, is_strict, piece, inside)?;
     }
     Ok(found)
 }
 
-// Prints the row of a piece, and those of encodings inside its contents octets, and gives the marks of these.
+// Prints the row of a piece, and those of encodings inside its contents octets, and returns the marks of these.
 #[cycle(encodings)]
 fn push_piece<W: Write>(
     alloc: Global,
     names: &Names,
     piece: &Piece<'_>,
+    is_strict: bool,
     printer: &mut Printer<W>,
 ) -> Result<Vec<Marked>, StreamFault>
-    requires { IfSome piece.now.nested (λ _. 0 < piece.now.place.documents) }
+    requires right { IsRight piece.now }
+    requires nested { IfSome piece.now.nested (λ _. 0 < piece.now.place.documents) }
     ensures { IfOk result (λ marks. (left : List ℕ)
         → IsHolding left piece.now.kind piece.now.place piece.now.nested
-        → IsPrinted W.contents (IsPieceDump left piece.now (mark_offsets marks.items)) printer.old printer.new) }
+        → IsPrinted W.contents (IsPieceDump is_strict left piece.now (mark_offsets marks.items))
+        printer.old printer.new) }
 {
     let words = piece.words(alloc)?;
     let shown = shown_of(alloc, names, piece, &words)?;
     push_row(alloc, piece, &words, &shown, printer)?;
-    push_nested(alloc, names, piece, printer)
+    push_nested(alloc, names, piece, is_strict, printer)
 }
 
 // Prints the row, unless it stands too deep. On a page its element has the class of what is wrong exactly if something
@@ -136,6 +162,8 @@ fn push_row<W: Write>(
     printer: &mut Printer<W>,
 ) -> Result<(), StreamFault>
     requires words { words.now ≡ kind_words piece.now.kind }
+    requires right { IsRight piece.now }
+    requires value { IsPieceText piece.now (string_bytes shown.now.value) }
     requires fault { is_some shown.now.fault ≡ is_some piece.now.fault }
     ensures { OnOk result (IsPrintedAs W.contents (row_faults piece.now)
         (IsStart piece.now.place (shown_front piece.now)) printer.old printer.new) }
@@ -179,25 +207,27 @@ fn has_rows_inside(piece: &Piece<'_>) -> bool {
     }
 }
 
-// Prints the rows of encodings inside contents octets, if there are any, and gives their marks.
+// Prints the rows of encodings inside contents octets, if there are any, and returns their marks.
 #[cycle(encodings)]
 fn push_nested<W: Write>(
     alloc: Global,
     names: &Names,
     piece: &Piece<'_>,
+    is_strict: bool,
     printer: &mut Printer<W>,
 ) -> Result<Vec<Marked>, StreamFault>
     requires { IfSome piece.now.nested (λ _. 0 < piece.now.place.documents) }
     ensures { IfOk result (λ marks. (left : List ℕ)
         → IsHolding left piece.now.kind piece.now.place piece.now.nested
-        → IsPrinted W.contents (IsNestedDump left piece.now (mark_offsets marks.items)) printer.old printer.new) }
+        → IsPrinted W.contents (IsNestedDump is_strict left piece.now (mark_offsets marks.items))
+        printer.old printer.new) }
 {
     let Some(nested) = piece.nested else {
         return Ok(Vec::new(alloc));
     };
     let offset = sum_of(piece.document_offset()?, piece.header_size())?;
     let inside = piece.place.inside(sum_of(offset, nested.before)?)?;
-    let found = push_encodings(alloc, names, nested.octets, inside, printer)?;
+    let found = push_encodings(alloc, names, nested.octets, inside, is_strict, printer)?;
     Ok(found.marks)
 }
 
@@ -218,12 +248,12 @@ fn shown_of(
 ) -> Result<Shown, AllocError>
     ensures fault { IfOk result (λ shown. is_some shown.fault ≡ is_some piece.now.fault) }
     ensures field { IfOk result (λ shown. IsNamedBy names.now.shapes piece.now (string_bytes shown.field)) }
+    ensures value { IfOk result (λ shown. IsPieceText piece.now (string_bytes shown.value)) }
 {
     let named = piece.names(&names.shapes);
-    let mut value = value_text(alloc, names, piece, named)?;
-    if let Some(name) = value_name(piece, named) {
-        write!(value, " ({name})")?;
-    }
+    let style = ValueStyle::of(piece);
+    let mut value = value_text(alloc, names, piece, style, field_of(named))?;
+    write_value_name(&mut value, value_name(piece, named))?;
     Ok(Shown {
         field: field_text(alloc, words, named)?,
         value,
@@ -252,10 +282,20 @@ fn field_text(alloc: Global, words: &str, named: Option<Named>) -> Result<String
         return Ok(String::new(alloc));
     };
     match field {
-        Some(name) => format!(in alloc; "{name} "),
+        Some(name) => with_space(alloc, name),
         None if of.starts_with(words) => Ok(String::new(alloc)),
-        None => format!(in alloc; "{of} "),
+        None => with_space(alloc, of),
     }
+}
+
+// A name and a space.
+fn with_space(alloc: Global, name: &str) -> Result<String, AllocError>
+    ensures { IfOk result (λ text. string_bytes text ≡ name.now ++ space ∷ []) }
+{
+    let mut text = String::with_capacity(alloc, name.len().saturating_add(1))?;
+    text.push_str(name)?;
+    text.push(' ')?;
+    Ok(text)
 }
 
 // The value of a piece, as it stands behind its type.
@@ -263,24 +303,102 @@ fn value_text(
     alloc: Global,
     names: &Names,
     piece: &Piece<'_>,
-    named: Option<Named>,
-) -> Result<String, AllocError> {
-    let mut text = String::new(alloc);
-    let style = ValueStyle::of(piece);
+    style: ValueStyle,
+    field: Option<&'static str>,
+) -> Result<String, AllocError>
+    ensures { IfOk result (λ text. IsKindText style piece.now.kind (string_bytes text)) }
+{
     match &piece.kind {
-        Kind::EndOfContents(_) | Kind::Cut(_, _) => {}
+        Kind::EndOfContents(_) | Kind::Cut(_, _) => Ok(String::new(alloc)),
         Kind::Unreadable(octets) | Kind::Leaf(_, octets, None) => {
-            write_after_space(&mut text, octets, style.is_full)?
+            octets_text(alloc, octets, style)
         }
         Kind::Opened(header, _, joined) => {
-            write_role(&mut text, piece.place.role(header), field_of(named))?;
-            write_opened(alloc, &mut text, names, header, joined, style)?
+            let role = role_name(piece.place.role(header), field);
+            opened_text(alloc, names, header, joined, style, role)
         }
         Kind::Leaf(header, contents, Some(value)) => {
-            write_role(&mut text, piece.place.role(header), field_of(named))?;
-            write_value(&mut text, names, contents, value, style)?
+            let role = leaf_role_name(value, piece.place.role(header), field);
+            leaf_text(alloc, names, contents, value, style, role)
         }
     }
+}
+
+// Octets that have no value, behind a space.
+fn octets_text(alloc: Global, octets: &[u8], style: ValueStyle) -> Result<String, AllocError>
+    ensures { IfOk result (λ text. string_bytes text ≡ after_space style.is_full octets.now) }
+{
+    let mut text = String::new(alloc);
+    write_after_space(&mut text, octets, style.is_full)?;
+    Ok(text)
+}
+
+// What stands behind the type of an encoding that is gone into, which has the name of a GeneralName, if it is one.
+fn opened_text(
+    alloc: Global,
+    names: &Names,
+    header: &Header,
+    joined: &Option<Joined>,
+    style: ValueStyle,
+    role: Option<&'static str>,
+) -> Result<String, AllocError>
+    ensures { IfOk result (λ text. IsOpenedText style joined.now (string_bytes text)) }
+{
+    let mut text = String::new(alloc);
+    write_role(&mut text, role)?;
+    let name = joined_name(alloc, names, joined)?;
+    write_opened(
+        alloc,
+        &mut text,
+        &name,
+        !is_known_constructed(header),
+        joined,
+        style,
+    )?;
+    Ok(text)
+}
+
+fn joined_name(
+    alloc: Global,
+    names: &Names,
+    joined: &Option<Joined>,
+) -> Result<String, AllocError> {
+    match joined {
+        Some(joined) => identifier_name(alloc, names, &joined.value),
+        None => Ok(String::new(alloc)),
+    }
+}
+
+// The name of a GeneralName, which is of no value of class Universal.
+fn leaf_role_name(
+    value: &LeafValue,
+    role: Role,
+    field: Option<&'static str>,
+) -> Option<&'static str>
+    ensures { is_tagged value.now ≡ false → option_map (λ t. t.now) result ≡ None }
+{
+    match value {
+        LeafValue::Tagged(_) => role_name(role, field),
+        _ => None,
+    }
+}
+
+// The value of these contents octets, which has the name of a GeneralName, if it is one.
+fn leaf_text(
+    alloc: Global,
+    names: &Names,
+    contents: &[u8],
+    value: &LeafValue,
+    style: ValueStyle,
+    role: Option<&'static str>,
+) -> Result<String, AllocError>
+    requires { is_tagged value.now ≡ false → option_map (λ t. t.now) role ≡ None }
+    ensures { IfOk result (λ text. IsValueText style contents.now value.now (string_bytes text)) }
+{
+    let mut text = String::new(alloc);
+    write_role(&mut text, role)?;
+    let name = identifier_name(alloc, names, value)?;
+    write_value(&mut text, &name, contents, value, style)?;
     Ok(text)
 }
 

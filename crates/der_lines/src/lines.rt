@@ -19,12 +19,12 @@ pub fn push_mark(alloc: Global, breaches: &Breaches, out: &mut Vec<u8>) -> Resul
     ensures { OnOk result (out.new.items ≡ out.old.items
         ++ mark_text (breaches_of breaches.now.rules.items breaches.now.has_spare_bits)) }
 {
-    let told = breaches.describe(alloc)?;
-    if told.is_empty() {
+    let rules = breaches.describe(alloc)?;
+    if rules.is_empty() {
         return Ok(());
     }
     out.extend_from_slice(b" (not DER: ")?;
-    push_words(&told, out)?;
+    push_words(&rules, out)?;
     out.push(b')')?;
     Ok(())
 }
@@ -70,11 +70,11 @@ pub fn push_fault_line<W: Write>(
 }
 
 // Puts what is wrong, with a comma and a space between two.
-pub fn push_words(told: &[BrokenRule], out: &mut Vec<u8>) -> Result<(), AllocError>
-    ensures { OnOk result (out.new.items ≡ out.old.items ++ words_text false (map breach_of told.now)) }
+pub fn push_words(rules: &[BrokenRule], out: &mut Vec<u8>) -> Result<(), AllocError>
+    ensures { OnOk result (out.new.items ≡ out.old.items ++ words_text false (map breach_of rules.now)) }
 {
     let mut is_later = false;
-    for rule in told {
+    for rule in rules {
         push_separator(is_later, out)?;
         push_text(rule, out)?;
         is_later = true;

@@ -1,4 +1,7 @@
 // What stands on a line behind the type: the value of the encoding.
+ghost use Rattle.std.specs.Prelude.{◌≡◌, ◌++◌, IfOk, OnOk, is_some, option_map, string_bytes};
+ghost use Rattle.der_lines.specs.ValueText.{bits_octets, bits_text, colon_text, constructed_text, identifier_text, integer_text, joined_text, number_octets, octets_text, opened_text, parenthesized_if, spaced, spaced_if, tagged_text, unused_text, value_text};
+ghost use Rattle.der_contents.specs.Scalars.{quoted};
 
 use asn1_headers::front::Header;
 use asn1_numbers::number::big_int::BigInt;
@@ -11,6 +14,9 @@ use der_pieces::strings::Joined;
 use der_values::{Role, general_name};
 use std::alloc::{AllocError, Global};
 
+// How many octets an integer has at most that is shown in decimal.
+const MOST_DECIMAL: usize = 16;
+
 // How a value is written.
 #[derive(Clone, Copy, Drop)]
 pub struct ValueStyle {
@@ -22,7 +28,10 @@ pub struct ValueStyle {
 
 impl ValueStyle {
     // How the value of the piece is written.
-    pub fn of(piece: &Piece<'_>) -> ValueStyle {
+    pub fn of(piece: &Piece<'_>) -> ValueStyle
+        ensures opened { result.is_opened ≡ is_some piece.now.nested }
+        ensures full { result.is_full ≡ piece.now.place.is_full }
+    {
         ValueStyle {
             is_opened: piece.nested.is_some(),
             is_full: piece.place.is_full,
@@ -30,33 +39,77 @@ impl ValueStyle {
     }
 }
 
-// What stands behind the type of an encoding that is gone into: that it is constructed, where neither its tag nor what
-// stands inside it tells so, and the value of the segments of a string.
+// What stands behind the type of an encoding that is gone into: that it is constructed, where that is shown, and the
+// value of the segments of a string. An object identifier has this name.
 pub fn write_opened(
     alloc: Global,
     out: &mut String,
-    names: &Names,
-    header: &Header,
+    name: &str,
+    is_shown: bool,
     joined: &Option<Joined>,
     style: ValueStyle,
-) -> Result<(), AllocError> {
-    if !is_known_constructed(header) {
-        out.push_str(", constructed")?;
-    }
-    let Some(joined) = joined else {
-        return Ok(());
-    };
-    let mut value = String::new(alloc);
-    write_value(&mut value, names, &joined.contents, &joined.value, style)?;
-    if !value.is_empty() {
-        out.push_str(":")?;
-        out.push_str(&value)?;
+) -> Result<(), AllocError>
+    ensures { OnOk result (string_bytes out.new
+        ≡ string_bytes out.old ++ opened_text style is_shown name.now joined.now) }
+{
+    write_constructed(out, is_shown)?;
+    write_joined(alloc, out, name, joined, style)
+}
+
+fn write_constructed(out: &mut String, is_shown: bool) -> Result<(), AllocError>
+    ensures { OnOk result (string_bytes out.new ≡ string_bytes out.old ++ constructed_text is_shown) }
+{
+    if is_shown {
+        return out.push_str(", constructed");
     }
     Ok(())
 }
 
+fn write_joined(
+    alloc: Global,
+    out: &mut String,
+    name: &str,
+    joined: &Option<Joined>,
+    style: ValueStyle,
+) -> Result<(), AllocError>
+    ensures { OnOk result (string_bytes out.new ≡ string_bytes out.old ++ joined_text style name.now joined.now) }
+{
+    match joined {
+        Some(joined) => {
+            let text = joined_value_text(alloc, name, joined, style)?;
+            write_behind_colon(out, &text)
+        }
+        None => Ok(()),
+    }
+}
+
+fn joined_value_text(
+    alloc: Global,
+    name: &str,
+    joined: &Joined,
+    style: ValueStyle,
+) -> Result<String, AllocError>
+    ensures { IfOk result (λ text.
+        string_bytes text ≡ value_text style name.now joined.now.contents.items joined.now.value) }
+{
+    let mut text = String::new(alloc);
+    write_value(&mut text, name, &joined.contents, &joined.value, style)?;
+    Ok(text)
+}
+
+// A colon and the text, unless it is empty.
+fn write_behind_colon(out: &mut String, text: &str) -> Result<(), AllocError>
+    ensures { OnOk result (string_bytes out.new ≡ string_bytes out.old ++ colon_text text.now) }
+{
+    if text.is_empty() {
+        return Ok(());
+    }
+    out.push_str(":")?;
+    out.push_str(text)
+}
+
 // Whether the tag, or what stands inside, tells that the encoding is constructed.
-fn is_known_constructed(header: &Header) -> bool {
+pub fn is_known_constructed(header: &Header) -> bool {
     match universal_tag(header) {
         Some(tag) => matches!(tag, 8 | 11 | 16 | 17 | 29),
         None => header.announced > 0 || header.is_indefinite,
@@ -82,30 +135,76 @@ pub fn cut_text(
 }
 
 // The name of a GeneralName, unless it is that of the field.
-pub fn write_role(
-    out: &mut String,
-    role: Role,
-    field: Option<&'static str>,
-) -> Result<(), AllocError> {
-    if let Role::Name(tag) = role {
-        if let Some(name) = general_name(tag) {
-            if field != Some(name) {
-                out.push_str(" ")?;
-                out.push_str(name)?;
-            }
-        }
+pub fn role_name(role: Role, field: Option<&'static str>) -> Option<&'static str> {
+    match role {
+        Role::Name(tag) => match general_name(tag) {
+            Some(name) if field != Some(name) => Some(name),
+            _ => None,
+        },
+        Role::Plain | Role::Bits(_) => None,
     }
-    Ok(())
 }
 
-// The value of contents octets.
+// A space and the name, if there is one.
+pub fn write_role(out: &mut String, name: Option<&'static str>) -> Result<(), AllocError>
+    ensures { OnOk result (string_bytes out.new
+        ≡ string_bytes out.old ++ spaced_if (option_map (λ t. t.now) name.entry)) }
+{
+    match name {
+        Some(name) => write!(out, " {name}"),
+        None => Ok(()),
+    }
+}
+
+// A space and the name in parentheses, if there is one.
+pub fn write_value_name(out: &mut String, name: Option<&'static str>) -> Result<(), AllocError>
+    ensures { OnOk result (string_bytes out.new
+        ≡ string_bytes out.old ++ parenthesized_if (option_map (λ t. t.now) name.entry)) }
+{
+    match name {
+        Some(name) => write!(out, " ({name})"),
+        None => Ok(()),
+    }
+}
+
+// The name of an object identifier with the standard that has it, if the value is one that has a name; else nothing.
+pub fn identifier_name(
+    alloc: Global,
+    names: &Names,
+    value: &LeafValue,
+) -> Result<String, AllocError> {
+    let Some(dotted) = dotted_in(value) else {
+        return Ok(String::new(alloc));
+    };
+    match names.of(dotted) {
+        Some((name, "")) => String::from_str(alloc, name),
+        Some((name, standard)) => format!(in alloc; "{name} ({standard})"),
+        None => Ok(String::new(alloc)),
+    }
+}
+
+// The components of an object identifier in decimal, if the value is one and they can be so.
+fn dotted_in(value: &LeafValue) -> Option<&str> {
+    match value {
+        LeafValue::Identifier(identifier)
+        | LeafValue::Tagged(TaggedValue::Identifier(Some(identifier))) => {
+            identifier.dotted.as_deref()
+        }
+        _ => None,
+    }
+}
+
+// The value of contents octets. An object identifier has this name.
 pub fn write_value(
     out: &mut String,
-    names: &Names,
+    name: &str,
     contents: &[u8],
     value: &LeafValue,
     style: ValueStyle,
-) -> Result<(), AllocError> {
+) -> Result<(), AllocError>
+    ensures { OnOk result (string_bytes out.new
+        ≡ string_bytes out.old ++ value_text style name.now contents.now value.now) }
+{
     match value {
         LeafValue::Boolean(is_true) => write!(out, " {is_true}"),
         LeafValue::Integer(number) => write_integer(out, number, style),
@@ -115,7 +214,7 @@ pub fn write_value(
             write_octets(out, contents, text, style)
         }
         LeafValue::Null => Ok(()),
-        LeafValue::Identifier(identifier) => write_identifier(out, names, identifier),
+        LeafValue::Identifier(identifier) => write_identifier(out, name, identifier),
         LeafValue::Text(text) => write_text(out, text),
         LeafValue::WideText(form, text) => write_as(out, *form, text),
         LeafValue::OtherText(text) if text.is_empty() => Ok(()),
@@ -124,65 +223,85 @@ pub fn write_value(
         LeafValue::Notation(text) | LeafValue::Moment(text) | LeafValue::BerTime(text) => {
             write!(out, " {text}")
         }
-        LeafValue::Tagged(value) => write_tagged(out, names, contents, value, style),
+        LeafValue::Tagged(value) => write_tagged(out, name, contents, value, style),
     }
 }
 
 // The value of contents octets of another class.
 fn write_tagged(
     out: &mut String,
-    names: &Names,
+    name: &str,
     contents: &[u8],
     value: &TaggedValue,
     style: ValueStyle,
-) -> Result<(), AllocError> {
+) -> Result<(), AllocError>
+    ensures { OnOk result (string_bytes out.new
+        ≡ string_bytes out.old ++ tagged_text style name.now contents.now value.now) }
+{
     match value {
         TaggedValue::Octets(text) => write_octets(out, contents, text, style),
         TaggedValue::Bits(bits) => write_bits(out, bits, style),
         TaggedValue::Address(address) => write!(out, " {address}"),
-        TaggedValue::Identifier(Some(identifier)) => write_identifier(out, names, identifier),
+        TaggedValue::Identifier(Some(identifier)) => write_identifier(out, name, identifier),
         TaggedValue::Identifier(None) => Ok(()),
         TaggedValue::Text(text) => write_text(out, text),
     }
 }
 
-// An integer in decimal where it fits an `i128`; and its two's complement octets, if it takes some or does not fit.
-fn write_integer(out: &mut String, number: &BigInt, style: ValueStyle) -> Result<(), AllocError> {
+// An integer in decimal, if it has few octets; and its two's complement octets, unless it has very few.
+fn write_integer(out: &mut String, number: &BigInt, style: ValueStyle) -> Result<(), AllocError>
+    ensures { OnOk result (string_bytes out.new
+        ≡ string_bytes out.old ++ integer_text style.is_full number.now) }
+{
     let octets = number.octets();
-    match number.to_i128() {
-        Some(n) if octets.len() < LEAST_HEX => write!(out, " {n}"),
-        Some(n) => {
-            write!(out, " {n} (hex ")?;
-            write_hex(out, octets, style.is_full)?;
-            out.push_str(")")
-        }
-        None => {
-            out.push_str(" hex ")?;
-            write_hex(out, octets, style.is_full)
-        }
+    if octets.len() > MOST_DECIMAL {
+        out.push_str(" hex ")?;
+        return write_hex(out, octets, style.is_full);
     }
+    write!(out, " {number}")?;
+    write_number_octets(out, octets, style)
+}
+
+fn write_number_octets(out: &mut String, octets: &[u8], style: ValueStyle) -> Result<(), AllocError>
+    ensures { OnOk result (string_bytes out.new
+        ≡ string_bytes out.old ++ number_octets style.is_full octets.now) }
+{
+    if octets.len() < LEAST_HEX {
+        return Ok(());
+    }
+    out.push_str(" (hex ")?;
+    write_hex(out, octets, style.is_full)?;
+    out.push_str(")")
 }
 
 // The bits of a BIT STRING, and their names, if they have any.
-fn write_bits(out: &mut String, bits: &Bits, style: ValueStyle) -> Result<(), AllocError> {
-    write_bit_string(out, bits, style)?;
-    match &bits.names {
+fn write_bits(out: &mut String, bits: &Bits, style: ValueStyle) -> Result<(), AllocError>
+    ensures { OnOk result (string_bytes out.new ≡ string_bytes out.old ++ bits_text style bits.now) }
+{
+    let count = bits.count;
+    let ending = if count == 1 { "" } else { "s" };
+    write!(out, " {count} bit{ending}")?;
+    write_bits_octets(out, bits, style)?;
+    write_bit_names(out, &bits.names)
+}
+
+fn write_bit_names(out: &mut String, names: &Option<String>) -> Result<(), AllocError>
+    ensures { OnOk result (string_bytes out.new
+        ≡ string_bytes out.old ++ parenthesized_if (option_map string_bytes names.now)) }
+{
+    match names {
         Some(names) => write!(out, " ({names})"),
         None => Ok(()),
     }
 }
 
-fn write_bit_string(out: &mut String, bits: &Bits, style: ValueStyle) -> Result<(), AllocError> {
-    let count = bits.count;
-    let ending = if count == 1 { "" } else { "s" };
-    write!(out, " {count} bit{ending}")?;
+fn write_bits_octets(out: &mut String, bits: &Bits, style: ValueStyle) -> Result<(), AllocError>
+    ensures { OnOk result (string_bytes out.new ≡ string_bytes out.old ++ bits_octets style bits.now) }
+{
     if style.is_opened {
         return out.push_str(", containing");
     }
-    let unused = bits.unused;
-    if unused > 0 {
-        write!(out, ", {unused} unused")?;
-    }
+    write_unused(out, bits.unused)?;
     if bits.octets.is_empty() {
         return Ok(());
     }
@@ -190,25 +309,34 @@ fn write_bit_string(out: &mut String, bits: &Bits, style: ValueStyle) -> Result<
     write_after_space(out, &bits.octets, style.is_full)
 }
 
-// An object identifier, with its name and the standard that has it, if it has one.
-fn write_identifier(
-    out: &mut String,
-    names: &Names,
-    identifier: &Identifier,
-) -> Result<(), AllocError> {
+fn write_unused(out: &mut String, unused: usize) -> Result<(), AllocError>
+    ensures { OnOk result (string_bytes out.new ≡ string_bytes out.old ++ unused_text unused) }
+{
+    if unused == 0 {
+        return Ok(());
+    }
+    write!(out, ", {unused} unused")
+}
+
+// An object identifier, with its name, if it has one.
+fn write_identifier(out: &mut String, name: &str, identifier: &Identifier) -> Result<(), AllocError>
+    ensures { OnOk result (string_bytes out.new
+        ≡ string_bytes out.old ++ identifier_text name.now identifier.now) }
+{
     let Some(dotted) = &identifier.dotted else {
         return out.push_str(" with components beyond 2^128");
     };
     write!(out, " {dotted}")?;
-    match names.of(dotted) {
-        Some((name, "")) => write!(out, " {name}"),
-        Some((name, standard)) => write!(out, " {name} ({standard})"),
-        None => Ok(()),
+    if name.is_empty() {
+        return Ok(());
     }
+    write!(out, " {name}")
 }
 
 // Characters in quotation marks.
-fn write_text(out: &mut String, text: &str) -> Result<(), AllocError> {
+fn write_text(out: &mut String, text: &str) -> Result<(), AllocError>
+    ensures { OnOk result (string_bytes out.new ≡ string_bytes out.old ++ spaced (quoted text.now)) }
+{
     out.push_str(" ")?;
     write_quoted(out, text)
 }
@@ -219,7 +347,10 @@ fn write_octets(
     octets: &[u8],
     text: &Option<String>,
     style: ValueStyle,
-) -> Result<(), AllocError> {
+) -> Result<(), AllocError>
+    ensures { OnOk result (string_bytes out.new
+        ≡ string_bytes out.old ++ octets_text style.is_full octets.now (option_map string_bytes text.now)) }
+{
     write_after_space(out, octets, style.is_full)?;
     match text {
         Some(text) => write_text(out, text),

@@ -1,11 +1,11 @@
--- What is told of rules, one after another.
+-- Rules that are described, one after another, for `marks::described_rules`.
 use Rattle.std.proofs.Common.{◌≡◌, ◌+◌, ◌<◌, ℕ, List, [], ◌∷◌, ◌++◌, map, sym, ap, ◌∙◌, get_or, length, take}
 use Rattle.std.proofs.lemmas.List.{map-append, take_more}
 use Rattle.asn1_departures.specs.declared.rule.Rule.{Rule}
 use Rattle.der_pieces.specs.Marks.{rule_breach, breach_of}
 use Rattle.der_pieces.specs.declared.marks.BrokenRule.{BrokenRule}
 
--- one more was told, of those at an index
+-- one more of the rules was described
 pub described_at :
     (rules : List Rule) (i : ℕ) (d : Rule) (old new : List BrokenRule) (result : BrokenRule) → i < length rules →
     breach_of result ≡ rule_breach (get_or rules i d) → new ≡ old ++ result ∷ [] →

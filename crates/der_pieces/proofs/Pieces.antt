@@ -9,14 +9,14 @@ use Rattle.asn1_headers.specs.Front.{BeginsWithHeader, HasIndefiniteForm, IsAtFr
 use Rattle.asn1_headers.specs.Header.{Encoding, IsLength}
 use Rattle.asn1_headers.specs.declared.front.Header.{Header}
 use Rattle.asn1_headers.specs.declared.header.ASN1Class.{ASN1Class}
-use Rattle.der_pieces.specs.Fronts.{IsFirst, IsJudged, cut_short, of_cut, of_stray_form, of_whole, with_encodings, with_no_value, with_value, Front}
+use Rattle.der_pieces.specs.Fronts.{HasMeaning, IsFirst, IsJudged, Meaning, cut_short, of_cut, of_stray_form, of_whole, with_encodings, with_no_value, with_value, Front}
 use Rattle.der_elements.specs.Ends.{begins_with_end, taken}
 use Rattle.der_elements.specs.Headers.{is_stray_form, is_gone_into}
 use Rattle.der_elements.specs.Segments.{AreSegmentsOf}
 use Rattle.asn1_headers.specs.declared.header.ASN1Class.TheVariants.{Universal}
 use Rattle.der_contents.specs.Faults.{IsFault, IsNamed}
 use Rattle.der_contents.specs.Values.{IsMeaning, IsValue}
-use Rattle.der_pieces.specs.Pieces.{IsFirstPiece, IsLeafMeaning, IsNameless, IsOpenedFault, IsPiece, fault_offset, front_of}
+use Rattle.der_pieces.specs.Pieces.{IsFirstPiece, IsLeafMeaning, IsNameless, IsOpenedFault, IsPiece, fault_offset, front_of, meaning_of}
 use Rattle.der_pieces.specs.Steps.{AreFirstRules, AreRulesFound, StartsNext, StartsWith, header_front}
 use Rattle.der_elements.specs.Steps.{IsTaken}
 use Rattle.der_elements.specs.declared.cursor.Left.{Left}
@@ -68,18 +68,24 @@ pub nameless_at : (offset : ℕ) (fault : Option Fault) → IsFault (IsNameless 
 nameless_at offset fault = fault_at (IsNameless offset) offset fault (λ f is. is.0)
 
 -- the encoding with the header that begins the octets is judged so
-abbrev pub IsJudgedAs : (left : List ℕ) → ℕ → ℕ → List Rule → (header : Header) → IsAtFront left header → List ℕ →
-    Type 0
-IsJudgedAs left offset depth rules header h faults =
-    IsJudged left (header_front offset depth rules header) header.class header.constructed header.tag
+abbrev pub IsJudgedAs :
+    (left : List ℕ) → ℕ → ℕ → List Rule → Option Meaning → (header : Header) → IsAtFront left header → List ℕ → Type 0
+IsJudgedAs left offset depth rules meaning header h faults =
+    IsJudged left (header_front offset depth rules meaning header) header.class header.constructed header.tag
     (is_stray_form header.constructed (drop (length h.identifier) left)) faults
 
+-- it has the meaning
+abbrev pub HasMeaningAs : List ℕ → ℕ → ℕ → List Rule → Option Meaning → Header → List ℕ → Type 0
+HasMeaningAs left offset depth rules meaning header faults =
+    HasMeaning left (header_front offset depth rules meaning header) header.class header.constructed header.tag faults
+
 begins :
-    (left : List ℕ) (offset depth : ℕ) (rules : List Rule) (header : Header) (opened : Bool) (faults : List ℕ)
-    (h : IsAtFront left header) → opened ≡ is_gone_into header.class header.constructed header.tag →
-    IsTrue header.is_indefinite ↔ HasIndefiniteForm left → IsJudgedAs left offset depth rules header h faults →
-    AreFirstRules left header rules → IsFirst left offset depth (header_front offset depth rules header) opened faults
-begins left offset depth rules header opened faults h o form judged m = record {
+    (left : List ℕ) (offset depth : ℕ) (rules : List Rule) (meaning : Option Meaning) (header : Header) (opened : Bool)
+    (faults : List ℕ) (h : IsAtFront left header) → opened ≡ is_gone_into header.class header.constructed header.tag →
+    IsTrue header.is_indefinite ↔ HasIndefiniteForm left → IsJudgedAs left offset depth rules meaning header h faults →
+    HasMeaningAs left offset depth rules meaning header faults → AreFirstRules left header rules →
+    IsFirst left offset depth (header_front offset depth rules meaning header) opened faults
+begins left offset depth rules meaning header opened faults h o form judged means m = record {
   class = header.class;
   constructed = header.constructed;
   tag = header.tag;
@@ -92,7 +98,12 @@ begins left offset depth rules header opened faults h o form judged m = record {
   judged = judged;
   rules = m h;
   no_list = refl;
+  meaning = means;
 }
+
+-- one offset of a fault is some
+some_fault : (faults : List ℕ) (offset : ℕ) → faults ≡ offset ∷ [] → 0 < length faults
+some_fault faults offset e = subst (λ z. 0 < length z) (sym e) (omega arith)
 
 taken_cut : (indefinite : Bool) (n there : ℕ) → there < n → there ≡ taken indefinite n there
 taken_cut true n there less = refl
@@ -103,32 +114,36 @@ pub cut_starts :
     (left : List ℕ) (offset depth : ℕ) (header : Header) (step : Step) (faults : List ℕ) → IsAtFront left header →
     length left < header.size + header.announced → IsTrue header.is_indefinite ↔ HasIndefiniteForm left →
     IsTaken header (length left) step → faults ≡ offset ∷ [] →
-    StartsWith left offset depth (header_front offset depth [] header) step faults
+    StartsWith left offset depth (header_front offset depth [] None header) step faults
 cut_starts left offset depth header (Into first all indefinite) faults h l form (o, p, q, i) e = (
   p,
   q ∙ taken_cut header.is_indefinite (header.size + header.announced) (length left) l,
   i,
-  begins left offset depth [] header true faults h (sym o) form (cut_short l e) (λ f. of_cut l refl),
+  begins left offset depth [] None header true faults h (sym o) form (cut_short l e)
+      (inr (some_fault faults offset e)) (λ f. of_cut l refl),
 )
 cut_starts left offset depth header (Past all) faults h l form (o, q) e =
     inl (
       q ∙ taken_cut header.is_indefinite (header.size + header.announced) (length left) l,
-      begins left offset depth [] header false faults h (sym o) form (cut_short l e) (λ f. of_cut l refl),
+      begins left offset depth [] None header false faults h (sym o) form (cut_short l e)
+          (inr (some_fault faults offset e)) (λ f. of_cut l refl),
     )
 cut_starts left offset depth header (Out all) faults h l form none e = absurd none
 
 -- one that is whole
 pub whole_starts :
-    (left : List ℕ) (offset depth : ℕ) (rules : List Rule) (header : Header) (size : ℕ) (step : Step) (faults : List ℕ)
-    (h : IsAtFront left header) → IsTrue header.is_indefinite ↔ HasIndefiniteForm left →
-    IsJudgedAs left offset depth rules header h faults → AreFirstRules left header rules → IsTaken header size step →
-    size ≡ taken header.is_indefinite (header.size + header.announced) (length left) →
-    StartsWith left offset depth (header_front offset depth rules header) step faults
-whole_starts left offset depth rules header size (Into first all indefinite) faults h form judged m (o, p, q, i) is =
-    (p, q ∙ is, i, begins left offset depth rules header true faults h (sym o) form judged m)
-whole_starts left offset depth rules header size (Past all) faults h form judged m (o, q) is =
-    inl (q ∙ is, begins left offset depth rules header false faults h (sym o) form judged m)
-whole_starts left offset depth rules header size (Out all) faults h form judged m none is = absurd none
+    (left : List ℕ) (offset depth : ℕ) (rules : List Rule) (meaning : Option Meaning) (header : Header) (size : ℕ)
+    (step : Step) (faults : List ℕ) (h : IsAtFront left header) →
+    IsTrue header.is_indefinite ↔ HasIndefiniteForm left → IsJudgedAs left offset depth rules meaning header h faults →
+    HasMeaningAs left offset depth rules meaning header faults → AreFirstRules left header rules →
+    IsTaken header size step → size ≡ taken header.is_indefinite (header.size + header.announced) (length left) →
+    StartsWith left offset depth (header_front offset depth rules meaning header) step faults
+whole_starts left offset depth rules meaning header size (Into first all indefinite) faults h form judged means m
+    (o, p, q, i) is =
+    (p, q ∙ is, i, begins left offset depth rules meaning header true faults h (sym o) form judged means m)
+whole_starts left offset depth rules meaning header size (Past all) faults h form judged means m (o, q) is =
+    inl (q ∙ is, begins left offset depth rules meaning header false faults h (sym o) form judged means m)
+whole_starts left offset depth rules meaning header size (Out all) faults h form judged means m none is = absurd none
 
 -- the octets of a whole encoding
 pub front_encoding :
@@ -157,23 +172,24 @@ pub opened_judged :
     (h : IsAtFront left header) → header.size + header.announced ≤ length left →
     is_gone_into header.class header.constructed header.tag ≡ true →
     IsOpenedFault (is_stray_form header.constructed (drop (length h.identifier) left)) offset fault →
-    IsJudgedAs left offset depth rules header h (fault_offset fault)
+    IsJudgedAs left offset depth rules None header h (fault_offset fault)
 opened_judged left offset depth rules header fault h l o (inl (stray, is)) =
     of_stray_form stray (nameless_at offset fault is)
 opened_judged left offset depth rules header fault h l o (inr (stray, none)) =
     with_encodings l o stray (ap fault_offset none)
 
 meaning_judged :
-    (left : List ℕ) (offset depth : ℕ) (rules : List Rule) (header : Header) (value : Option LeafValue)
-    (fault : Option Fault) (h : IsAtFront left header) → header.size + header.announced ≤ length left →
+    (left : List ℕ) (offset depth : ℕ) (rules : List Rule) (meaning : Option Meaning) (header : Header)
+    (value : Option LeafValue) (fault : Option Fault) (h : IsAtFront left header) →
+    header.size + header.announced ≤ length left →
     is_gone_into header.class header.constructed header.tag ≡ false →
     is_stray_form header.constructed (drop (length h.identifier) left) ≡ false →
     IsMeaning header.class header.tag (slice_range left header.size (header.size + header.announced)) offset value
     fault →
-    IsJudgedAs left offset depth rules header h (fault_offset fault)
-meaning_judged left offset depth rules header None fault h l o stray (u, (found, wrong, is)) =
+    IsJudgedAs left offset depth rules meaning header h (fault_offset fault)
+meaning_judged left offset depth rules meaning header None fault h l o stray (u, (found, wrong, is)) =
     with_no_value l o u found wrong (named_at offset found fault is)
-meaning_judged left offset depth rules header (Some value) fault h l o stray (is, none) =
+meaning_judged left offset depth rules meaning header (Some value) fault h l o stray (is, none) =
     let contents = slice_range left header.size (header.size + header.announced) in
     with_value l o stray
     (value_encodes (take (header.size + header.announced) left) contents header.class header.constructed header.tag
@@ -183,15 +199,29 @@ meaning_judged left offset depth rules header (Some value) fault h l o stray (is
 
 -- and with one that is not
 pub leaf_judged :
-    (left : List ℕ) (offset depth : ℕ) (rules : List Rule) (header : Header) (value : Option LeafValue)
-    (fault : Option Fault) (h : IsAtFront left header) → header.size + header.announced ≤ length left →
+    (left : List ℕ) (offset depth : ℕ) (rules : List Rule) (meaning : Option Meaning) (header : Header)
+    (value : Option LeafValue) (fault : Option Fault) (h : IsAtFront left header) →
+    header.size + header.announced ≤ length left →
     is_gone_into header.class header.constructed header.tag ≡ false →
     IsLeafMeaning left header (drop (length h.identifier) left) offset value fault →
-    IsJudgedAs left offset depth rules header h (fault_offset fault)
-leaf_judged left offset depth rules header value fault h l o (inl (stray, none, is)) =
+    IsJudgedAs left offset depth rules meaning header h (fault_offset fault)
+leaf_judged left offset depth rules meaning header value fault h l o (inl (stray, none, is)) =
     of_stray_form stray (nameless_at offset fault is)
-leaf_judged left offset depth rules header value fault h l o (inr (stray, is)) =
-    meaning_judged left offset depth rules header value fault h l o stray is
+leaf_judged left offset depth rules meaning header value fault h l o (inr (stray, is)) =
+    meaning_judged left offset depth rules meaning header value fault h l o stray is
+
+-- and its meaning
+pub leaf_means :
+    (left : List ℕ) (offset depth : ℕ) (rules : List Rule) (header : Header) (value : Option LeafValue)
+    (fault : Option Fault) (behind : List ℕ) → IsLeafMeaning left header behind offset value fault →
+    HasMeaningAs left offset depth rules
+    (meaning_of (slice_range left header.size (header.size + header.announced)) value) header (fault_offset fault)
+leaf_means left offset depth rules header None fault behind (inl (stray, none, is)) =
+    inr (some_fault (fault_offset fault) offset (nameless_at offset fault is))
+leaf_means left offset depth rules header None fault behind (inr (stray, (u, (found, wrong, is)))) =
+    inr (some_fault (fault_offset fault) offset (named_at offset found fault is))
+leaf_means left offset depth rules header (Some value) fault behind (inl (stray, none, is)) = absurd (cc none)
+leaf_means left offset depth rules header (Some value) fault behind (inr (stray, (is, none))) = (refl, is)
 
 -- the rules of a whole encoding
 pub whole_rules :

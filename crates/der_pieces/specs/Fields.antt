@@ -13,7 +13,7 @@ use Rattle.der_pieces.specs.declared.place.Around.TheVariants.{Document, Nothing
 abbrev pub StandsAround : Around → Inside → Type 0
 StandsAround Nothing all = ⊥
 StandsAround (Document shape) all = (root : Option ℕ) × (all ≡ document_of root)
-StandsAround (String string) all = all ≡ string.inside
+StandsAround (String string) all = all ≡ string.of.inside
 
 -- a walk goes over the fields of these
 abbrev pub GoesOver : Shapes → Around → FieldWalk → Type 0

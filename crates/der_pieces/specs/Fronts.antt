@@ -1,6 +1,6 @@
 -- What stands in octets, encoding after encoding, by their headers. The contents octets of constructed encodings, and
 -- of each SEQUENCE and SET, are gone into; those of others are looked at alone.
-use Rattle.std.specs.Prelude.{◌↔◌, ◌&&◌, IsTrue, ◌≡◌, ◌⊎◌, ℕ, ◌+◌, ◌^◌, ◌<◌, ◌≤◌, nat_lt, Bool, true, false, if◌then◌else◌, Option, None, Some, unwrap_or, List, [], ◌∷◌, ◌++◌, drop, length, take, slice_range, codes, decimal}
+use Rattle.std.specs.Prelude.{◌↔◌, ◌&&◌, IsTrue, ◌≡◌, ◌⊎◌, ℕ, ◌+◌, ◌^◌, ◌<◌, ◌≤◌, nat_lt, Bool, true, false, if◌then◌else◌, MatchOption, Option, None, Some, unwrap_or, List, [], ◌∷◌, ◌++◌, drop, length, take, slice_range, codes, decimal}
 use Rattle.asn1_headers.specs.Fault.{DecodeFault}
 use Rattle.asn1_headers.specs.declared.header.ASN1Class.{ASN1Class}
 use Rattle.asn1_headers.specs.declared.header.ASN1Class.TheVariants.{Universal, Application, ContextSpecific, Private}
@@ -13,7 +13,8 @@ use Rattle.der_elements.specs.declared.cursor.End.{End}
 use Rattle.asn1_departures.specs.Departures.{AreBroken}
 use Rattle.asn1_departures.specs.declared.rule.Rule.{Rule}
 use Rattle.asn1_headers.specs.Names.{type_name}
-use Rattle.der_contents.specs.Values.{IsBerTime, is_wide}
+use Rattle.der_contents.specs.Values.{IsBerTime, IsValue, is_wide}
+use Rattle.der_contents.specs.declared.value.LeafValue.{LeafValue}
 use Rattle.der_elements.specs.Ends.{begins_with_end, end_at, taken}
 
 -- a tag number in words: in decimal below 2^128
@@ -28,10 +29,15 @@ tag_words Application tag = codes "[APPLICATION " ++ (tag_number tag ++ codes "]
 tag_words ContextSpecific tag = codes "[" ++ (tag_number tag ++ codes "]")
 tag_words Private tag = codes "[PRIVATE " ++ (tag_number tag ++ codes "]")
 
+-- contents octets of a primitive encoding, and the value that they mean
+pub record Meaning : Type 0 where
+  pub octets : List ℕ
+  pub value : LeafValue
+
 -- what the line of an encoding begins with: its offset, the sizes of its header and of the contents octets that it
 -- announces, whether its length is of the indefinite form, which announces none, how many encodings are around it, and
--- its tag in words; and what its mark says: the rules of DER that it breaks, and whether it is a list of named bits
--- with a 0 at its end (X.690 11.2.2)
+-- its tag in words; what its mark says: the rules of DER that it breaks, and whether it is a list of named bits with a
+-- 0 at its end (X.690 11.2.2); and its contents octets with their value, if they have one
 pub record Front : Type 0 where
   pub offset : ℕ
   pub header : ℕ
@@ -41,6 +47,7 @@ pub record Front : Type 0 where
   pub words : List ℕ
   pub rules : List Rule
   pub has_spare_bits : Bool
+  pub meaning : Option Meaning
 
 -- what the line begins with of octets at the offset that begin with no header: there are so many
 abbrev pub unreadable : ℕ → ℕ → ℕ → Front
@@ -53,6 +60,7 @@ unreadable offset size depth = record {
   words = codes "unreadable";
   rules = [];
   has_spare_bits = false;
+  meaning = None;
 }
 
 -- what the line begins with of end-of-contents octets at the offset: there are two of them (X.690 8.1.5), or none where
@@ -67,6 +75,7 @@ end_of_contents offset size depth = record {
   words = codes "end-of-contents";
   rules = [];
   has_spare_bits = false;
+  meaning = None;
 }
 
 -- what is wrong with an encoding that begins the octets, nothing or something at its offset
@@ -105,6 +114,15 @@ pub data AreRules (octets identifier len : List ℕ) (size announced : ℕ) (cla
       AreBroken identifier len class constructed tag (slice_range octets size (size + announced)) rules →
       AreRules octets identifier len size announced class constructed tag rules
 
+-- the meaning of an encoding that begins the octets is that of its contents octets. One that has none is gone into, or
+-- something is wrong with it
+abbrev pub HasMeaning : List ℕ → Front → ASN1Class → Bool → ℕ → List ℕ → Type 0
+HasMeaning octets front class constructed tag faults =
+    MatchOption front.meaning
+    ((is_gone_into class constructed tag ≡ true) ⊎ (0 < length faults))
+    (λ meaning. (meaning.octets ≡ slice_range octets front.header (front.header + front.contents))
+    × IsValue class tag meaning.octets meaning.value)
+
 -- an encoding begins the octets, which stand at the offset, inside so many others. Its contents octets may be cut short
 pub record IsFirst (octets : List ℕ) (offset depth : ℕ) (front : Front) (opened : Bool) (faults : List ℕ)
     : Type 0 where
@@ -123,6 +141,7 @@ pub record IsFirst (octets : List ℕ) (offset depth : ℕ) (front : Front) (ope
   pub rules :
       AreRules octets header.identifier header.len front.header front.contents class constructed tag front.rules
   pub no_list : front.has_spare_bits ≡ false
+  pub meaning : HasMeaning octets front class constructed tag faults
 
 -- how many of the octets the encoding takes at most that begins them
 abbrev pub size_in : List ℕ → Front → ℕ

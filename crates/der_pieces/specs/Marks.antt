@@ -55,7 +55,7 @@ abbrev pub spare_if : Bool → List Breach
 spare_if true = spare_breach ∷ []
 spare_if false = []
 
--- what is told of an encoding that breaks these rules, and is a list of named bits with a 0 at its end, or not
+-- what an encoding breaks that breaks these rules, and is a list of named bits with a 0 at its end, or not
 abbrev pub breaches_of : List Rule → Bool → List Breach
 breaches_of rules spare = map rule_breach rules ++ spare_if spare
 

@@ -1,5 +1,5 @@
 -- Which fields the pieces of octets are, and their names. Private contracts alone name these.
-use Rattle.std.specs.Prelude.{◌≡◌, ℕ, ◌+◌, List, Option, None, Some, IfSome, MatchOption}
+use Rattle.std.specs.Prelude.{◌≡◌, ℕ, ◌+◌, Option, None, Some, IfSome, MatchOption}
 use Rattle.der_shapes.specs.Names.{IsNamed}
 use Rattle.der_shapes.specs.declared.named.Named.{Named}
 use Rattle.der_shapes.specs.declared.shapes.Shapes.{Shapes}
@@ -33,4 +33,4 @@ StayFields old new =
 -- the names of a piece are those of the field that it is
 abbrev pub AreNamesOf : Shapes → Piece → Named → Type 0
 AreNamesOf shapes piece named =
-    (spot : Spot) × (contents : List ℕ) × (piece.place.spot ≡ Some spot) × IsNamed shapes spot contents named
+    (spot : Spot) × (piece.place.spot ≡ Some spot) × IsNamed shapes spot named

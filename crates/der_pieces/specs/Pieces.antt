@@ -1,12 +1,12 @@
 -- The pieces in which octets are gone over: encodings, end-of-contents octets, and octets that begin with no header.
 -- Private contracts alone name these.
-use Rattle.std.specs.Prelude.{◌≡◌, ◌⊎◌, ℕ, ◌+◌, ◌<◌, ◌≤◌, Bool, true, false, List, [], ◌∷◌, ◌++◌, codes, drop, length, IfSome, Option, None, Some, slice_range}
+use Rattle.std.specs.Prelude.{◌≡◌, ◌⊎◌, ℕ, ◌+◌, ◌<◌, ◌≤◌, Bool, true, false, List, [], ◌∷◌, ◌++◌, codes, drop, length, IfSome, Option, None, Some, option_map, slice_range}
 use Rattle.asn1_departures.specs.declared.rule.Rule.{Rule}
 use Rattle.asn1_headers.specs.Fault.{DecodeFault, incomplete}
 use Rattle.asn1_headers.specs.Front.{IsAtFront}
 use Rattle.asn1_headers.specs.declared.front.Header.{Header}
 use Rattle.asn1_headers.specs.declared.header.ASN1Class.TheVariants.{Universal}
-use Rattle.der_pieces.specs.Fronts.{Front, StandAt, tag_words}
+use Rattle.der_pieces.specs.Fronts.{Front, Meaning, StandAt, tag_words}
 use Rattle.der_elements.specs.Headers.{is_stray_form, is_gone_into}
 use Rattle.der_elements.specs.Ends.{taken}
 use Rattle.der_elements.specs.Segments.{AreSegmentsOf}
@@ -110,6 +110,17 @@ kind_words (Cut header contents) = tag_words header.class header.tag
 kind_words (Opened header contents joined) = tag_words header.class header.tag
 kind_words (Leaf header contents value) = tag_words header.class header.tag
 
+-- contents octets with their value, if they have one
+abbrev pub meaning_of : List ℕ → Option LeafValue → Option Meaning
+meaning_of octets value = option_map (λ v. record { octets = octets; value = v }) value
+
+abbrev pub kind_meaning : Kind → Option Meaning
+kind_meaning (EndOfContents size) = None
+kind_meaning (Unreadable octets) = None
+kind_meaning (Cut header contents) = None
+kind_meaning (Opened header contents joined) = None
+kind_meaning (Leaf header contents value) = meaning_of contents.now value
+
 -- what the line of a piece of the kind begins with, at the offset, inside so many encodings
 abbrev pub kind_front : ℕ → ℕ → List Rule → Bool → Kind → Front
 kind_front offset depth rules spare kind = record {
@@ -121,6 +132,7 @@ kind_front offset depth rules spare kind = record {
   words = kind_words kind;
   rules = rules;
   has_spare_bits = spare;
+  meaning = kind_meaning kind;
 }
 
 -- what the line of a piece begins with in the octets that it is a piece of. These do not tell that it is a list of

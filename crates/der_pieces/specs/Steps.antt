@@ -1,6 +1,6 @@
 -- How the pieces of octets are gone over, step by step. Private contracts alone name these.
-use Rattle.std.specs.Prelude.{◌≡◌, ◌⊎◌, ◌&&◌, ℕ, ◌+◌, ◌<◌, true, false, List, [], ◌∷◌, length, slice_range}
-use Rattle.der_pieces.specs.Fronts.{AreFronts, Front, IsFirst, AreRules, size_in, tag_words, end_of_contents, unreadable}
+use Rattle.std.specs.Prelude.{◌≡◌, ◌⊎◌, ◌&&◌, ℕ, ◌+◌, ◌<◌, true, false, List, [], ◌∷◌, length, slice_range, Option}
+use Rattle.der_pieces.specs.Fronts.{AreFronts, Front, IsFirst, Meaning, AreRules, size_in, tag_words, end_of_contents, unreadable}
 use Rattle.der_elements.specs.Ends.{begins_with_end}
 use Rattle.asn1_headers.specs.Front.{HasNoHeader, IsAtFront}
 use Rattle.der_elements.specs.declared.cursor.Cursor.{Cursor}
@@ -12,9 +12,9 @@ use Rattle.asn1_departures.specs.declared.rule.Rule.{Rule}
 use Rattle.asn1_headers.specs.declared.front.Header.{Header}
 use Rattle.der_elements.specs.Steps.{ends_of}
 
--- what the line of an encoding with the header begins with
-abbrev pub header_front : ℕ → ℕ → List Rule → Header → Front
-header_front offset depth rules header = record {
+-- what the line of an encoding with the header and the meaning begins with
+abbrev pub header_front : ℕ → ℕ → List Rule → Option Meaning → Header → Front
+header_front offset depth rules meaning header = record {
   offset = offset;
   header = header.size;
   contents = header.announced;
@@ -23,6 +23,7 @@ header_front offset depth rules header = record {
   words = tag_words header.class header.tag;
   rules = rules;
   has_spare_bits = false;
+  meaning = meaning;
 }
 
 -- the encoding with the header, which begins the octets, breaks these rules

@@ -5,7 +5,6 @@ ghost use Rattle.der_pieces.specs.declared.place.Around.TheVariants.{Nothing};
 
 use crate::piece::{Kind, Piece};
 use crate::place::{Around, Place};
-use asn1_headers::header::ASN1Class;
 use der_elements::cursor::Left;
 use der_shapes::{FieldWalk, Shapes, Spot, Tag};
 use std::alloc::{AllocError, Global};
@@ -18,7 +17,7 @@ pub struct Fields<'a> {
     // what says which fields they are
     around: Around,
     // the shape of the next outermost encoding of a document, where it is known
-    shape: Option<usize>,
+    shape: Option<u16>,
     ghost over: { ∥ (GoesOver shapes.now around walk) ∥₁ },
 }
 
@@ -62,7 +61,7 @@ impl<'a> Fields<'a> {
         let tag = if left.begins_with_end() {
             None
         } else {
-            tag_of(left.octets)
+            left.octets.first().map(|leading| Tag::of(*leading))
         };
         self.walk.next(depth, tag)
     }
@@ -89,7 +88,7 @@ impl<'a> Fields<'a> {
     }
 
     // Sees the piece that was gone on to.
-    pub fn see(&mut self, piece: &Piece<'_>) -> Result<(), AllocError>
+    pub fn see(&mut self, piece: &Piece<'_>)
         ensures shapes { self.new.shapes.now ≡ self.old.shapes.now }
         ensures around { self.new.around ≡ self.old.around }
     {
@@ -98,26 +97,7 @@ impl<'a> Fields<'a> {
             Kind::EndOfContents(_)
             | Kind::Unreadable(_)
             | Kind::Cut(_, _)
-            | Kind::Opened(_, _, _) => Ok(()),
+            | Kind::Opened(_, _, _) => {}
         }
-    }
-}
-
-// The tag that octets begin with (X.690 8.1.2), if it has one octet; no field has one with more.
-fn tag_of(octets: &[u8]) -> Option<Tag> {
-    let leading = *octets.first()?;
-    Some(Tag {
-        class: class_of(leading),
-        number: (leading % 32) as u64,
-    })
-}
-
-// The class in bits 8 and 7 of a leading octet (X.690 table 1).
-fn class_of(leading: u8) -> ASN1Class {
-    match leading / 64 {
-        0 => ASN1Class::Universal,
-        1 => ASN1Class::Application,
-        2 => ASN1Class::ContextSpecific,
-        _ => ASN1Class::Private,
     }
 }

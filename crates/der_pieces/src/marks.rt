@@ -19,7 +19,7 @@ pub struct Breaches {
     pub has_spare_bits: bool,
 }
 
-// What is told of a rule that is broken.
+// A rule that is broken, as a mark has it.
 #[derive(Clone, Copy, Drop)]
 pub struct BrokenRule {
     // the rule's name in a program
@@ -42,41 +42,41 @@ impl Breaches {
         }
     }
 
-    // What is told of each.
+    // The rules that are broken.
     pub fn describe(&self, alloc: Global) -> Result<Vec<BrokenRule>, AllocError>
-        ensures { IfOk result (λ told. map breach_of told.items
+        ensures { IfOk result (λ broken. map breach_of broken.items
             ≡ breaches_of self.now.rules.items self.now.has_spare_bits) }
     {
-        let mut told = described_rules(alloc, &self.rules)?;
-        push_spare(self.has_spare_bits, &mut told)?;
-        Ok(told)
+        let mut broken = described_rules(alloc, &self.rules)?;
+        push_spare(self.has_spare_bits, &mut broken)?;
+        Ok(broken)
     }
 }
 
 fn described_rules(alloc: Global, rules: &[Rule]) -> Result<Vec<BrokenRule>, AllocError>
-    ensures { IfOk result (λ told. map breach_of told.items ≡ map rule_breach_is rules.now) }
+    ensures { IfOk result (λ broken. map breach_of broken.items ≡ map rule_breach_is rules.now) }
 {
-    let mut told = Vec::new(alloc);
+    let mut broken = Vec::new(alloc);
     for rule in rules {
-        told.push(rule_breach(*rule))?;
+        broken.push(rule_breach(*rule))?;
     }
-    Ok(told)
+    Ok(broken)
 }
 
-fn push_spare(is_spare: bool, told: &mut Vec<BrokenRule>) -> Result<(), AllocError>
-    ensures { OnOk result (map breach_of told.new.items ≡ map breach_of told.old.items ++ spare_if is_spare) }
+fn push_spare(is_spare: bool, broken: &mut Vec<BrokenRule>) -> Result<(), AllocError>
+    ensures { OnOk result (map breach_of broken.new.items ≡ map breach_of broken.old.items ++ spare_if is_spare) }
 {
     if is_spare {
-        push_breach(spare_breach(), told)
+        push_breach(spare_breach(), broken)
     } else {
         Ok(())
     }
 }
 
-fn push_breach(rule: BrokenRule, told: &mut Vec<BrokenRule>) -> Result<(), AllocError>
-    ensures { OnOk result (map breach_of told.new.items ≡ map breach_of told.old.items ++ breach_of rule ∷ []) }
+fn push_breach(rule: BrokenRule, broken: &mut Vec<BrokenRule>) -> Result<(), AllocError>
+    ensures { OnOk result (map breach_of broken.new.items ≡ map breach_of broken.old.items ++ breach_of rule ∷ []) }
 {
-    told.push(rule)?;
+    broken.push(rule)?;
     Ok(())
 }
 

@@ -47,7 +47,7 @@ pub enum Around {
     // nothing: they have no names
     Nothing,
     // a document, whose shape may be known
-    Document(Option<usize>),
+    Document(Option<u16>),
     // a string that is this field
     String(Spot),
 }

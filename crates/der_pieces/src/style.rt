@@ -14,5 +14,5 @@ pub struct Style {
     /// Fields have no names.
     pub is_plain: bool,
     /// The shape of the document, where it is known; where it is not, the first shape that fits.
-    pub shape: Option<usize>,
+    pub shape: Option<u16>,
 }

@@ -68,7 +68,7 @@ impl<'a> Walk<'a> {
         let piece = read_piece(alloc, left, self.cursor.offset, place)?;
         self.cursor.go(piece.step)?;
         self.extension = piece.extension();
-        see(&mut self.fields, &piece)?;
+        see(&mut self.fields, &piece);
         self.string = string_around(self.string, depth, piece.is_string());
         Ok(Some(piece))
     }
@@ -91,11 +91,10 @@ fn spot_of(
 }
 
 // Sees the piece that was gone on to, which may say what fields are behind it.
-fn see(fields: &mut Option<Fields<'_>>, piece: &Piece<'_>) -> Result<(), AllocError>
+fn see(fields: &mut Option<Fields<'_>>, piece: &Piece<'_>)
     ensures { StayFields fields.old fields.new }
 {
-    match fields {
-        Some(fields) => fields.see(piece),
-        None => Ok(()),
+    if let Some(fields) = fields {
+        fields.see(piece);
     }
 }

@@ -5,13 +5,13 @@ use Rattle.std.specs.Prelude.{⊤}
 use Rattle.asn1_headers.specs.declared.header.ASN1Class.TheVariants.{Universal}
 use Rattle.der_shapes.specs.declared.shapes.Shapes.{Shapes}
 use Rattle.der_shapes.specs.declared.shapes.Shape.{Shape}
-use Rattle.der_shapes.specs.declared.shapes.Field.{Field}
-use Rattle.der_shapes.specs.declared.shapes.Row.{Row}
+use Rattle.der_shapes.specs.declared.shapes.Part.{Part}
 use Rattle.der_shapes.specs.declared.shapes.Tag.{Tag}
 use Rattle.der_shapes.specs.declared.shapes.Form.{Form}
 use Rattle.der_shapes.specs.declared.shapes.Form.TheVariants.{Leaf, Record, Items, Choice, Open, Known}
 use Rattle.der_shapes.specs.declared.take.Inside.{Inside}
 use Rattle.der_shapes.specs.declared.take.Inside.TheVariants.{Nothing, Fields, Each, Whole}
+use Rattle.der_shapes.specs.declared.take.OfShape.{OfShape}
 use Rattle.der_shapes.specs.declared.take.Spot.{Spot}
 
 -- the tag is the one with this number of class Universal
@@ -49,65 +49,76 @@ IsPlain shapes shape tag inside =
     × (inside ≡ inside_of found.form found.first found.end)
 
 -- an element with the tag is the field by the tag of its own (X.680 31.2.7)
-abbrev pub IsTagged : Shapes → Field → Tag → Inside → Type 0
+abbrev pub IsTagged : Shapes → Part → Tag → Inside → Type 0
 IsTagged shapes field tag inside =
     (field.tag ≡ Some tag)
     × MatchBool field.is_explicit (inside ≡ Whole field.shape) (Holds shapes field.shape inside)
 
 -- an element with the tag is the alternative
-abbrev pub IsAlternative : Shapes → Field → Tag → Inside → Type 0
+abbrev pub IsAlternative : Shapes → Part → Tag → Inside → Type 0
 IsAlternative shapes field tag inside =
     ((field.tag ≡ None) × IsPlain shapes field.shape tag inside) ⊎ IsTagged shapes field tag inside
 
--- the element is of the choice, by one of its alternatives
-abbrev pub IsChosen : Shapes → ℕ → Spot → Type 0
-IsChosen shapes shape spot =
-    (found : Shape) × (i : ℕ) × (field : Field) × (slice_get shapes.shapes.items shape ≡ Some found)
+-- an element with the tag is of the choice, by one of its alternatives
+abbrev pub IsChosen : Shapes → ℕ → Tag → OfShape → Type 0
+IsChosen shapes shape tag of =
+    (found : Shape) × (i : ℕ) × (field : Part) × (slice_get shapes.shapes.items shape ≡ Some found)
     × (found.form ≡ Choice) × (found.first ≤ i) × (i < found.end)
-    × (slice_get shapes.fields.items i ≡ Some field)
-    × (spot.alternative ≡ Some i) × IsAlternative shapes field spot.tag spot.inside
+    × (slice_get shapes.parts.items i ≡ Some field)
+    × (of.alternative ≡ Some i) × IsAlternative shapes field tag of.inside
 
--- the element is of the shape, which is not open
-abbrev pub IsOne : Shapes → ℕ → Spot → Type 0
-IsOne shapes shape spot =
-    (spot.shape ≡ shape) × (((spot.alternative ≡ None) × IsPlain shapes shape spot.tag spot.inside)
-    ⊎ IsChosen shapes shape spot)
+-- an element with the tag is of the shape, which is not open
+abbrev pub IsOne : Shapes → ℕ → Tag → OfShape → Type 0
+IsOne shapes shape tag of =
+    (of.shape ≡ shape) × (((of.alternative ≡ None) × IsPlain shapes shape tag of.inside)
+    ⊎ IsChosen shapes shape tag of)
 
 -- the row says what the shape is, which is open
-abbrev pub IsRowOf : Shapes → ℕ → Row → Type 0
+abbrev pub IsRowOf : Shapes → ℕ → Part → Type 0
 IsRowOf shapes shape row =
     (found : Shape) × (k : ℕ) × (slice_get shapes.shapes.items shape ≡ Some found) × (found.first ≤ k)
-    × (k < found.end) × (slice_get shapes.rows.items k ≡ Some row)
+    × (k < found.end) × (slice_get shapes.parts.items k ≡ Some row)
 
--- the element is what the identifier says that was seen before it, of an open shape
-abbrev pub IsSaid : Shapes → ℕ → Spot → Type 0
-IsSaid shapes shape spot =
-    (row : Row) × IsRowOf shapes shape row × (spot.identifier ≡ Some row.identifier) × IsOne shapes row.shape spot
+-- an element with the tag is what the identifier says that was seen before it, of an open shape
+abbrev pub IsSaid : Shapes → ℕ → Tag → Option ℕ → OfShape → Type 0
+IsSaid shapes shape tag identifier of =
+    (row : Part) × (i : ℕ) × IsRowOf shapes shape row × (identifier ≡ Some i)
+    × (slice_get shapes.identifiers.items i ≡ Some row.number) × IsOne shapes row.shape tag of
 
--- the element may be anything
-abbrev pub IsAnything : Shapes → ℕ → Spot → Type 0
-IsAnything shapes shape spot =
+-- an element may be anything
+abbrev pub IsAnything : Shapes → ℕ → OfShape → Type 0
+IsAnything shapes shape of =
     (found : Shape) × (slice_get shapes.shapes.items shape ≡ Some found) × (found.form ≡ Open)
-    × (spot.shape ≡ shape) × (spot.alternative ≡ None) × (spot.inside ≡ Nothing)
+    × (of.shape ≡ shape) × (of.alternative ≡ None) × (of.inside ≡ Nothing)
 
--- the element is of the shape
-abbrev pub IsOfShape : Shapes → ℕ → Spot → Type 0
-IsOfShape shapes shape spot =
-    IsOne shapes shape spot ⊎ (IsSaid shapes shape spot ⊎ IsAnything shapes shape spot)
+-- an element with the tag is of the shape, where the identifier was seen
+abbrev pub IsOfShape : Shapes → ℕ → Tag → Option ℕ → OfShape → Type 0
+IsOfShape shapes shape tag identifier of =
+    IsOne shapes shape tag of ⊎ (IsSaid shapes shape tag identifier of ⊎ IsAnything shapes shape of)
+
+-- an element with the tag is of the shape of the field, or is it by the tag of its own
+abbrev pub IsByField : Shapes → Part → Tag → Option ℕ → OfShape → Type 0
+IsByField shapes field tag identifier of =
+    ((field.tag ≡ None) × IsOfShape shapes field.shape tag identifier of)
+    ⊎ ((of.shape ≡ field.shape) × (of.alternative ≡ None) × IsTagged shapes field tag of.inside)
 
 -- the element is the field
 abbrev pub IsOfField : Shapes → ℕ → Spot → Type 0
 IsOfField shapes i spot =
-    (field : Field) × (slice_get shapes.fields.items i ≡ Some field) × (spot.field ≡ Some i)
-    × (((field.tag ≡ None) × IsOfShape shapes field.shape spot)
-    ⊎ ((spot.shape ≡ field.shape) × (spot.alternative ≡ None) × IsTagged shapes field spot.tag spot.inside))
+    (field : Part) × (slice_get shapes.parts.items i ≡ Some field) × (spot.field ≡ Some i)
+    × IsByField shapes field spot.tag spot.identifier spot.of
+
+-- the element is all that stands somewhere, and of the shape
+abbrev pub IsOfWhole : Shapes → ℕ → Spot → Type 0
+IsOfWhole shapes shape spot =
+    (spot.field ≡ None) × IsOfShape shapes shape spot.tag spot.identifier spot.of
 
 -- the element is one of those that stand inside another
 abbrev pub StandsIn : Shapes → Inside → Spot → Type 0
 StandsIn shapes Nothing spot = ⊥
 StandsIn shapes (Fields first end) spot = (i : ℕ) × (first ≤ i) × (i < end) × IsOfField shapes i spot
 StandsIn shapes (Each i) spot = IsOfField shapes i spot
-StandsIn shapes (Whole shape) spot = (spot.field ≡ None) × IsOfShape shapes shape spot
+StandsIn shapes (Whole shape) spot = IsOfWhole shapes shape spot
 
 -- what stands around the elements of a document of the shape, or of none that is known
 abbrev pub document_of : Option ℕ → Inside
@@ -118,4 +129,5 @@ document_of None = Nothing
 abbrev pub IsPath : Shapes → Inside → List Spot → Type 0
 IsPath shapes all [] = ⊤
 IsPath shapes all (spot ∷ []) = StandsIn shapes all spot
-IsPath shapes all (spot ∷ around ∷ path) = StandsIn shapes around.inside spot × IsPath shapes all (around ∷ path)
+IsPath shapes all (spot ∷ around ∷ path) =
+    StandsIn shapes around.of.inside spot × IsPath shapes all (around ∷ path)

@@ -1,39 +1,44 @@
-// Object identifiers in text, as their contents octets (X.690 8.19).
-use std::alloc::{AllocError, Global};
+// Object identifiers as numbers, by which they are compared.
 
-// The contents octets of an object identifier, whose components stand in decimal with points between them. `None` of
-// other texts, and where a component passes 32 bits.
-pub fn identifier_octets(alloc: Global, text: &str) -> Result<Option<Vec<u8>>, AllocError> {
-    let mut octets = Vec::new(alloc);
-    let mut components = text.split('.');
-    let Some(first) = first_subidentifier(components.next(), components.next()) else {
-        return Ok(None);
-    };
-    push_subidentifier(first, &mut octets)?;
-    for component in components {
-        match component.parse::<u32>() {
-            Ok(number) => push_subidentifier(number, &mut octets)?,
-            Err(_) => return Ok(None),
-        }
+// An object identifier as a number, by its contents octets: these behind an octet 1, in base 256. `None` where there
+// are more than 15.
+pub fn number_of(contents: &[u8]) -> Option<u128> {
+    let mut number = 1;
+    for octet in contents {
+        number = with_octet(number, *octet)?;
     }
-    Ok(Some(octets))
+    Some(number)
 }
 
-// The first subidentifier is of two components (X.690 8.19.4).
-fn first_subidentifier(first: Option<&str>, second: Option<&str>) -> Option<u32> {
-    let first = first?.parse::<u32>().ok()?;
-    let second = second?.parse::<u32>().ok()?;
-    first.checked_mul(40)?.checked_add(second)
+// The number of an object identifier whose components stand in decimal with points between them. `None` of other texts,
+// and where a component passes 32 bits.
+pub fn written_number(text: &str) -> Option<u128> {
+    let mut components = text.split('.');
+    let first = components.next()?.parse::<u32>().ok()?;
+    let second = components.next()?.parse::<u32>().ok()?;
+    // the first subidentifier is of two components (X.690 8.19.4)
+    let mut number = with_subidentifier(1, first.checked_mul(40)?.checked_add(second)?)?;
+    for component in components {
+        number = with_subidentifier(number, component.parse::<u32>().ok()?)?;
+    }
+    Some(number)
 }
 
 // Seven bits an octet, and bit 8 in each but the last (X.690 8.19.2).
-fn push_subidentifier(number: u32, octets: &mut Vec<u8>) -> Result<(), AllocError> {
+fn with_subidentifier(number: u128, component: u32) -> Option<u128> {
+    let mut number = number;
     for shift in [28u32, 21, 14, 7] {
-        let rest = number >> shift;
+        let rest = component >> shift;
         if rest > 0 {
-            octets.push((rest % 128) as u8 + 128)?;
+            number = with_octet(number, (rest % 128) as u8 + 128)?;
         }
     }
-    octets.push((number % 128) as u8)?;
-    Ok(())
+    with_octet(number, (component % 128) as u8)
+}
+
+fn with_octet(number: u128, octet: u8) -> Option<u128> {
+    if number >> 120 > 0 {
+        return None;
+    }
+    Some(number << 8 | octet as u128)
 }

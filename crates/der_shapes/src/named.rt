@@ -19,9 +19,9 @@ pub struct Named {
 impl Shapes {
     /// The names of an element, by which field it is and its contents octets.
     pub fn names_of(&self, spot: Spot, contents: &[u8]) -> Option<Named>
-        ensures { IfSome result (IsNamed self.now spot contents.now) }
+        ensures { IfSome result (IsNamed self.now spot) }
     {
-        let shape = self.shape(spot.shape)?;
+        let shape = self.shape(spot.of.shape)?;
         Some(Named {
             field: self.field_name(spot),
             of: shape.name,
@@ -35,15 +35,15 @@ impl Shapes {
     {
         match self.name_at(spot.field) {
             Some(name) => Some(name),
-            None => self.name_at(spot.alternative),
+            None => self.name_at(spot.of.alternative),
         }
     }
 
     // The name of a field that has one.
-    fn name_at(&self, place: Option<usize>) -> Option<&'static str>
+    fn name_at(&self, place: Option<u16>) -> Option<&'static str>
         ensures { IfSome result (λ name. IsNameAt self.now place name.now) }
     {
-        let field = self.field(place?)?;
+        let field = self.part(place?)?;
         if field.name.is_empty() {
             None
         } else {
@@ -54,12 +54,12 @@ impl Shapes {
     // The name of the value of an element: that of a number; or of an alternative by its tag, where the field has a
     // name.
     fn value_name(&self, shape: Shape, spot: Spot, contents: &[u8]) -> Option<&'static str> {
-        match (shape.form, spot.inside) {
+        match (shape.form, spot.of.inside) {
             (Form::Leaf(_), Inside::Nothing) => self.number_name(shape, small_number(contents)?),
             (Form::Choice, _) => {
                 self.name_at(spot.field)?;
-                self.field(spot.alternative?)?.tag?;
-                self.name_at(spot.alternative)
+                self.part(spot.of.alternative?)?.tag?;
+                self.name_at(spot.of.alternative)
             }
             _ => None,
         }
@@ -67,10 +67,10 @@ impl Shapes {
 }
 
 // The number of contents octets of an INTEGER or an ENUMERATED (X.690 8.3), if it is at least 0 and below 2^15.
-fn small_number(contents: &[u8]) -> Option<u64> {
+fn small_number(contents: &[u8]) -> Option<u128> {
     match contents {
-        [low] if *low < 128 => Some(*low as u64),
-        [high, low] if *high < 128 => Some(*high as u64 * 256 + *low as u64),
+        [low] if *low < 128 => Some(*low as u128),
+        [high, low] if *high < 128 => Some(*high as u128 * 256 + *low as u128),
         _ => None,
     }
 }

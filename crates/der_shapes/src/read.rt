@@ -1,12 +1,13 @@
 // Shapes in text, which has a line for each shape and each of its parts.
-use crate::identifier::identifier_octets;
-use crate::shapes::{Candidate, Field, Form, Number, Row, Shape, Shapes, Tag};
+use crate::identifier::written_number;
+use crate::shapes::{Candidate, Form, Part, Shape, Shapes, Tag};
 use crate::tables::{FITS, TABLES};
 use asn1_headers::header::ASN1Class;
-use std::alloc::{AllocError, Global};
+use std::alloc::{AllocError, AllocFailed, Global};
+use std::collections::HashMap;
 
 /// Why a text has no shapes.
-#[derive(Debug, Drop, PartialEq)]
+#[derive(Clone, Copy, Debug, Drop, PartialEq)]
 pub enum ShapesFault {
     /// Memory ran out.
     Memory,
@@ -20,19 +21,10 @@ impl From<AllocError> for ShapesFault {
     }
 }
 
-// What a line is.
-#[derive(Clone, Copy, Drop)]
-enum Line {
-    // nothing, or a comment
-    Empty,
-    // the heading of a shape: its name, and the words that say what it is
-    Heading(&'static str, &'static str),
-    // a number and its name
-    Number(u64, &'static str),
-    // an object identifier, and the shape that it says
-    Row(&'static str, &'static str),
-    // a field: its name, and the words that say what it is
-    Field(&'static str, &'static str),
+impl<T: Drop> From<AllocFailed<T>> for ShapesFault {
+    fn from(_e: AllocFailed<T>) -> ShapesFault {
+        ShapesFault::Memory
+    }
 }
 
 impl Shapes {
@@ -53,11 +45,8 @@ impl Shapes {
     pub fn none(alloc: Global) -> Shapes {
         Shapes {
             shapes: Vec::new(alloc),
-            fields: Vec::new(alloc),
-            rows: Vec::new(alloc),
-            numbers: Vec::new(alloc),
+            parts: Vec::new(alloc),
             identifiers: Vec::new(alloc),
-            names: Vec::new(alloc),
             candidates: Vec::new(alloc),
         }
     }
@@ -67,135 +56,160 @@ impl Shapes {
     /// elements.
     ///
     /// # Errors
-    /// `Line` for the first line of another form, and `Memory`.
+    /// `Line` for the first line of another form, or else for the first that names a shape which is not there, and
+    /// `Memory`.
     pub fn read(
         alloc: Global,
         texts: &[&'static str],
         fits: &'static str,
     ) -> Result<Shapes, ShapesFault> {
-        let mut shapes = Shapes::none(alloc);
+        let mut reader = Reader {
+            shapes: Shapes::none(alloc),
+            places: HashMap::new(alloc),
+            last: 0,
+            line: "",
+        };
         for text in texts {
-            shapes.collect(alloc, text)?;
+            reader.read_text(text)?;
         }
-        shapes.names.sort_by(|a, b| a.0.cmp(b.0))?;
-        shapes.identifiers.sort()?;
-        for text in texts {
-            for line in text.lines() {
-                match shapes.take_line(alloc, line)? {
-                    Some(()) => {}
-                    None => return Err(ShapesFault::Line(line)),
-                }
-            }
-        }
-        shapes.take_candidates(fits)?;
-        Ok(shapes)
-    }
-
-    // Takes the shapes that may fit a document.
-    fn take_candidates(&mut self, fits: &'static str) -> Result<(), ShapesFault> {
+        let mut shapes = reader.finished()?;
         for line in fits.lines() {
-            match self.candidate(line) {
-                Some(candidate) => self.take_candidate(candidate)?,
+            match shapes.candidate(line) {
+                Some(candidate) => shapes.candidates.push(candidate)?,
                 None => return Err(ShapesFault::Line(line)),
             }
         }
-        Ok(())
+        Ok(shapes)
     }
 
-    fn take_candidate(&mut self, candidate: Candidate) -> Result<(), AllocError> {
-        self.candidates.push(candidate)?;
-        Ok(())
-    }
-
-    // Collects the names and the identifiers of a text.
-    fn collect(&mut self, alloc: Global, text: &'static str) -> Result<(), ShapesFault> {
-        for line in text.lines() {
-            if !self.collect_line(alloc, line)? {
-                return Err(ShapesFault::Line(line));
-            }
-        }
-        Ok(())
-    }
-
-    // Collects the name or the identifier of a line. Whether its form is known.
-    fn collect_line(&mut self, alloc: Global, line: &'static str) -> Result<bool, AllocError> {
-        match line_of(line) {
-            Some(Line::Heading(name, _)) => {
-                let place = self.names.len();
-                self.names.push((name, place))?;
-            }
-            Some(Line::Row(identifier, _)) => match identifier_octets(alloc, identifier)? {
-                Some(octets) => self.identifiers.push(octets)?,
-                None => return Ok(false),
-            },
-            Some(_) => {}
-            None => return Ok(false),
-        }
-        Ok(true)
+    // The candidate of a line.
+    fn candidate(&self, line: &str) -> Option<Candidate> {
+        let mut words = line.split(' ');
+        Some(Candidate {
+            shape: self.named(words.next()?)?,
+            levels: words.next()?.parse::<usize>().ok()?,
+            least: words.next()?.parse::<usize>().ok()?,
+        })
     }
 }
 
-impl Shapes {
-    // Takes a line. `None` where it has another form, or names a shape that is not there.
-    fn take_line(&mut self, alloc: Global, line: &'static str) -> Result<Option<()>, AllocError> {
-        match line_of(line) {
-            None => Ok(None),
-            Some(Line::Empty) => Ok(Some(())),
-            Some(Line::Heading(name, words)) => self.begin(name, words),
-            Some(Line::Number(value, name)) => {
-                self.numbers.push(Number { value, name })?;
-                self.extend()
-            }
-            Some(Line::Row(identifier, shape)) => self.take_row(alloc, identifier, shape),
-            Some(Line::Field(name, words)) => {
-                let Some(field) = self.field_of(name, words) else {
-                    return Ok(None);
-                };
-                self.fields.push(field)?;
-                self.extend()
-            }
+// What was read of texts. A shape has its place where it is named first, maybe before its own line.
+#[derive(Drop)]
+struct Reader {
+    shapes: Shapes,
+    // the places of shapes by their names
+    places: HashMap<&'static str, u16>,
+    // the place of the shape whose parts are read
+    last: u16,
+    line: &'static str,
+}
+
+impl Reader {
+    // The shapes, once each that is named was read.
+    fn finished(self) -> Result<Shapes, ShapesFault> {
+        let Reader { mut shapes, .. } = self;
+        if let Some(shape) = shapes.shapes.iter().find(|shape| shape.is_missing()) {
+            return Err(ShapesFault::Line(shape.name));
         }
+        shapes.identifiers.sort()?;
+        Ok(shapes)
     }
 
-    // Takes one more part into the last shape. `None` where there is none.
-    fn extend(&mut self) -> Result<Option<()>, AllocError> {
-        let Some(last) = self.shapes.pop() else {
-            return Ok(None);
-        };
-        self.shapes.push(Shape {
-            end: last.end.saturating_add(1),
-            ..last
-        })?;
-        Ok(Some(()))
+    // A place behind so many others.
+    fn index(&self, count: usize) -> Result<u16, ShapesFault> {
+        u16::try_from(count).ok().ok_or(self.fault())
     }
 
-    // Begins a shape.
-    fn begin(&mut self, name: &'static str, words: &'static str) -> Result<Option<()>, AllocError> {
-        let Some((form, item)) = self.form_of(words) else {
-            return Ok(None);
+    // The fault of the line.
+    fn fault(&self) -> ShapesFault {
+        ShapesFault::Line(self.line)
+    }
+
+    // Reads a text, line by line.
+    fn read_text(&mut self, text: &'static str) -> Result<(), ShapesFault> {
+        let mut left = text;
+        for _ in 0..text.len() {
+            let Some((line, behind)) = first_line(left) else {
+                break;
+            };
+            self.read_line(line)?;
+            left = behind;
+        }
+        self.read_line(left)
+    }
+
+    // Reads a line.
+    fn read_line(&mut self, line: &'static str) -> Result<(), ShapesFault> {
+        self.line = line;
+        if line.is_empty() || line.starts_with("--") {
+            return Ok(());
+        }
+        let Some(text) = line.strip_prefix("  ") else {
+            return self.begin(line);
         };
-        let first = match form {
-            Form::Leaf(_) => self.numbers.len(),
-            Form::Open | Form::Known => self.rows.len(),
-            Form::Record(_) | Form::Items(_) | Form::Choice => self.fields.len(),
+        let (first, words) = text.split_once(' ').ok_or(self.fault())?;
+        let part = if !first.starts_with(|c: char| c.is_ascii_digit()) {
+            self.field(first, words)?
+        } else if first.contains('.') {
+            self.row(first, words)?
+        } else {
+            let number = first.parse::<u64>().ok().ok_or(self.fault())?;
+            Part::named(words, number as u128)
         };
-        self.shapes.push(Shape {
+        self.push(part)
+    }
+
+    // Takes one more part into the last shape.
+    fn push(&mut self, part: Part) -> Result<(), ShapesFault> {
+        let fault = self.fault();
+        let shape = self.shapes.shapes.get_mut(self.last as usize).ok_or(fault)?;
+        if shape.is_missing() {
+            return Err(fault);
+        }
+        shape.end = shape.end.checked_add(1).ok_or(fault)?;
+        self.shapes.parts.push(part)?;
+        Ok(())
+    }
+
+    // The place of the shape with this name.
+    fn place(&mut self, name: &'static str) -> Result<u16, ShapesFault> {
+        if let Some(place) = self.places.get(&name) {
+            return Ok(*place);
+        }
+        let place = self.index(self.shapes.shapes.len())?;
+        self.places.insert(name, place)?;
+        self.shapes.shapes.push(Shape::missing(name, self.line))?;
+        Ok(place)
+    }
+
+    // Begins a shape, whose name no other has.
+    fn begin(&mut self, line: &'static str) -> Result<(), ShapesFault> {
+        let (name, words) = line.split_once(" ::= ").unwrap_or((line, line));
+        let (form, item) = self.form_of(words).ok_or(self.fault())?;
+        let first = self.index(self.shapes.parts.len())?;
+        self.last = self.place(name)?;
+        let fault = self.fault();
+        let shape = self.shapes.shapes.get_mut(self.last as usize).ok_or(fault)?;
+        if !shape.is_missing() {
+            return Err(fault);
+        }
+        *shape = Shape {
+            full_name: name,
             name: shown_name(name),
             form,
             first,
             end: first,
-        })?;
-        let Some(item) = item else {
-            return Ok(Some(()));
         };
-        self.fields.push(item)?;
-        self.extend()
+        let Some(item) = item else {
+            return Ok(());
+        };
+        let part = self.field("", item)?;
+        self.push(part)
     }
 
-    // What elements of a shape are by words, and the item of a list.
-    fn form_of(&self, words: &'static str) -> Option<(Form, Option<Field>)> {
-        if let Some((outer, inner)) = list_words(words) {
-            let item = self.field_of("", inner)?;
+    // What elements of a shape are by words, and the words for the item of a list.
+    fn form_of(&self, words: &'static str) -> Option<(Form, Option<&'static str>)> {
+        if let Some((outer, item)) = list_words(words) {
             return Some((Form::Items(self.leaf_tag(outer)?), Some(item)));
         }
         let form = match words {
@@ -203,7 +217,7 @@ impl Shapes {
             "OPEN" => Form::Open,
             "KNOWN" => Form::Known,
             "SEQUENCE" | "SET" => Form::Record(self.leaf_tag(words)?),
-            _ => match words.parse::<u64>() {
+            _ => match words.parse::<u8>() {
                 Ok(tag) => Form::Leaf(tag),
                 Err(_) => Form::Leaf(self.leaf_tag(words)?),
             },
@@ -212,56 +226,78 @@ impl Shapes {
     }
 
     // The tag of a leaf with this name, which was read before.
-    fn leaf_tag(&self, name: &str) -> Option<u64> {
-        match self.shape(self.named(name)?)?.form {
+    fn leaf_tag(&self, name: &'static str) -> Option<u8> {
+        match self.shapes.shape(*self.places.get(&name)?)?.form {
             Form::Leaf(tag) => Some(tag),
             _ => None,
         }
     }
 
     // A field by its name and the words that say what it is: its tag, its shape, and whether it is optional.
-    fn field_of(&self, name: &'static str, words: &'static str) -> Option<Field> {
+    fn field(&mut self, name: &'static str, words: &'static str) -> Result<Part, ShapesFault> {
         let (words, is_optional) = match words.strip_suffix(" OPTIONAL") {
             Some(words) => (words, true),
             None => (words, false),
         };
-        let (tag, words) = match words.strip_prefix("[") {
-            Some(rest) => {
-                let (tag, words) = rest.split_once("] ")?;
-                (Some(tag_of(tag)?), words)
-            }
-            None => (None, words),
-        };
+        let (tag, words) = tag_before(words).ok_or(self.fault())?;
         let (words, is_explicit) = match words.strip_prefix("EXPLICIT ") {
             Some(words) => (words, true),
             None => (words, false),
         };
-        Some(Field {
-            name,
-            shape: self.named(words)?,
+        Ok(Part {
+            shape: self.place(words)?,
             tag,
             is_explicit,
             is_optional,
+            ..Part::named(name, 0)
         })
     }
 
-    // Takes a row: what an object identifier says.
-    fn take_row(
-        &mut self,
-        alloc: Global,
-        identifier: &str,
-        shape: &str,
-    ) -> Result<Option<()>, AllocError> {
-        let Some(octets) = identifier_octets(alloc, identifier)? else {
-            return Ok(None);
-        };
-        let Some(shape) = self.named(shape) else {
-            return Ok(None);
-        };
-        let identifier = self.identifier(&octets);
-        self.rows.push(Row { identifier, shape })?;
-        self.extend()
+    // What an object identifier says.
+    fn row(&mut self, identifier: &str, shape: &'static str) -> Result<Part, ShapesFault> {
+        let number = written_number(identifier).ok_or(self.fault())?;
+        self.shapes.identifiers.push(number)?;
+        Ok(Part {
+            shape: self.place(shape)?,
+            ..Part::named("", number)
+        })
     }
+}
+
+impl Part {
+    fn named(name: &'static str, number: u128) -> Part {
+        Part {
+            name,
+            number,
+            shape: 0,
+            tag: None,
+            is_explicit: false,
+            is_optional: false,
+        }
+    }
+}
+
+impl Shape {
+    // A shape that this line names, and that was not read yet: it ends before it begins.
+    fn missing(full_name: &'static str, line: &'static str) -> Shape {
+        Shape {
+            full_name,
+            name: line,
+            form: Form::Known,
+            first: 1,
+            end: 0,
+        }
+    }
+
+    fn is_missing(&self) -> bool {
+        self.end < self.first
+    }
+}
+
+// The first line of a text, and the text behind it, where a line ends.
+fn first_line(text: &'static str) -> Option<(&'static str, &'static str)> {
+    let end = text.as_bytes().iter().position(|octet| *octet == b'\n')?;
+    Some((text.get(..end)?, text.get(end.checked_add(1)?..)?))
 }
 
 // The words on both sides of the word that makes a list, or that says what a string holds.
@@ -272,14 +308,19 @@ fn list_words(words: &'static str) -> Option<(&'static str, &'static str)> {
     }
 }
 
-// A tag as it is written: a number, which is context-specific, or `APPLICATION` and a number.
-fn tag_of(words: &str) -> Option<Tag> {
-    let (class, digits) = match words.strip_prefix("APPLICATION ") {
-        Some(digits) => (ASN1Class::Application, digits),
-        None => (ASN1Class::ContextSpecific, words),
+// The tag that words begin with, if they do, and the words behind it: a number, which is context-specific, or
+// `APPLICATION` and a number. `None` where it has another form.
+fn tag_before(words: &'static str) -> Option<(Option<Tag>, &'static str)> {
+    let Some(rest) = words.strip_prefix("[") else {
+        return Some((None, words));
     };
-    let number = digits.parse::<u64>().ok()?;
-    Some(Tag { class, number })
+    let (tag, words) = rest.split_once("] ")?;
+    let (class, digits) = match tag.strip_prefix("APPLICATION ") {
+        Some(digits) => (ASN1Class::Application, digits),
+        None => (ASN1Class::ContextSpecific, tag),
+    };
+    let number = digits.parse::<u8>().ok()?;
+    Some((Some(Tag { class, number }), words))
 }
 
 // The name of a type as it is shown: without the point and what stands before it, by which types of one name differ.
@@ -288,26 +329,6 @@ fn shown_name(name: &'static str) -> &'static str {
         Some((_, shown)) => shown,
         None => name,
     }
-}
-
-// What a line is. `None` where it has another form.
-fn line_of(line: &'static str) -> Option<Line> {
-    if line.is_empty() || line.starts_with("--") {
-        return Some(Line::Empty);
-    }
-    let Some(part) = line.strip_prefix("  ") else {
-        let (name, words) = line.split_once(" ::= ").unwrap_or((line, line));
-        return Some(Line::Heading(name, words));
-    };
-    let (first, words) = part.split_once(' ')?;
-    if !first.starts_with(|c: char| c.is_ascii_digit()) {
-        return Some(Line::Field(first, words));
-    }
-    if first.contains('.') {
-        return Some(Line::Row(first, words));
-    }
-    let value = first.parse::<u64>().ok()?;
-    Some(Line::Number(value, words))
 }
 
 #[cfg(test)]
@@ -341,6 +362,8 @@ mod tests {
             "A ::= 2\n  1.2.3 B",
             "A ::= 2\n  1x a",
             "A ::= 2\n  a [x] A",
+            "A ::= SET OF B",
+            "A ::= 2\nA ::= 2",
         ] {
             assert!(rt; Shapes::read(rt.alloc(), &[line], "").is_err(), "{line}");
         }

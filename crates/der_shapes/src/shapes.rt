@@ -1,6 +1,7 @@
 // Shapes: which fields a type of ASN.1 has, and what the octets of a string hold.
 ghost use Rattle.std.specs.Prelude.{◌≡◌, slice_get};
 
+use crate::identifier::number_of;
 use asn1_headers::header::ASN1Class;
 
 /// A tag: its class and its number (X.690 8.1.2).
@@ -9,23 +10,35 @@ pub struct Tag {
     /// its class
     pub class: ASN1Class,
     /// its number
-    pub number: u64,
+    pub number: u8,
+}
+
+impl Tag {
+    /// The tag that encodings with a leading octet have (X.690 8.1.2). With 31 as its number it stands for all tags of
+    /// more octets, which no field has.
+    pub fn of(leading: u8) -> Tag {
+        let class = match leading / 64 {
+            0 => ASN1Class::Universal,
+            1 => ASN1Class::Application,
+            2 => ASN1Class::ContextSpecific,
+            _ => ASN1Class::Private,
+        };
+        Tag {
+            class,
+            number: leading % 32,
+        }
+    }
 }
 
 /// The shapes of types of ASN.1, by which elements have names. They are read once, and take memory for each field.
+/// There are fewer than 65,536 of them, and of their parts.
 #[derive(Drop)]
 pub struct Shapes {
     pub(crate) shapes: Vec<Shape>,
-    // the fields of shapes, those of each one behind another
-    pub(crate) fields: Vec<Field>,
-    // what open shapes are by identifiers, those of each one behind another
-    pub(crate) rows: Vec<Row>,
-    // the names of numbers, those of each shape one behind another
-    pub(crate) numbers: Vec<Number>,
-    // the object identifiers of rows, in the order of their contents octets
-    pub(crate) identifiers: Vec<Vec<u8>>,
-    // the names of shapes, in the order of the alphabet, and where these stand
-    pub(crate) names: Vec<(&'static str, usize)>,
+    // the parts of shapes, those of each one behind another
+    pub(crate) parts: Vec<Part>,
+    // the object identifiers that say shapes, as numbers, in their order
+    pub(crate) identifiers: Vec<u128>,
     // the shapes that may fit a document, in the order in which they are tried
     pub(crate) candidates: Vec<Candidate>,
 }
@@ -33,100 +46,91 @@ pub struct Shapes {
 // A shape that may fit a document: down to which depth it has to, and how many elements at least are there.
 #[derive(Clone, Copy, Drop)]
 pub(crate) struct Candidate {
-    pub shape: usize,
+    pub shape: u16,
     pub levels: usize,
     pub least: usize,
 }
 
-// A shape: its name, and where its parts begin and end among those of all shapes.
+// A shape: its name in full and as it is shown, and where its parts begin and end among those of all shapes.
 #[derive(Clone, Copy, Drop)]
 pub(crate) struct Shape {
+    pub full_name: &'static str,
     pub name: &'static str,
     pub form: Form,
-    pub first: usize,
-    pub end: usize,
+    pub first: u16,
+    pub end: u16,
 }
 
 // What elements of a shape are, and what its parts are.
 #[derive(Clone, Copy, Drop)]
 pub(crate) enum Form {
     // with this tag of class Universal; numbers that have names
-    Leaf(u64),
+    Leaf(u8),
     // a SEQUENCE or a SET of fields, with this tag; the fields
-    Record(u64),
+    Record(u8),
     // a SEQUENCE OF, a SET OF, or a string that holds elements, with this tag; the field that each of them is
-    Items(u64),
+    Items(u8),
     // one of several; the alternatives, which are fields
     Choice,
-    // what an object identifier says, or anything; rows
+    // what an object identifier says, or anything; object identifiers
     Open,
-    // what an object identifier says, and nothing where it says nothing; rows
+    // what an object identifier says, and nothing where it says nothing; object identifiers
     Known,
 }
 
-// A field: its name, which may be empty, its shape and its tag, if it has one of its own.
+// A part of a shape: a field, whose name may be empty, with its shape and its tag, if it has one of its own; a number
+// and its name; or an object identifier as a number, and the shape that it says.
 #[derive(Clone, Copy, Drop)]
-pub(crate) struct Field {
+pub(crate) struct Part {
     pub name: &'static str,
-    pub shape: usize,
+    pub number: u128,
+    pub shape: u16,
     pub tag: Option<Tag>,
     // its tag stands around an element of its shape, and not in the place of that one's (X.680 31.2.7)
     pub is_explicit: bool,
     pub is_optional: bool,
 }
 
-// The shape of what an open shape is where the identifier was seen.
-#[derive(Clone, Copy, Drop)]
-pub(crate) struct Row {
-    pub identifier: usize,
-    pub shape: usize,
-}
-
-// A number that has a name.
-#[derive(Clone, Copy, Drop)]
-pub(crate) struct Number {
-    pub value: u64,
-    pub name: &'static str,
-}
-
 impl Shapes {
     /// The shape with this name, if there is one.
-    pub fn named(&self, name: &str) -> Option<usize> {
-        match self.names.binary_search_by(|row| row.0.cmp(name)) {
-            Ok(i) => Some(self.names[i].1),
-            Err(_) => None,
-        }
+    pub fn named(&self, name: &str) -> Option<u16> {
+        let place = self
+            .shapes
+            .iter()
+            .position(|shape| shape.full_name == name)?;
+        u16::try_from(place).ok()
     }
 
-    pub(crate) fn shape(&self, i: usize) -> Option<Shape>
+    pub(crate) fn shape(&self, i: u16) -> Option<Shape>
         ensures { result ≡ slice_get self.now.shapes.items i }
     {
-        self.shapes.get(i).copied()
+        self.shapes.get(i as usize).copied()
     }
 
-    pub(crate) fn field(&self, i: usize) -> Option<Field>
-        ensures { result ≡ slice_get self.now.fields.items i }
+    pub(crate) fn part(&self, i: u16) -> Option<Part>
+        ensures { result ≡ slice_get self.now.parts.items i }
     {
-        self.fields.get(i).copied()
+        self.parts.get(i as usize).copied()
     }
 
-    // Where an object identifier stands among those of rows, by its contents octets; behind them where it is none.
-    pub(crate) fn identifier(&self, contents: &[u8]) -> usize {
-        let place = self
-            .identifiers
-            .partition_point(|row| row.as_slice() < contents);
+    // Where an object identifier stands among those that say shapes, by its contents octets; 65535 where it is none.
+    pub(crate) fn identifier(&self, contents: &[u8]) -> u16 {
+        let Some(number) = number_of(contents) else {
+            return u16::MAX;
+        };
+        let place = self.identifiers.partition_point(|row| *row < number);
         match self.identifiers.get(place) {
-            Some(found) if found.as_slice() == contents => place,
-            _ => self.identifiers.len(),
+            Some(found) if *found == number => u16::try_from(place).unwrap_or(u16::MAX),
+            _ => u16::MAX,
         }
     }
 
     // The name of a number in a shape.
-    pub(crate) fn number_name(&self, shape: Shape, value: u64) -> Option<&'static str> {
-        let numbers = self.numbers.get(shape.first..shape.end)?;
+    pub(crate) fn number_name(&self, shape: Shape, value: u128) -> Option<&'static str> {
+        let numbers = self.parts.get(shape.first as usize..shape.end as usize)?;
         numbers
             .iter()
-            .find(|number| number.value == value)
-            .map(|number| number.name)
+            .find(|part| part.number == value)
+            .map(|part| part.name)
     }
 }

@@ -1,9 +1,10 @@
 // Which elements a field or a shape takes by their tags, and what stands inside them.
 ghost use Rattle.std.specs.Prelude.{◌≡◌, ◌↔◌, ℕ, ◌<◌, ◌≤◌, IfSome, IsTrue, slice_get};
-ghost use Rattle.der_shapes.specs.Spots.{HasTag, IsAlternative, IsAnything, IsChosen, IsOfField, IsOfShape, IsOne};
-ghost use Rattle.der_shapes.specs.Spots.{IsPlain, IsSaid, IsTagged, IsUniversal, inside_of as inside_is};
+ghost use Rattle.der_shapes.specs.Spots.{HasTag, IsAlternative, IsAnything, IsByField, IsChosen, IsOfField, IsOfShape};
+ghost use Rattle.der_shapes.specs.Spots.{IsOfWhole};
+ghost use Rattle.der_shapes.specs.Spots.{IsOne, IsPlain, IsSaid, IsTagged, IsUniversal, inside_of as inside_is};
 
-use crate::shapes::{Field, Form, Row, Shape, Shapes, Tag};
+use crate::shapes::{Form, Part, Shape, Shapes, Tag};
 use asn1_headers::header::ASN1Class;
 
 // What stands inside an element.
@@ -12,11 +13,11 @@ pub(crate) enum Inside {
     // nothing that has a name
     Nothing,
     // the fields from the first to before the end
-    Fields(usize, usize),
+    Fields(u16, u16),
     // elements that are this field each
-    Each(usize),
+    Each(u16),
     // an element of this shape
-    Whole(usize),
+    Whole(u16),
 }
 
 /// Which field of which shape an element is.
@@ -24,113 +25,123 @@ pub(crate) enum Inside {
 pub struct Spot {
     pub(crate) tag: Tag,
     // the field that it is, unless it is all that there is, or stands behind an explicit tag
-    pub(crate) field: Option<usize>,
-    pub(crate) shape: usize,
-    // the alternative of a choice
-    pub(crate) alternative: Option<usize>,
-    pub(crate) inside: Inside,
+    pub(crate) field: Option<u16>,
+    pub(crate) of: OfShape,
     // the object identifier by which what is open around it is known
-    pub(crate) identifier: Option<usize>,
+    pub(crate) identifier: Option<u16>,
+}
+
+// What an element is as one of a shape.
+#[derive(Clone, Copy, Debug, Drop, PartialEq)]
+pub(crate) struct OfShape {
+    pub shape: u16,
+    // the alternative of a choice
+    pub alternative: Option<u16>,
+    pub inside: Inside,
 }
 
 impl Shapes {
     // What an element with the tag is as a field, where the identifier was seen. `None` where the field takes none
     // with this tag.
-    pub(crate) fn field_spot(&self, i: usize, tag: Tag, identifier: Option<usize>) -> Option<Spot>
-        ensures tag { IfSome result (λ spot. spot.tag ≡ tag) }
-        ensures identifier { IfSome result (λ spot. spot.identifier ≡ identifier) }
-        ensures field { IfSome result (IsOfField self.now i) }
+    #[inline(always)]
+    pub(crate) fn field_spot(&self, i: u16, tag: Tag, identifier: Option<u16>) -> Option<Spot>
+        ensures { IfSome result (IsOfField self.now i) }
     {
-        let field = self.field(i)?;
-        if field.tag.is_none() {
-            let spot = self.shape_spot(field.shape, tag, identifier)?;
-            return Some(Spot {
-                field: Some(i),
-                ..spot
-            });
-        }
+        let of = self.of_field(self.part(i)?, tag, identifier)?;
         Some(Spot {
             tag,
             field: Some(i),
+            of,
+            identifier,
+        })
+    }
+
+    // What an element with the tag is as all that stands somewhere, which is of the shape.
+    #[inline(always)]
+    pub(crate) fn whole_spot(&self, shape: u16, tag: Tag, identifier: Option<u16>) -> Option<Spot>
+        ensures { IfSome result (IsOfWhole self.now shape) }
+    {
+        let of = self.of_shape(shape, tag, identifier)?;
+        Some(Spot {
+            tag,
+            field: None,
+            of,
+            identifier,
+        })
+    }
+
+    // What an element with the tag is as the field.
+    #[inline(always)]
+    fn of_field(&self, field: Part, tag: Tag, identifier: Option<u16>) -> Option<OfShape>
+        ensures { IfSome result (IsByField self.now field tag identifier) }
+    {
+        if field.tag.is_none() {
+            return self.of_shape(field.shape, tag, identifier);
+        }
+        Some(OfShape {
             shape: field.shape,
             alternative: None,
             inside: self.tagged_inside(field, tag)?,
-            identifier,
         })
     }
 
     // What an element with the tag is as one of a shape, where the identifier was seen. `None` where the shape has none
     // with this tag.
-    pub(crate) fn shape_spot(
-        &self,
-        shape: usize,
-        tag: Tag,
-        identifier: Option<usize>,
-    ) -> Option<Spot>
-        ensures tag { IfSome result (λ spot. spot.tag ≡ tag) }
-        ensures identifier { IfSome result (λ spot. spot.identifier ≡ identifier) }
-        ensures shape { IfSome result (IsOfShape self.now shape) }
-        ensures field { IfSome result (λ spot. spot.field ≡ None) }
+    #[inline(always)]
+    fn of_shape(&self, shape: u16, tag: Tag, identifier: Option<u16>) -> Option<OfShape>
+        ensures { IfSome result (IsOfShape self.now shape tag identifier) }
     {
-        match self.one_spot(shape, tag, identifier) {
-            Some(spot) => Some(spot),
-            None => self.open_spot(shape, tag, identifier),
+        match self.one_of(shape, tag) {
+            Some(of) => Some(of),
+            None => self.one_of_open(shape, tag, identifier),
         }
     }
 
     // What an element is as one of an open shape: what the identifier says, or anything where it may be.
-    fn open_spot(&self, shape: usize, tag: Tag, identifier: Option<usize>) -> Option<Spot>
-        ensures tag { IfSome result (λ spot. spot.tag ≡ tag) }
-        ensures identifier { IfSome result (λ spot. spot.identifier ≡ identifier) }
-        ensures shape { IfSome result (IsOfShape self.now shape) }
-        ensures field { IfSome result (λ spot. spot.field ≡ None) }
+    fn one_of_open(&self, shape: u16, tag: Tag, identifier: Option<u16>) -> Option<OfShape>
+        ensures { IfSome result (IsOfShape self.now shape tag identifier) }
     {
-        match self.said_spot(shape, tag, identifier) {
-            Some(spot) => Some(spot),
-            None => self.any_spot(shape, tag, identifier),
+        match self.one_said(shape, tag, identifier) {
+            Some(of) => Some(of),
+            None => self.anything(shape),
         }
     }
 
     // What an element is as one of an open shape that is what the identifier says.
-    fn said_spot(&self, shape: usize, tag: Tag, identifier: Option<usize>) -> Option<Spot>
-        ensures tag { IfSome result (λ spot. spot.tag ≡ tag) }
-        ensures identifier { IfSome result (λ spot. spot.identifier ≡ identifier) }
-        ensures said { IfSome result (IsSaid self.now shape) }
-        ensures field { IfSome result (λ spot. spot.field ≡ None) }
+    fn one_said(&self, shape: u16, tag: Tag, identifier: Option<u16>) -> Option<OfShape>
+        ensures { IfSome result (IsSaid self.now shape tag identifier) }
     {
         let row = self.row(self.shape(shape)?, identifier?)?;
-        self.one_spot(row.shape, tag, identifier)
+        self.one_of(row.shape, tag)
     }
 
     // What an element is as one of an open shape that is anything.
-    fn any_spot(&self, shape: usize, tag: Tag, identifier: Option<usize>) -> Option<Spot>
-        ensures tag { IfSome result (λ spot. spot.tag ≡ tag) }
-        ensures identifier { IfSome result (λ spot. spot.identifier ≡ identifier) }
-        ensures any { IfSome result (IsAnything self.now shape) }
-        ensures field { IfSome result (λ spot. spot.field ≡ None) }
+    fn anything(&self, shape: u16) -> Option<OfShape>
+        ensures { IfSome result (IsAnything self.now shape) }
     {
         match self.shape(shape)?.form {
-            Form::Open => Some(Spot {
-                tag,
-                field: None,
+            Form::Open => Some(OfShape {
                 shape,
                 alternative: None,
                 inside: Inside::Nothing,
-                identifier,
             }),
             _ => None,
         }
     }
 
     // The row of a shape for the identifier.
-    fn row(&self, shape: Shape, identifier: usize) -> Option<Row>
-        ensures { IfSome result (λ row. (row.identifier ≡ identifier)
+    fn row(&self, shape: Shape, identifier: u16) -> Option<Part>
+        ensures { IfSome result (λ row. (slice_get self.now.identifiers.items identifier ≡ Some row.number)
             × (k : ℕ) × (shape.first ≤ k) × (k < shape.end)
-            × (slice_get self.now.rows.items k ≡ Some row)) }
+            × (slice_get self.now.parts.items k ≡ Some row)) }
     {
+        if !matches!(shape.form, Form::Open | Form::Known) {
+            return None;
+        }
+        let number = self.identifiers.get(identifier as usize).copied()?;
         for k in shape.first..shape.end {
-            let row = self.rows.get(k).copied()?;
-            if row.identifier == identifier {
+            let row = self.part(k)?;
+            if row.number == number {
                 return Some(row);
             }
         }
@@ -138,47 +149,35 @@ impl Shapes {
     }
 
     // What an element with the tag is as one of a shape that is not open.
-    fn one_spot(&self, shape: usize, tag: Tag, identifier: Option<usize>) -> Option<Spot>
-        ensures tag { IfSome result (λ spot. spot.tag ≡ tag) }
-        ensures identifier { IfSome result (λ spot. spot.identifier ≡ identifier) }
-        ensures one { IfSome result (IsOne self.now shape) }
-        ensures field { IfSome result (λ spot. spot.field ≡ None) }
+    #[inline(always)]
+    fn one_of(&self, shape: u16, tag: Tag) -> Option<OfShape>
+        ensures { IfSome result (IsOne self.now shape tag) }
     {
         match self.plain_inside(shape, tag) {
-            Some(inside) => Some(Spot {
-                tag,
-                field: None,
+            Some(inside) => Some(OfShape {
                 shape,
                 alternative: None,
                 inside,
-                identifier,
             }),
-            None => self.chosen_spot(shape, tag, identifier),
+            None => self.chosen(shape, tag),
         }
     }
 
     // What an element with the tag is as one of a choice.
-    fn chosen_spot(&self, shape: usize, tag: Tag, identifier: Option<usize>) -> Option<Spot>
-        ensures tag { IfSome result (λ spot. spot.tag ≡ tag) }
-        ensures identifier { IfSome result (λ spot. spot.identifier ≡ identifier) }
-        ensures shape { IfSome result (λ spot. spot.shape ≡ shape) }
-        ensures chosen { IfSome result (IsChosen self.now shape) }
-        ensures field { IfSome result (λ spot. spot.field ≡ None) }
+    fn chosen(&self, shape: u16, tag: Tag) -> Option<OfShape>
+        ensures shape { IfSome result (λ of. of.shape ≡ shape) }
+        ensures chosen { IfSome result (IsChosen self.now shape tag) }
     {
         let found = self.shape(shape)?;
         if !matches!(found.form, Form::Choice) {
             return None;
         }
         for i in found.first..found.end {
-            let alternative = self.field(i)?;
-            if let Some(inside) = self.alternative_inside(alternative, tag) {
-                return Some(Spot {
-                    tag,
-                    field: None,
+            if let Some(inside) = self.alternative_inside(self.part(i)?, tag) {
+                return Some(OfShape {
                     shape,
                     alternative: Some(i),
                     inside,
-                    identifier,
                 });
             }
         }
@@ -186,7 +185,8 @@ impl Shapes {
     }
 
     // What stands inside an element with the tag that is the alternative.
-    fn alternative_inside(&self, alternative: Field, tag: Tag) -> Option<Inside>
+    #[inline(always)]
+    fn alternative_inside(&self, alternative: Part, tag: Tag) -> Option<Inside>
         ensures { IfSome result (IsAlternative self.now alternative tag) }
     {
         match alternative.tag {
@@ -196,7 +196,8 @@ impl Shapes {
     }
 
     // What stands inside an element with the tag that is the field by the tag of its own.
-    fn tagged_inside(&self, field: Field, tag: Tag) -> Option<Inside>
+    #[inline(always)]
+    fn tagged_inside(&self, field: Part, tag: Tag) -> Option<Inside>
         ensures { IfSome result (IsTagged self.now field tag) }
     {
         if field.tag? != tag {
@@ -210,7 +211,8 @@ impl Shapes {
     }
 
     // What stands inside an element with the tag that is of the shape.
-    fn plain_inside(&self, shape: usize, tag: Tag) -> Option<Inside>
+    #[inline(always)]
+    fn plain_inside(&self, shape: u16, tag: Tag) -> Option<Inside>
         ensures { IfSome result (IsPlain self.now shape tag) }
     {
         let found = self.shape(shape)?;
@@ -223,6 +225,7 @@ impl Shapes {
 }
 
 // Whether elements of the form have the tag.
+#[inline(always)]
 fn has_tag(form: Form, tag: Tag) -> bool
     ensures { IsTrue result → HasTag form tag }
 {
@@ -235,13 +238,15 @@ fn has_tag(form: Form, tag: Tag) -> bool
 }
 
 // Whether the tag is the one with this number of class Universal.
-fn is_universal(number: u64, tag: Tag) -> bool
+#[inline(always)]
+fn is_universal(number: u8, tag: Tag) -> bool
     ensures { IsTrue result ↔ IsUniversal number tag }
 {
     matches!(tag.class, ASN1Class::Universal) && tag.number == number
 }
 
 // What stands inside an element of a shape.
+#[inline(always)]
 fn inside_of(shape: Shape) -> Inside
     ensures { result ≡ inside_is shape.form shape.first shape.end }
 {

@@ -8,50 +8,51 @@ use Rattle.std.specs.Char.{is_ascii_digit}
 use Rattle.std.specs.List.{All, list_all}
 use Rattle.std.specs.Prelude.{IsUtf8}
 use Rattle.std.specs.Str.{is_utf8}
+use Rattle.asn1_headers.specs.declared.tags.TheConstants.{NUMERIC_STRING}
 use Rattle.der_values.specs.Strings.{has_printed_characters, is_iri, is_numeric, is_printed, is_string}
 
-both : (a b : Bool) → (a && b) ≡ true → (a ≡ true) × (b ≡ true)
-both true b e = (refl, e)
-both false b e = absurd (cc)
+and-both : (a b : Bool) → (a && b) ≡ true → (a ≡ true) × (b ≡ true)
+and-both true b e = (refl, e)
+and-both false b e = absurd (cc)
 
-numeric_small : (b : ℕ) → is_numeric b ≡ true → b < 128
-numeric_small b e = grind (arith, nat_tests)
+is_numeric-small : (b : ℕ) → is_numeric b ≡ true → b < 128
+is_numeric-small b e = grind (arith, nat_tests)
 
-printed_small : (b : ℕ) → is_printed b ≡ true → b < 128
-printed_small b e = grind (arith, nat_tests)
+is_printed-small : (b : ℕ) → is_printed b ≡ true → b < 128
+is_printed-small b e = grind (arith, nat_tests)
 
 module _ (p : ℕ → Bool) (small : (b : ℕ) → p b ≡ true → b < 128) where
-  all_small : (bs : List ℕ) → list_all p bs ≡ true → All (λ b. b < 128) bs
-  all_small [] e = All-nil (λ b. b < 128)
-  all_small (b ∷ bs) e =
-      let (here, later) = both (p b) (list_all p bs) e in
-      All-cons (λ b. b < 128) b bs (small b here) (all_small bs later)
+  list_all-small : (bs : List ℕ) → list_all p bs ≡ true → All (λ b. b < 128) bs
+  list_all-small [] e = All-nil (λ b. b < 128)
+  list_all-small (b ∷ bs) e =
+      let (here, later) = and-both (p b) (list_all p bs) e in
+      All-cons (λ b. b < 128) b bs (small b here) (list_all-small bs later)
 
-  all_utf8 : (bs : List ℕ) → list_all p bs ≡ true → IsUtf8 bs
-  all_utf8 bs e = IsUtf8-from_ascii bs (IsAscii-from_all bs (all_small bs e))
+  IsUtf8-list_all : (bs : List ℕ) → list_all p bs ≡ true → IsUtf8 bs
+  IsUtf8-list_all bs e = IsUtf8-from_ascii bs (IsAscii-from_all bs (list_all-small bs e))
 
-digit_small : (b : ℕ) → is_ascii_digit b ≡ true → b < 128
-digit_small b e = grind (arith, nat_tests)
+is_ascii_digit-small : (b : ℕ) → is_ascii_digit b ≡ true → b < 128
+is_ascii_digit-small b e = grind (arith, nat_tests)
 
-pub digits_utf8 : (bs : List ℕ) → list_all is_ascii_digit bs ≡ true → IsUtf8 bs
-digits_utf8 = all_utf8 is_ascii_digit digit_small
+pub IsUtf8-digits : (bs : List ℕ) → list_all is_ascii_digit bs ≡ true → IsUtf8 bs
+IsUtf8-digits = IsUtf8-list_all is_ascii_digit is_ascii_digit-small
 
-one_of :
+if-one_of_three :
     (a b c x y z : Bool) (bs : List ℕ) → (x ≡ true → IsUtf8 bs) → (y ≡ true → IsUtf8 bs) → (z ≡ true → IsUtf8 bs) →
     (if a then x else if b then y else if c then z else false) ≡ true → IsUtf8 bs
-one_of true b c x y z bs f g h e = f e
-one_of false true c x y z bs f g h e = g e
-one_of false false true x y z bs f g h e = h e
-one_of false false false x y z bs f g h e = absurd (cc)
+if-one_of_three true b c x y z bs f g h e = f e
+if-one_of_three false true c x y z bs f g h e = g e
+if-one_of_three false false true x y z bs f g h e = h e
+if-one_of_three false false false x y z bs f g h e = absurd (cc)
 
-pub string_utf8 : (tag : ℕ) (bs : List ℕ) → is_string tag bs ≡ true → IsUtf8 bs
-string_utf8 tag bs e =
-    one_of (tag == 18) (has_printed_characters tag) (is_iri tag) (list_all is_numeric bs) (list_all is_printed bs)
-    (is_utf8 bs) bs
-    (all_utf8 is_numeric numeric_small bs) (all_utf8 is_printed printed_small bs) (IsUtf8-from_is_utf8 bs) e
+pub IsUtf8-is_string : (tag : ℕ) (bs : List ℕ) → is_string tag bs ≡ true → IsUtf8 bs
+IsUtf8-is_string tag bs e =
+    if-one_of_three (tag == NUMERIC_STRING) (has_printed_characters tag) (is_iri tag) (list_all is_numeric bs)
+    (list_all is_printed bs) (is_utf8 bs) bs (IsUtf8-list_all is_numeric is_numeric-small bs)
+    (IsUtf8-list_all is_printed is_printed-small bs) (IsUtf8-from_is_utf8 bs) e
 
-pub no_utf8 : (bs : List ℕ) → (IsUtf8 bs → ⊥) → false ≡ is_utf8 bs
-no_utf8 bs h = tested (is_utf8 bs) refl
+pub is_utf8-false : (bs : List ℕ) → (IsUtf8 bs → ⊥) → false ≡ is_utf8 bs
+is_utf8-false bs h = tested (is_utf8 bs) refl
   where
     tested : (b : Bool) → is_utf8 bs ≡ b → false ≡ b
     tested true e = absurd (h (IsUtf8-from_is_utf8 bs e))

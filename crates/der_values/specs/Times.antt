@@ -1,5 +1,6 @@
 -- Text of times, as ISO 8601 writes them with its marks.
 use Rattle.std.specs.Prelude.{◌≡◌, ◌⊎◌, ◌==◌, ◌&&◌, ◌||◌, ℕ, ◌+◌, ◌-◌, ◌*◌, nat_lt, Bool, true, if◌then◌else◌}
+use Rattle.asn1_headers.specs.declared.tags.TheConstants.{UTC_TIME, GENERALIZED_TIME}
 use Rattle.std.specs.Prelude.{List, [], ◌∷◌, ◌++◌, codes, get_or, length, replicate, slice_index}
 use Rattle.std.specs.Char.{is_ascii_digit}
 use Rattle.std.specs.List.{list_all}
@@ -51,11 +52,11 @@ is_clock tag clock =
     if length clock == 4
     then is_below 24 (slice_index clock 0) (slice_index clock 1) && is_below 60 (slice_index clock 2)
     (slice_index clock 3)
-    else (tag == 24) && (length clock == 2) && is_below 24 (slice_index clock 0) (slice_index clock 1)
+    else (tag == GENERALIZED_TIME) && (length clock == 2) && is_below 24 (slice_index clock 0) (slice_index clock 1)
 
 -- `Z`, or a sign with a difference; nothing in a GeneralizedTime of local time
 abbrev pub is_zone : ℕ → List ℕ → Bool
-is_zone tag [] = tag == 24
+is_zone tag [] = tag == GENERALIZED_TIME
 is_zone tag (first ∷ clock) =
     if first == byte "Z" then length clock == 0
     else ((first == byte "+") || (first == byte "-")) && is_clock tag clock
@@ -64,19 +65,19 @@ is_zone tag (first ∷ clock) =
 abbrev pub is_fraction : ℕ → List ℕ → Bool
 is_fraction tag [] = true
 is_fraction tag (mark ∷ digits) =
-    (tag == 24) && ((mark == byte ".") || (mark == byte ",")) && nat_lt 0 (length digits)
+    (tag == GENERALIZED_TIME) && ((mark == byte ".") || (mark == byte ",")) && nat_lt 0 (length digits)
     && list_all is_ascii_digit digits
 
 -- the digits of a date and a time with those of the century, which a UTCTime leaves out: 19 for years from 50 on, else
 -- 20 (RFC 5280, 4.1.2.5.1)
 abbrev pub full_digits : ℕ → List ℕ → List ℕ
 full_digits tag digits =
-    if tag == 24 then digits
+    if tag == GENERALIZED_TIME then digits
     else (if nat_lt (get_or digits 0 0) (byte "5") then codes "20" else codes "19") ++ digits
 
 -- how many these are: to the second, or to the minute; in a GeneralizedTime also to the hour
 abbrev pub is_size : ℕ → ℕ → Bool
-is_size tag size = (size == 14) || (size == 12) || ((tag == 24) && (size == 10))
+is_size tag size = (size == 14) || (size == 12) || ((tag == GENERALIZED_TIME) && (size == 10))
 
 -- with a 0 for each digit that is left out, and `Z`, they are a GeneralizedTime that the library reads
 abbrev pub AreDateTime : ℕ → List ℕ → Type 0
@@ -87,7 +88,7 @@ AreDateTime tag digits =
 
 -- contents octets of a UTCTime, of tag 23, or a GeneralizedTime, of tag 24
 pub record IsTime (tag : ℕ) (contents : List ℕ) : Type 0 where
-  pub tag_is : (tag ≡ 23) ⊎ (tag ≡ 24)
+  pub tag_is : (tag ≡ UTC_TIME) ⊎ (tag ≡ GENERALIZED_TIME)
   pub digits : List ℕ
   pub fraction : List ℕ
   pub zone : List ℕ

@@ -6,12 +6,9 @@ ghost use Rattle.der_values.specs.Times.{AreDateTime, IsTime, full_digits as ful
 ghost use Rattle.der_values.specs.Times.{is_clock as is_clock_is, is_fraction as is_fraction_is};
 ghost use Rattle.der_values.specs.Times.{is_size as is_size_is, is_zone as is_zone_is};
 
+use asn1_headers::tags::{GENERALIZED_TIME, UTC_TIME};
 use asn1_leaves::contents::generalized_time;
 use std::alloc::{AllocError, Global};
-
-const UTC_TIME: u64 = 23;
-
-const GENERALIZED_TIME: u64 = 24;
 
 // How many digits a date and a time have, to the second.
 const ALL_DIGITS: usize = 14;

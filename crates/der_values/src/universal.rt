@@ -7,41 +7,15 @@ ghost use Rattle.der_values.specs.Strings.{is_iri as is_iri_is, is_numeric as is
 ghost use Rattle.der_values.specs.Strings.{is_printed as is_printed_is, is_string as is_string_is};
 
 use asn1_headers::error::ASN1DecodeErr;
+use asn1_headers::tags::{
+    DATE, DATE_TIME, DURATION, GENERAL_STRING, GRAPHIC_STRING, NUMERIC_STRING, OBJECT_DESCRIPTOR,
+    OID_IRI, PRINTABLE_STRING, REAL, RELATIVE_OID, RELATIVE_OID_IRI, TIME, TIME_OF_DAY,
+    VIDEOTEX_STRING,
+};
 use asn1_leaves::contents::object_identifier;
 use asn1_numbers::number::big_int::BigInt;
 use std::alloc::{AllocError, Global};
 use std::str;
-
-// The tags of X.680 8.4, table 1.
-const OBJECT_DESCRIPTOR: u64 = 7;
-
-const REAL: u64 = 9;
-
-const RELATIVE_OID: u64 = 13;
-
-const TIME: u64 = 14;
-
-const NUMERIC_STRING: u64 = 18;
-
-const PRINTABLE_STRING: u64 = 19;
-
-const VIDEOTEX_STRING: u64 = 21;
-
-const GRAPHIC_STRING: u64 = 25;
-
-const GENERAL_STRING: u64 = 27;
-
-const DATE: u64 = 31;
-
-const TIME_OF_DAY: u64 = 32;
-
-const DATE_TIME: u64 = 33;
-
-const DURATION: u64 = 34;
-
-const OID_IRI: u64 = 35;
-
-const RELATIVE_OID_IRI: u64 = 36;
 
 /// The characters of contents octets with this tag of class Universal, where it is that of a string that the library
 /// does not read: of an ObjectDescriptor, a VideotexString, a GraphicString, a VisibleString, a GeneralString if all

@@ -1,11 +1,11 @@
 -- For `leaf::teletex_value`: what it returns is right.
 use Rattle.std.proofs.Common.{refl}
 use Rattle.asn1_leaves.specs.StringKind.{teletex}
-use Rattle.der_contents.proofs.Wide.{IfErr-text_fault, no_wide}
+use Rattle.der_contents.proofs.Wide.{IfErr-text_fault, and-not_empty_false}
 use Rattle.der_contents.proofs.leaf.teletex_value.Goals as goal
 
 pub returns-clause-found : goal.returns-clause-found
-returns-clause-found c = (no_wide c.args.contents.now, (teletex, (refl, refl, c.in_ok-text.ensures.found)))
+returns-clause-found c = (and-not_empty_false c.args.contents.now, (teletex, (refl, refl, c.in_ok-text.ensures.found)))
 
 pub returns-in_err-text-clause-refused : goal.returns-in_err-text-clause-refused
 returns-in_err-text-clause-refused c =

@@ -1,11 +1,11 @@
 -- For `leaf::utf8_value`: what it returns is right.
 use Rattle.std.proofs.Common.{refl}
 use Rattle.asn1_leaves.specs.StringKind.{utf8}
-use Rattle.der_contents.proofs.Wide.{IfErr-text_fault, no_wide}
+use Rattle.der_contents.proofs.Wide.{IfErr-text_fault, and-not_empty_false}
 use Rattle.der_contents.proofs.leaf.utf8_value.Goals as goal
 
 pub returns-clause-found : goal.returns-clause-found
-returns-clause-found c = (no_wide c.args.contents.now, (utf8, (refl, refl, c.in_ok-text.ensures.found)))
+returns-clause-found c = (and-not_empty_false c.args.contents.now, (utf8, (refl, refl, c.in_ok-text.ensures.found)))
 
 pub returns-in_err-text-clause-refused : goal.returns-in_err-text-clause-refused
 returns-in_err-text-clause-refused c =

@@ -5,7 +5,7 @@ use Rattle.der_lines.specs.Dump.{AreFaultLines}
 use Rattle.der_rows.proofs.Printed.{IsPrinted-append}
 use Rattle.der_rows.specs.Printing.{IsPrinted}
 use Rattle.der_lines.specs.Steps.{mark_offsets}
-use Rattle.der_lines.proofs.Dumps.{fault_line, fault_lines_join}
+use Rattle.der_lines.proofs.Dumps.{AreFaultLines-one, AreFaultLines-append}
 use Rattle.der_lines.proofs.document.push_marks.Goals as goal
 
 pub loop-mark-preserved : goal.loop-mark-preserved
@@ -23,6 +23,6 @@ loop-mark-preserved g c =
     c.args.printer.now
     c.loop-mark.printer
     c.push_mark_line.new.printer
-    (λ text line lines last. fault_lines_join (mark_offsets (take i marks)) (mark.offset ∷ []) text line lines
-    (fault_line mark.offset line last))
+    (λ text line lines last. AreFaultLines-append (mark_offsets (take i marks)) (mark.offset ∷ []) text line lines
+    (AreFaultLines-one mark.offset line last))
     c.loop-mark.invariant c.in_ok-push_mark_line.ensures)

@@ -1,5 +1,5 @@
 -- For the cycle `encodings` of `encodings`: its loop keeps its invariant and what it returns is right.
-use Rattle.std.proofs.Common.{◌≡◌, ◌+◌, [], ap, arith, refl, subst, sym}
+use Rattle.std.proofs.Common.{◌≡◌, ◌∙◌, ◌+◌, [], ap, arith, refl, sym}
 use Rattle.std.specs.Prelude.{None}
 use Rattle.der_lines.specs.Dump.{no_lines, no_more}
 use Rattle.std.proofs.lemmas.Result.{IfOk-weaker}
@@ -8,18 +8,19 @@ use Rattle.der_pieces.specs.Pieces.{Passes, kind_header}
 use Rattle.der_pieces.specs.Steps.{IsAhead}
 use Rattle.der_lines.specs.Steps.{earlier_fault, mark_offsets}
 use Rattle.der_rows.proofs.Printed.{IsPrinted-append, IsPrinted-nil, IsPrinted-weaker}
-use Rattle.der_lines.proofs.Fronts.{ShownTo, shown_all, shown_more, shown_none}
+use Rattle.der_lines.proofs.Fronts.{ShownKept, kept_marks-nil, shown_all, shown_more, shown_none}
 use Rattle.der_lines.proofs.Fronts.{nested_adds}
 use Rattle.der_lines.proofs.encodings.+encodings.Goals as goal
 
 pub push_encodings-loop-walk-init : goal.push_encodings-loop-walk-init
 push_encodings-loop-walk-init g t c =
     let o = c.in_ok-walk.ensures in
-    IsPrinted-nil g.W.Write.contents (ShownTo c.args.place c.args.octets.now c.in_ok-walk.walk None _)
-    c.args.printer.now
-    (subst (λ m. ShownTo c.args.place c.args.octets.now c.in_ok-walk.walk None m [])
-    (sym (ap mark_offsets c.new.ensures.items))
-    (shown_none c.args.place c.args.octets.now c.in_ok-walk.walk o.octets o.place o.ahead))
+    IsPrinted-nil g.W.Write.contents
+    (ShownKept c.args.is_strict c.args.place c.args.octets.now c.in_ok-walk.walk None _) c.args.printer.now (
+      [],
+      ap mark_offsets c.new.ensures.items ∙ sym (kept_marks-nil c.args.is_strict),
+      shown_none c.args.place c.args.octets.now c.in_ok-walk.walk o.octets o.place o.ahead,
+    )
 
 pub push_encodings-loop-walk-preserved : goal.push_encodings-loop-walk-preserved
 push_encodings-loop-walk-preserved g t c =
@@ -29,10 +30,11 @@ push_encodings-loop-walk-preserved g t c =
     let piece = c.in-Some.piece in
     let p : Passes c.loop-walk.walk c.next.new.self piece = rw c.in-Some.is at c.in_ok-piece.ensures.passes in
     let k = c.in_ok-keep.ensures in
-    let all = IsPrinted-append g.W.Write.contents _ _ (ShownTo place octets c.next.new.self
+    let all = IsPrinted-append g.W.Write.contents _ _ (ShownKept c.args.is_strict place octets c.next.new.self
     (earlier_fault found.fault piece.fault) _)
     c.args.printer.now c.loop-walk.printer c.push_piece.new.printer
-    (λ text own s put. shown_more place octets c.loop-walk.walk c.next.new.self piece found.fault _ _ _ text own p
+    (λ text own s put. shown_more c.args.is_strict place octets c.loop-walk.walk c.next.new.self piece found.fault
+    _ _ _ text own p
     k.marks
     c.requires s put) c.loop-walk.invariant (c.in_ok-inside.ensures p.left p.holding)
     in
@@ -42,15 +44,14 @@ pub push_encodings-returns : goal.push_encodings-returns
 push_encodings-returns g t c =
     let ended : IsAhead c.loop-walk.walk.cursor [] [] = rw c.in_default.is at c.in_ok-piece.ensures.passes in
     IsPrinted-weaker g.W.Write.contents _ _ c.args.printer.now c.loop-walk.printer
-    (λ text. shown_all c.args.place c.args.octets.now c.loop-walk.walk c.loop-walk.found text ended)
+    (λ text. shown_all c.args.is_strict c.args.place c.args.octets.now c.loop-walk.walk c.loop-walk.found text ended)
     c.loop-walk.invariant
 
 pub push_nested-returns-in_default : goal.push_nested-returns-in_default
 push_nested-returns-in_default g t c = λ left holding.
     IsPrinted-nil g.W.Write.contents _ c.args.printer.now (
       no_lines refl refl,
-      no_more refl
-          (ap mark_offsets c.new.ensures.items),
+      ([], no_more refl refl, ap mark_offsets c.new.ensures.items ∙ sym (kept_marks-nil c.args.is_strict)),
     )
 
 pub push_nested-returns : goal.push_nested-returns
@@ -69,7 +70,7 @@ push_nested-returns g t c = λ left holding.
       c.in_ok-document_offset.ensures,
       c.header_size.ensures,
     ) in
-    nested_adds g.W.Write.contents c.in_ok-inside.inside left piece nested.octets.now nested.before
+    nested_adds g.W.Write.contents c.args.is_strict c.in_ok-inside.inside left piece nested.octets.now nested.before
     c.in_ok-found.found c.args.printer.now
     c.push_encodings.new.printer stands i.inside base
     c.in_ok-found.ensures
@@ -79,7 +80,8 @@ push_piece-returns g t c =
     let piece = c.args.piece.now in
     IfOk-weaker c.push_nested.result _ _
     (λ marks inside left holding.
-    IsPrinted-append g.W.Write.contents _ _ (IsPieceDump left piece (mark_offsets marks.items)) c.args.printer.now
+    IsPrinted-append g.W.Write.contents _ _ (IsPieceDump c.args.is_strict left piece (mark_offsets marks.items))
+    c.args.printer.now
     c.push_row.new.printer
     c.push_nested.new.printer
     (λ first rest line more. record

@@ -3,7 +3,7 @@ use Rattle.std.proofs.Common.{◌+◌, ◌*◌}
 use Rattle.der_rows.specs.Printing.{IsPrinted}
 use Rattle.der_lines.specs.Steps.{mark_offsets}
 use Rattle.der_elements.specs.Steps.{to_go}
-use Rattle.der_lines.proofs.Fronts.{ShownTo}
+use Rattle.der_lines.proofs.Fronts.{ShownKept}
 use Rattle.der_lines.proofs.encodings.+encodings.Given as goal
 
 abbrev pub decreases-push_nested : goal.decreases-push_nested
@@ -18,9 +18,8 @@ decreases-push_encodings g l = 3 * l.place.documents + 2
 -- the lines of the pieces before the walk were put
 abbrev pub invariant-push_encodings-loop-walk : goal.invariant-push_encodings-loop-walk
 invariant-push_encodings-loop-walk g l =
-    IsPrinted g.W.Write.contents (ShownTo l.fn.place l.fn.octets l.walk l.found.fault
-    (mark_offsets l.found.marks.items)) l.fn.printer
-    l.printer
+    IsPrinted g.W.Write.contents (ShownKept l.fn.is_strict l.fn.place l.fn.octets l.walk l.found.fault
+    (mark_offsets l.found.marks.items)) l.fn.printer l.printer
 
 abbrev pub decreases-push_encodings-loop-walk : goal.decreases-push_encodings-loop-walk
 decreases-push_encodings-loop-walk g l = to_go l.walk.cursor

@@ -4,9 +4,10 @@ use Rattle.std.specs.Option.{is_some}
 use Rattle.der_pieces.specs.Fronts.{is_too_deep}
 use Rattle.der_lines.specs.MarkText.{mark_text}
 use Rattle.der_pieces.specs.Marks.{breaches_of}
-use Rattle.der_lines.specs.PieceRows.{shown_front}
+use Rattle.der_lines.specs.PieceRows.{IsPieceText, shown_front}
 use Rattle.der_lines.proofs.Dumps.{nothing_deep, row_line_of, row_printed}
 use Rattle.der_lines.proofs.Shown.{mark_shown, type_shown}
+use Rattle.der_lines.proofs.Meanings.{piece_shown}
 use Rattle.der_pieces.specs.Pieces.{kind_words}
 use Rattle.der_rows.proofs.OneLine.{on_one_line-shown}
 use Rattle.der_rows.specs.Printing.{Prints}
@@ -40,6 +41,7 @@ returns g c =
       mark = c.deref-3.result;
     } in
     let fault : is_some row.fault ≡ is_some piece.fault = c.as_deref.ensures.variant ∙ c.requires.fault in
+    let shown = subst (IsPieceText piece) (sym c.deref-2.ensures) c.requires.value in
     let text = mark_text (breaches_of piece.breaches.rules.items piece.breaches.has_spare_bits) in
     let mark = c.deref-3.ensures.value ∙ (c.in_ok-push_mark.ensures ∙ ap (λ z. z ++ text) c.new-mark.ensures.items) in
     let mark_line = ap on_one_line mark
@@ -52,4 +54,5 @@ returns g c =
     (subst (λ z. Prints g.W.Write.contents (z ∷ []) (row_line row ++ 10 ∷ []) c.args.printer.now c.push.new.self) fault
     c.in_ok-push.ensures)
     (row_line_of place.is_inside row (shown_front piece) refl c.in_ok-document_offset.ensures c.header_size.ensures
-    c.contents_size.ensures c.is_indefinite.ensures refl words_line mark_line)
+    c.contents_size.ensures c.is_indefinite.ensures refl words_line mark_line
+    (piece_shown (λ message. message.now) piece c.deref-2.result.now row.fault shown c.requires.right fault))

@@ -12,7 +12,7 @@ loop-rule-init c = record { some = refl; put = sym (append-nil c.args.out.now.it
 pub loop-rule-preserved : goal.loop-rule-preserved
 loop-rule-preserved c =
     let (some, put) =
-    put_at breach_of c.args.told.now c.loop-rule.rule-index _ c.loop-rule.is_later c.args.out.now.items
+    put_at breach_of c.args.rules.now c.loop-rule.rule-index _ c.loop-rule.is_later c.args.out.now.items
     c.loop-rule.out.items c.push_separator.new.out.items c.push_text.new.out.items c.loop-rule-test.true
     c.loop-rule.invariant.some c.loop-rule.invariant.put c.in_ok-push_separator.ensures c.in_ok-push_text.ensures
     in
@@ -20,6 +20,6 @@ loop-rule-preserved c =
 
 pub returns : goal.returns
 returns c =
-    let told = c.args.told.now in
+    let rules = c.args.rules.now in
     subst (λ z. c.loop-rule.out.items ≡ c.args.out.now.items ++ words_text false (map breach_of z))
-    (take_all c.loop-rule.rule-index told (omega arith)) c.loop-rule.invariant.put
+    (take_all c.loop-rule.rule-index rules (omega arith)) c.loop-rule.invariant.put

@@ -6,14 +6,14 @@ use Rattle.der_pieces.proofs.Breach.{described_at}
 use Rattle.der_pieces.proofs.marks.described_rules.Goals as goal
 
 pub loop-rule-init : goal.loop-rule-init
-loop-rule-init c = ap (map breach_of) c.new-told.ensures.items
+loop-rule-init c = ap (map breach_of) c.new-broken.ensures.items
 
 pub loop-rule-preserved : goal.loop-rule-preserved
 loop-rule-preserved c =
-    described_at c.args.rules.now c.loop-rule.rule-index _ c.loop-rule.told.items _ c.rule_breach.result
+    described_at c.args.rules.now c.loop-rule.rule-index _ c.loop-rule.broken.items _ c.rule_breach.result
     c.loop-rule-test.true c.rule_breach.ensures c.in_ok-push.ensures.items c.loop-rule.invariant
 
 pub returns : goal.returns
 returns c =
-    subst (λ z. map breach_of c.loop-rule.told.items ≡ map rule_breach z)
+    subst (λ z. map breach_of c.loop-rule.broken.items ≡ map rule_breach z)
     (take_all c.loop-rule.rule-index c.args.rules.now (omega arith)) c.loop-rule.invariant

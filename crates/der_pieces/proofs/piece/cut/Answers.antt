@@ -1,6 +1,6 @@
 -- For `piece::cut`: what it returns is right.
 use Rattle.std.proofs.Common.{refl, subst, sym}
-use Rattle.std.specs.Prelude.{Some}
+use Rattle.std.specs.Prelude.{None, Some}
 use Rattle.asn1_headers.specs.Fault.{incomplete}
 use Rattle.der_pieces.specs.Pieces.{fault_offset}
 use Rattle.der_pieces.specs.Steps.{StartsWith, header_front}
@@ -14,8 +14,9 @@ returns c =
     record {
       starts = λ depth.
           let faults = fault_offset (Some c.in_ok-fault_at.field-0) in
-          subst (λ z. StartsWith c.args.left.now c.args.offset depth (header_front c.args.offset depth z c.args.header)
-          c.step_of-step.result faults) (sym c.none.ensures.rules)
+          subst (λ z. StartsWith c.args.left.now c.args.offset depth
+          (header_front c.args.offset depth z None c.args.header) c.step_of-step.result faults)
+          (sym c.none.ensures.rules)
           (cut_starts c.args.left.now c.args.offset depth c.args.header c.step_of-step.result faults r.front r.cut
           r.form c.step_of-step.ensures (named_at c.args.offset incomplete (Some c.in_ok-fault_at.field-0) named));
       kind = (r.front, r.cut, c.split_at.ensures.back, named);

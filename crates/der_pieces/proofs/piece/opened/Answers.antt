@@ -1,5 +1,6 @@
 -- For `piece::opened`: what it returns is right.
-use Rattle.std.proofs.Common.{ap, refl, slice_range}
+use Rattle.std.proofs.Common.{ap, inl, refl, slice_range}
+use Rattle.std.specs.Prelude.{None}
 use Rattle.der_pieces.proofs.Pieces.{opened_judged, whole_rules, whole_starts}
 use Rattle.der_pieces.proofs.piece.opened.Goals as goal
 
@@ -13,9 +14,9 @@ returns c =
     let first = whole_rules left header rules r.whole c.in_ok-breaches.ensures.rules in
     let fault = c.in_ok-fault.ensures r.front in
     record {
-      starts = λ depth. whole_starts left offset depth rules header c.size_of-size.result c.step_of-step.result _
-          r.front
-          r.form (opened_judged left offset depth rules header _ r.front r.whole r.opened fault) first
+      starts = λ depth. whole_starts left offset depth rules None header c.size_of-size.result
+          c.step_of-step.result _ r.front r.form
+          (opened_judged left offset depth rules header _ r.front r.whole r.opened fault) (inl r.opened) first
           c.step_of-step.ensures c.size_of-size.ensures;
       kind = (
         r.front,

@@ -7,4 +7,4 @@ pub returns : goal.returns
 returns c =
     let spare = spare_if c.args.self.now.has_spare_bits in
     c.in_ok-push_spare.ensures
-    ∙ ap (λ z. z ++ spare) (c.in_ok-told.ensures ∙ ap (map rule_breach) c.deref.ensures.value)
+    ∙ ap (λ z. z ++ spare) (c.in_ok-broken.ensures ∙ ap (map rule_breach) c.deref.ensures.value)

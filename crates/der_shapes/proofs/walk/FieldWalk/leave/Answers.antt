@@ -9,3 +9,11 @@ invariant_of-self c =
       path = path_left walk.shapes.now walk.all walk.frames.items c.pop.new.self.items c.pop.result c.pop.ensures.items
           walk.path;
     }
+
+pub invariant_of-self-in-loop-self : goal.invariant_of-self-in-loop-self
+invariant_of-self-in-loop-self c =
+    let walk = c.loop-self.self in
+    record {
+      path = path_left walk.shapes.now walk.all walk.frames.items c.pop.new.self.items c.pop.result c.pop.ensures.items
+          walk.path;
+    }

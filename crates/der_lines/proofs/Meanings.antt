@@ -1,0 +1,49 @@
+-- The text of a row that has a value is that of its value, for `encodings::push_row`.
+use Rattle.std.proofs.Common.{◌≡◌, ℕ, false, List, [], ◌++◌, ap, append-nil, refl, ◌∙◌}
+use Rattle.std.specs.Prelude.{IfSome, None, Option, Some, is_some, option_map, unwrap_or}
+use Rattle.der_lines.specs.Dump.{IsMeaningText}
+use Rattle.der_lines.specs.PieceRows.{IsKindText, IsPieceText}
+use Rattle.der_lines.specs.ValueText.{parenthesized_if}
+use Rattle.der_lines.specs.declared.values.ValueStyle.{ValueStyle}
+use Rattle.der_pieces.proofs.FieldPaths.{IfSome-weaker}
+use Rattle.der_pieces.specs.Pieces.{kind_meaning}
+use Rattle.der_pieces.specs.declared.piece.Kind.{Kind}
+use Rattle.der_pieces.specs.declared.piece.Kind.TheVariants.{Cut, EndOfContents, Leaf, Opened, Unreadable}
+use Rattle.der_pieces.specs.declared.piece.Piece.{Piece}
+use Rattle.der_rows.specs.Rows.{on_one_line}
+
+-- what does not stand there has no message
+unwrap_or-none : {A : Type 0} (text : A → List ℕ) (fault : Option A) → is_some fault ≡ false →
+    unwrap_or (option_map text fault) [] ≡ []
+unwrap_or-none text None none = refl
+unwrap_or-none text (Some fault) none = absurd (cc none)
+
+-- the text of a piece of the kind, and its message
+kind_shown :
+    (style : ValueStyle) (kind : Kind) (value text message : List ℕ) (name : Option (List ℕ)) →
+    IsKindText style kind value → text ≡ value ++ parenthesized_if name →
+    IfSome (kind_meaning kind) (λ _. message ≡ []) →
+    IfSome (kind_meaning kind) (λ meaning. IsMeaningText meaning (on_one_line text ++ on_one_line message))
+kind_shown style (EndOfContents size) value text message name is e none = tt
+kind_shown style (Unreadable octets) value text message name is e none = tt
+kind_shown style (Cut header contents) value text message name is e none = tt
+kind_shown style (Opened header contents joined) value text message name is e none = tt
+kind_shown style (Leaf header contents None) value text message name is e none = tt
+kind_shown style (Leaf header contents (Some v)) value text message name is e none = record {
+  style = style;
+  value = value;
+  name = name;
+  value_is = is;
+  text_is = ap (λ z. on_one_line text ++ on_one_line z) none
+      ∙ (append-nil (on_one_line text) ∙ ap on_one_line e);
+}
+
+-- what stands behind the type in the row of a piece, with the message of the row's fault
+pub piece_shown :
+    {A : Type 0} (words : A → List ℕ) (piece : Piece) (text : List ℕ) (fault : Option A) → IsPieceText piece text →
+    IfSome (kind_meaning piece.kind) (λ _. piece.fault ≡ None) → is_some fault ≡ is_some piece.fault →
+    IfSome (kind_meaning piece.kind) (λ meaning.
+    IsMeaningText meaning (on_one_line text ++ on_one_line (unwrap_or (option_map words fault) [])))
+piece_shown words piece text fault (style, value, name, of, is, e) right same =
+    kind_shown style piece.kind value text (unwrap_or (option_map words fault) []) name is e
+    (IfSome-weaker (kind_meaning piece.kind) _ _ (λ m none. unwrap_or-none words fault (same ∙ ap is_some none)) right)
