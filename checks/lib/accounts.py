@@ -13,31 +13,26 @@ LABEL = 20
 NAMES = ["-nameopt", "RFC2253,utf8,-esc_msb"]
 
 
-def openssl(file, *words):
-    said = subprocess.run(["openssl", "x509", "-inform", "DER", "-in", file, "-noout", *words], capture_output=True)
-    return said.stdout.decode().strip()
-
-
-def behind_sign(text):
-    return text.partition("=")[2].strip()
-
-
 def moment(text):
     """A date as openssl has it, `May  5 09:37:37 2011 GMT`, as accounts have it."""
-    return datetime.datetime.strptime(behind_sign(text), "%b %d %H:%M:%S %Y GMT").strftime("%Y-%m-%dT%H:%M:%SZ")
+    return datetime.datetime.strptime(text, "%b %d %H:%M:%S %Y GMT").strftime("%Y-%m-%dT%H:%M:%SZ")
 
 
 def wanted(file):
     """What openssl says, by the labels of an account."""
+    words = ["-subject", "-issuer", "-serial", "-startdate", "-enddate", "-fingerprint", "-sha256", *NAMES]
+    said = subprocess.run(["openssl", "x509", "-inform", "DER", "-in", file, "-noout", *words, "-ext", "subjectAltName"],
+                          capture_output=True).stdout.decode().splitlines()
+    told = {label: text.strip() for label, _, text in (line.partition("=") for line in said[:6])}
     lines = {
-        "subject": behind_sign(openssl(file, "-subject", *NAMES)),
-        "issuer": behind_sign(openssl(file, "-issuer", *NAMES)),
-        "serial number": behind_sign(openssl(file, "-serial")),
-        "not before": moment(openssl(file, "-startdate")),
-        "not after": moment(openssl(file, "-enddate")),
-        "SHA-256": behind_sign(openssl(file, "-fingerprint", "-sha256")).replace(":", ""),
+        "subject": told["subject"],
+        "issuer": told["issuer"],
+        "serial number": told["serial"],
+        "not before": moment(told["notBefore"]),
+        "not after": moment(told["notAfter"]),
+        "SHA-256": told["sha256 Fingerprint"].replace(":", ""),
     }
-    names = openssl(file, "-ext", "subjectAltName").splitlines()[1:]
+    names = said[7:]
     # openssl has the name of a directory in another form than those of subjects
     if names and not any("DirName" in line for line in names):
         lines["alternative names"] = ", ".join(map(str.strip, names))

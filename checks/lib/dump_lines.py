@@ -1,8 +1,8 @@
 """What der_dump writes with --json: dump_lines.py PROGRAM WORK FOLDER
 
 Each line keeps to docs/dump.schema.json and has what a dump shows, crates/der_dump/rebuild.py makes documents of lines,
-and the examples of docs/DUMP.md for jq show what openssl shows, of each certificate of the folder. `checks/json` runs
-it.
+--extract takes the offset of each row, and the examples of docs/DUMP.md for jq show what openssl shows, of each
+certificate of the folder. `checks/json` runs it.
 """
 import copy
 import json
@@ -14,6 +14,7 @@ import subprocess
 import sys
 import textwrap
 from certificates import certificates
+from extracted import check_extracted
 from x690 import encoding, nested
 
 TOP = pathlib.Path(__file__).resolve().parent.parent.parent
@@ -421,6 +422,14 @@ def check_ber(dump, documents):
     tell(f"rebuild.py was run on {len(documents)} documents with indefinite lengths")
 
 
+def check_offsets(dump, documents, lines):
+    """--extract takes the offset of each row."""
+    faults, blocks, others = check_extracted(dump, documents, lines)
+    for fault in faults if blocks else ["--extract wrote no block"]:
+        fail(fault)
+    tell(f"--extract wrote the blocks of {blocks} rows, and told {others} others, of documents of few rows")
+
+
 def rebuilt(lines):
     ran = subprocess.run([sys.executable, TOP / "crates/der_dump/rebuild.py"], input=lines, capture_output=True)
     return ran.returncode, ran.stdout, ran.stderr.decode()
@@ -581,6 +590,7 @@ def main():
     check_told(documents, lines, strict)
     check_rebuilt(dump, documents, lines)
     check_ber(dump, indefinite)
+    check_offsets(dump, documents, lines)
     check_program(dump, roots)
     check_examples(program, work, roots)
     tell(f"{len(documents)} inputs, {wrong} wrong")

@@ -138,7 +138,7 @@ for name, record in records.items():
         wanted.append(f"{name}.{field[0]} {place.offset} {place.size}")
 same("the header's and Python's records", found, wanted)
 
-source = "".join((top / "crates/simple_asn1_c/src" / name).read_text() for name in ("record.rt", "fault.rt"))
+source = "".join((top / "crates/simple_asn1_c/src" / name).read_text() for name in ("record.rt", "first_fault.rt"))
 answers = {
     "IntegerAnswer": "integer", "MomentAnswer": "moment", "SignedAnswer": "signed_parts", "FaultAnswer": "refusal",
     "DepartureRecord": "departure",
