@@ -6,7 +6,7 @@ use Rattle.std.proofs.Math.ListN.{drop_of_length-le}
 use Rattle.asn1_headers.specs.Header.{BeginsWithNo, IsIdentifier, IsLength, IsSomeIdentifier}
 use Rattle.asn1_blocks.specs.Places.{EncodingAt, IsEncoding, TreeAt}
 use Rattle.asn1_blocks.proofs.Slices.{EncodingAt-tree_octets}
-use Rattle.asn1_headers.proofs.Prefixes.{identifier_alone, length_alone, encoding_some, identifier_some}
+use Rattle.asn1_headers.proofs.Prefixes.{IsIdentifier-unique, IsLength-unique, Encoding-not_empty, IsIdentifier-not_empty}
 use Rattle.asn1_blocks.proofs.Faults.{IsLength-first, append-encoding_parts}
 
 -- no encoding stands where there are no identifier octets
@@ -31,7 +31,8 @@ split-identifier :
 split-identifier octets i tag (_, _, t) x rest e p =
     let f = p.encoding in
     let w = append-encoding_parts octets x rest p.class p.constructed p.tag p.contents p.header f e in
-    let q = identifier_alone (take i octets) f.identifier (drop i octets) (f.len ++ (p.contents ++ rest)) _ _ _ _ _ _ t
+    let q = IsIdentifier-unique (take i octets) f.identifier (drop i octets)
+    (f.len ++ (p.contents ++ rest)) _ _ _ _ _ _ t
     f.identifier_octets
     (take-append-drop i octets ∙ w) in
     (q.octets, q.rest)
@@ -55,7 +56,7 @@ pub IsEncoding-not_cut_off :
 IsEncoding-not_cut_off octets i l m tag t le u few short x rest e p =
     let a = split-identifier octets i tag t x rest e p in
     let f = p.encoding in
-    let q = length_alone (take l (drop i octets)) f.len (drop l (drop i octets)) (p.contents ++ rest) m
+    let q = IsLength-unique (take l (drop i octets)) f.len (drop l (drop i octets)) (p.contents ++ rest) m
     (length p.contents) u f.length_octets
     (take-append-drop l (drop i octets) ∙ a.1) in
     omega (
@@ -105,7 +106,7 @@ EncodingAt-not_past_end document offset h octets p =
     let e : drop offset document ≡ [] = drop_of_length-le document (omega (arith, h)) in
     omega (
       arith,
-      encoding_some octets _ _ _ _ _ x.encoding,
+      Encoding-not_empty octets _ _ _ _ _ x.encoding,
       ap length (sym e ∙ p.at_offset),
       length-append octets p.rest,
     )
@@ -117,7 +118,7 @@ IsEncoding-two_le octets p =
     let (b, r, e) = IsLength-first f.len (length p.contents) f.length_octets in
     omega (
       arith,
-      identifier_some f.identifier p.class p.constructed p.tag f.identifier_octets,
+      IsIdentifier-not_empty f.identifier p.class p.constructed p.tag f.identifier_octets,
       ap length e,
       ap length f.whole,
       length-append f.identifier (f.len ++ p.contents),

@@ -13,7 +13,7 @@ use Rattle.asn1_headers.specs.HeaderFault.{HeaderFault, no_identifier, no_length
 use Rattle.asn1_blocks.specs.Grammar.{IsBlock, of_other_class, of_unknown_tag, of_leaf, of_group, AreBlocks, no_blocks, more_blocks, EncodesAll, BlocksFaultAt, in_header, in_contents, in_item}
 use Rattle.asn1_blocks.specs.Inner.BlockFault.{BlockFaultAt, at_header, at_leaf, at_item}
 use Rattle.asn1_blocks.proofs.Leaves.{leaf_tag-not_group_tag, LeafContents-no_fault, LeafFault-is_leaf_tag, is_known_tag-is_leaf_tag, is_leaf_tag-not_group_tag, is_known_tag-unknown}
-use Rattle.asn1_headers.proofs.Prefixes.{encoding_alone, identifier_alone, length_alone}
+use Rattle.asn1_headers.proofs.Prefixes.{Encoding-unique, IsIdentifier-unique, IsLength-unique}
 use Rattle.asn1_blocks.proofs.FaultyBlocks.{Encoding-append_not_empty}
 use Rattle.asn1_blocks.proofs.OneReading.{IsBlock-not_empty, IsBlock-encodes}
 use Rattle.asn1_blocks.proofs.BlockLists.{tree_count}
@@ -34,7 +34,7 @@ pub IsBlock-unique : (xs ys r q : List ℕ) → IsBlock xs → IsBlock ys → xs
 IsBlock-unique xs ys r q a b e =
     let F = IsEncoding-block xs a in
     let G = IsEncoding-block ys b in
-    let f = encoding_alone _ _ _ _ _ _ _ _ _ _ _ _ r q F.encoding G.encoding e in
+    let f = Encoding-unique _ _ _ _ _ _ _ _ _ _ _ _ r q F.encoding G.encoding e in
     (f.octets, f.rest)
 
 -- contents octets that are a block encode one tree
@@ -76,16 +76,16 @@ pub UniversalContents-block : (x : List ℕ) (k : Bool) (n : ℕ) (contents : Li
     Encoding x Universal k n contents h → IsBlock x
     → UniversalContents n contents
 UniversalContents-block x k n contents h f (of_other_class g ne) =
-    let s = encoding_alone _ _ _ _ _ _ _ _ _ _ _ _ [] [] f g refl in
+    let s = Encoding-unique _ _ _ _ _ _ _ _ _ _ _ _ [] [] f g refl in
     absurd (ne (sym s.class))
 UniversalContents-block x k n contents h f (of_unknown_tag g u) =
-    let s = encoding_alone _ _ _ _ _ _ _ _ _ _ _ _ [] [] f g refl in
+    let s = Encoding-unique _ _ _ _ _ _ _ _ _ _ _ _ [] [] f g refl in
     is_unknown (subst IsUnknownTag (sym s.tag) u)
 UniversalContents-block x k n contents h f (of_leaf g l t p) =
-    let s = encoding_alone _ _ _ _ _ _ _ _ _ _ _ _ [] [] f g refl in
+    let s = Encoding-unique _ _ _ _ _ _ _ _ _ _ _ _ [] [] f g refl in
     is_leaf l (s.tag ∙ t) (subst (LeafContents l) (sym s.contents) p)
 UniversalContents-block x k n contents h f (of_group g j t bs) =
-    let s = encoding_alone _ _ _ _ _ _ _ _ _ _ _ _ [] [] f g refl in
+    let s = Encoding-unique _ _ _ _ _ _ _ _ _ _ _ _ [] [] f g refl in
     is_group j (s.tag ∙ t) (subst AreBlocks (sym s.contents) bs)
 
 -- an encoding at the front, by its parts
@@ -123,13 +123,15 @@ HeaderFault-not_encoding offset octets x rest e c' k' n' contents h' (no_identif
     missing f.identifier (r ++ (contents ++ rest)) c' k' n' a f.identifier_octets
     (append-encoding_parts octets x rest _ _ _ _ _ f d ∙ ap (λ z. f.identifier ++ (z ++ (contents ++ rest))) l)
 HeaderFault-not_encoding offset octets x rest e c' k' n' contents h' (no_length s a r c k n t g missing h) small d f =
-    let q = identifier_alone s f.identifier (a ∷ r) (f.len ++ (contents ++ rest)) c c' k k' n n' t f.identifier_octets
+    let q = IsIdentifier-unique s f.identifier (a ∷ r) (f.len ++ (contents ++ rest)) c c' k k' n n' t
+    f.identifier_octets
     (sym g ∙ append-encoding_parts octets x rest _ _ _ _ _ f d) in
     missing f.len (contents ++ rest) (length contents) f.length_octets q.rest
 HeaderFault-not_encoding offset octets x rest e c' k' n' contents h' (too_far s l r c k n m t u g far h) small d f =
-    let q = identifier_alone s f.identifier (l ++ r) (f.len ++ (contents ++ rest)) c c' k k' n n' t f.identifier_octets
+    let q = IsIdentifier-unique s f.identifier (l ++ r) (f.len ++ (contents ++ rest)) c c' k k' n n' t
+    f.identifier_octets
     (sym g ∙ append-encoding_parts octets x rest _ _ _ _ _ f d) in
-    let v = length_alone l f.len r (contents ++ rest) m (length contents) u f.length_octets q.rest in
+    let v = IsLength-unique l f.len r (contents ++ rest) m (length contents) u f.length_octets q.rest in
     omega (
       arith,
       far,
@@ -143,9 +145,10 @@ HeaderFault-not_encoding offset octets x rest e c' k' n' contents h' (too_far s 
     )
 HeaderFault-not_encoding offset octets x rest e c' k' n' contents h'
     (too_long s l r c k n m t u g near long) small d f =
-    let q = identifier_alone s f.identifier (l ++ r) (f.len ++ (contents ++ rest)) c c' k k' n n' t f.identifier_octets
+    let q = IsIdentifier-unique s f.identifier (l ++ r) (f.len ++ (contents ++ rest)) c c' k k' n n' t
+    f.identifier_octets
     (sym g ∙ append-encoding_parts octets x rest _ _ _ _ _ f d) in
-    let v = length_alone l f.len r (contents ++ rest) m (length contents) u f.length_octets q.rest in
+    let v = IsLength-unique l f.len r (contents ++ rest) m (length contents) u f.length_octets q.rest in
     omega (arith, long, v.number, ap length v.rest, length-append contents rest)
 
 -- no block stands where a header is at fault
@@ -161,7 +164,7 @@ UniversalContents-front : (octets y r x rest : List ℕ) (k : Bool) (n : ℕ) (c
     → Encoding y Universal k n contents h → octets ≡ x ++ rest → IsBlock x → UniversalContents n contents
 UniversalContents-front octets y r x rest k n contents h g f d b =
     let F = IsEncoding-block x b in
-    let q = encoding_alone _ _ _ _ _ _ _ _ _ _ _ _ r rest f F.encoding (sym g ∙ d) in
+    let q = Encoding-unique _ _ _ _ _ _ _ _ _ _ _ _ r rest f F.encoding (sym g ∙ d) in
     UniversalContents-block y k n contents h f (subst IsBlock (sym q.octets) b)
 
 -- the contents octets of a leaf in a block are not at fault

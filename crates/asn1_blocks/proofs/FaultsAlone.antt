@@ -10,7 +10,7 @@ use Rattle.asn1_blocks.specs.Inner.BlockFault.{BlockFaultAt, at_header, at_leaf,
 use Rattle.asn1_blocks.specs.Contents.{LeafFault, group_tag}
 use Rattle.asn1_blocks.specs.declared.block.GroupKind.{GroupKind}
 use Rattle.asn1_blocks.proofs.Leaves.{LeafFault-is_leaf_tag, LeafFault-unique, is_leaf_tag-not_group_tag}
-use Rattle.asn1_headers.proofs.Prefixes.{encoding_alone, identifier_alone, length_alone}
+use Rattle.asn1_headers.proofs.Prefixes.{Encoding-unique, IsIdentifier-unique, IsLength-unique}
 use Rattle.asn1_blocks.proofs.FaultyBlocks.{BlocksFaultAt-faulty_block}
 use Rattle.asn1_blocks.proofs.Faults.{IsBlock-unique, length-contents_le, HeaderFault-not_encoding, BlockFaultAt-not_block, IsLength-first}
 
@@ -31,7 +31,7 @@ IsLength-not_without_length : (octets s s' l rest rest' : List ℕ) (b : ℕ) (c
     → ((l r : List ℕ) (m : ℕ) → IsLength l m → b ∷ rest ≡ l ++ r → ⊥) → IsIdentifier s' c' k' n' → IsLength l m
     → octets ≡ s' ++ (l ++ rest') → ⊥
 IsLength-not_without_length octets s s' l rest rest' b c c' k k' n n' m t g missing t' u g' =
-    missing l rest' m u (identifier_alone s s' (b ∷ rest) (l ++ rest') c c' k k' n n' t t' (sym g ∙ g')).rest
+    missing l rest' m u (IsIdentifier-unique s s' (b ∷ rest) (l ++ rest') c c' k k' n n' t t' (sym g ∙ g')).rest
 
 -- two headers at the front of one list are of one size and have one length
 IsLength-same_header : (octets s s' l l' rest rest' : List ℕ) (c c' : ASN1Class) (k k' : Bool) (n n' m m' : ℕ) →
@@ -40,8 +40,8 @@ IsLength-same_header : (octets s s' l l' rest rest' : List ℕ) (c c' : ASN1Clas
     → (length s + length l ≡ length s' + length l')
     × (m ≡ m')
 IsLength-same_header octets s s' l l' rest rest' c c' k k' n n' m m' t u g t' u' g' =
-    let q = identifier_alone s s' (l ++ rest) (l' ++ rest') c c' k k' n n' t t' (sym g ∙ g') in
-    let v = length_alone l l' rest rest' m m' u u' q.rest in
+    let q = IsIdentifier-unique s s' (l ++ rest) (l' ++ rest') c c' k k' n n' t t' (sym g ∙ g') in
+    let v = IsLength-unique l l' rest rest' m m' u u' q.rest in
     (omega (arith, ap length q.octets, ap length v.octets), v.number)
 
 -- a header has at most one fault
@@ -57,7 +57,7 @@ HeaderFault-unique offset octets e d (no_identifier none) (too_long s l r c k n 
 HeaderFault-unique offset octets e d (no_length s b r c k n t g shut h) (no_identifier none) =
     absurd (none s r c k n b t g)
 HeaderFault-unique offset octets e d (no_length s b r c k n t g shut h) (no_length s' b' r' c' k' n' t' g' shut' h') =
-    let q = identifier_alone s s' (b ∷ r) (b' ∷ r') c c' k k' n n' t t' (sym g ∙ g') in
+    let q = IsIdentifier-unique s s' (b ∷ r) (b' ∷ r') c c' k k' n n' t t' (sym g ∙ g') in
     h ∙ ap length_fault q.rest ∙ sym h'
 HeaderFault-unique offset octets e d (no_length s b r c k n t g shut h) (too_far s' l r' c' k' n' m t' u g' far h') =
     absurd (IsLength-not_without_length octets s s' l r r' b c c' k k' n n' m t g shut t' u g')
@@ -133,11 +133,11 @@ module _ (offset : ℕ) (octets x rest : List ℕ) (k : Bool) (n : ℕ) (content
     LeafFault-same_block_fault e d j l (at_header w) =
         absurd (HeaderFault-not_encoding offset octets x rest d _ _ _ _ _ w small whole f)
     LeafFault-same_block_fault e d j l (at_leaf x' rest' {tag = m} {contents = v} g f' l') =
-        let s = encoding_alone _ _ _ _ _ _ _ _ _ _ _ _ rest rest' f f' (sym whole ∙ g) in
+        let s = Encoding-unique _ _ _ _ _ _ _ _ _ _ _ _ rest rest' f f' (sym whole ∙ g) in
         let there = subst (λ z. LeafFault n z d) (sym s.contents) (subst (λ z. LeafFault z v d) (sym s.tag) l') in
         (LeafFault-unique n contents e d l there, refl)
     LeafFault-same_block_fault e d j l (at_item x' rest' g y f' p) =
-        let s = encoding_alone _ _ _ _ _ _ _ _ _ _ _ _ rest rest' f f' (sym whole ∙ g) in
+        let s = Encoding-unique _ _ _ _ _ _ _ _ _ _ _ _ rest rest' f f' (sym whole ∙ g) in
         absurd (is_leaf_tag-not_group_tag n y (LeafFault-is_leaf_tag n contents e l) s.tag)
 
     -- a fault in a group is one of its contents octets
@@ -146,10 +146,10 @@ module _ (offset : ℕ) (octets x rest : List ℕ) (k : Bool) (n : ℕ) (content
     BlockFaultAt-in_group i d j t (at_header w) =
         absurd (HeaderFault-not_encoding offset octets x rest d _ _ _ _ _ w small whole f)
     BlockFaultAt-in_group i d j t (at_leaf x' rest' {tag = m} {contents = v} g f' l) =
-        let s = encoding_alone _ _ _ _ _ _ _ _ _ _ _ _ rest rest' f f' (sym whole ∙ g) in
+        let s = Encoding-unique _ _ _ _ _ _ _ _ _ _ _ _ rest rest' f f' (sym whole ∙ g) in
         absurd (is_leaf_tag-not_group_tag m i (LeafFault-is_leaf_tag m v d l) (sym s.tag ∙ t))
     BlockFaultAt-in_group i d j t (at_item x' rest' {header = h'} {inside = o} g y f' p) =
-        let s = encoding_alone _ _ _ _ _ _ _ _ _ _ _ _ rest rest' f f' (sym whole ∙ g) in
+        let s = Encoding-unique _ _ _ _ _ _ _ _ _ _ _ _ rest rest' f f' (sym whole ∙ g) in
         (o, subst (λ z. BlocksFaultAt z d o) (sym s.contents) p, ap (λ z. z + o) (sym s.header))
 
 -- where blocks end and one is at fault, any fault is of that block

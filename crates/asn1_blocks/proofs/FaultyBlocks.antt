@@ -5,7 +5,7 @@ use Rattle.asn1_blocks.specs.Grammar.{AreBlocks, BlocksFaultAt, in_header, in_co
 use Rattle.asn1_blocks.specs.Inner.BlockFault.{BlockFaultAt, at_header, at_leaf, at_item}
 use Rattle.asn1_headers.specs.Header.{Encoding}
 use Rattle.asn1_headers.specs.declared.header.ASN1Class.{ASN1Class}
-use Rattle.asn1_headers.proofs.Prefixes.{encoding_some}
+use Rattle.asn1_headers.proofs.Prefixes.{Encoding-not_empty}
 
 -- the block at fault, and the blocks before it
 pub record FaultyBlock (octets : List ℕ) (e : DecodeFault) (offset : ℕ) : Type 0 where
@@ -23,7 +23,7 @@ pub Encoding-append_not_empty : (x rest : List ℕ) (c : ASN1Class) (k : Bool) (
     Encoding x c k n contents h
     → 0 < length (x ++ rest)
 Encoding-append_not_empty x rest c k n contents h f =
-    omega (arith, encoding_some x c k n contents h f, length-append x rest)
+    omega (arith, Encoding-not_empty x c k n contents h f, length-append x rest)
 
 -- where blocks are at fault, the first faulty block stands behind blocks
 pub BlocksFaultAt-faulty_block : (octets : List ℕ) (e : DecodeFault) (o : ℕ) → BlocksFaultAt octets e o →

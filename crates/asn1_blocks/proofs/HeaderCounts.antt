@@ -4,7 +4,7 @@ use Rattle.asn1_headers.specs.declared.header.ASN1Class.{ASN1Class}
 use Rattle.asn1_headers.specs.Header.{Encoding}
 use Rattle.asn1_blocks.specs.Grammar.{IsBlock, AreBlocks, no_blocks, more_blocks}
 use Rattle.asn1_blocks.specs.HeadersBegun.{IsReadInside, HeadersBegun, begun_none, begun_some, BegunInside, inside_first, nothing_inside, BegunAfter, after_first, nothing_after}
-use Rattle.asn1_headers.proofs.Prefixes.{encoding_alone, identifier_some, encoding_some}
+use Rattle.asn1_headers.proofs.Prefixes.{Encoding-unique, IsIdentifier-not_empty, Encoding-not_empty}
 use Rattle.asn1_blocks.proofs.OneReading.{IsBlock-not_empty}
 use Rattle.asn1_blocks.proofs.Faults.{IsEncoding-block, IsBlock-unique}
 
@@ -22,7 +22,7 @@ mutual
   -- one number of headers is begun inside the first encoding
   BegunInside-unique : (octets : List ℕ) (m n : ℕ) → BegunInside octets m → BegunInside octets n → m ≡ n
   BegunInside-unique octets m n (inside_first x r e F o B) (inside_first y q d G o' C) =
-      let s = encoding_alone _ _ _ _ _ _ _ _ _ _ _ _ r q F G (sym e ∙ d) in
+      let s = Encoding-unique _ _ _ _ _ _ _ _ _ _ _ _ r q F G (sym e ∙ d) in
       HeadersBegun-unique _ m n B (subst (λ z. HeadersBegun z n) (sym s.contents) C)
   BegunInside-unique octets m n (inside_first x r e F o B) (nothing_inside shut) = absurd (shut x r _ _ _ _ _ e F o)
   BegunInside-unique octets m n (nothing_inside shut) (inside_first x r e F o B) = absurd (shut x r _ _ _ _ _ e F o)
@@ -49,7 +49,7 @@ length-encoding x c k n contents h f = (
     length-append f.identifier (f.len ++ contents),
     length-append f.len contents,
   ),
-  omega (arith, f.size, identifier_some f.identifier c k n f.identifier_octets),
+  omega (arith, f.size, IsIdentifier-not_empty f.identifier c k n f.identifier_octets),
 )
 
 -- at most one header for each octet
@@ -69,7 +69,7 @@ HeadersBegun-le_length octets n (begun_some some a b
     (after_first y q d A C) g) =
     let l = length-encoding x c k t contents h F in
     let G = IsEncoding-block y A in
-    let s = encoding_alone _ _ _ _ _ _ _ _ _ _ _ _ r q F G.encoding (sym e ∙ d) in
+    let s = Encoding-unique _ _ _ _ _ _ _ _ _ _ _ _ r q F G.encoding (sym e ∙ d) in
     omega (
       arith,
       g,
@@ -90,7 +90,7 @@ BegunInside-append octets rest x r a e b (inside_first y q d F o B) =
 BegunInside-append octets rest x r a e b (nothing_inside shut) =
     let G = IsEncoding-block x b in
     nothing_inside (λ y q c k n contents h d F o.
-    let s = encoding_alone _ _ _ _ _ _ _ _ _ _ _ _ q (r ++ rest) F G.encoding
+    let s = Encoding-unique _ _ _ _ _ _ _ _ _ _ _ _ q (r ++ rest) F G.encoding
     (sym d ∙ ap (λ z. z ++ rest) e ∙ append_assoc x r rest) in
     shut y r c k n contents h (e ∙ ap (λ z. z ++ r) (sym s.octets)) F o)
 
@@ -120,7 +120,7 @@ pub HeadersBegun-read_inside : (x : List ℕ) (c : ASN1Class) (k : Bool) (n : �
     → IsReadInside c k n → IsBlock x
     → HeadersBegun contents a → HeadersBegun x (1 + a)
 HeadersBegun-read_inside x c k n contents h a F o b B =
-    begun_some (encoding_some x c k n contents h F) a 0 (inside_first x [] (sym (append-nil x)) F o B)
+    begun_some (Encoding-not_empty x c k n contents h F) a 0 (inside_first x [] (sym (append-nil x)) F o B)
     (after_first x [] (sym (append-nil x)) b (begun_none refl)) (omega arith)
 
 -- nothing is begun inside an encoding that is not read inside
@@ -129,7 +129,7 @@ pub BegunInside-not_read_inside : (octets x rest : List ℕ) (c : ASN1Class) (k 
     Encoding x c k n contents h
     → octets ≡ x ++ rest → (IsReadInside c k n → ⊥) → BegunInside octets 0
 BegunInside-not_read_inside octets x rest c k n contents h f d shut = nothing_inside (λ y q c' j m v g e G p.
-    let s = encoding_alone _ _ _ _ _ _ _ _ _ _ _ _ rest q f G (sym d ∙ e) in
+    let s = Encoding-unique _ _ _ _ _ _ _ _ _ _ _ _ rest q f G (sym d ∙ e) in
     shut (subst (λ z. IsReadInside z k n) (sym s.class) (subst (λ z. IsReadInside c' z n) (sym s.constructed)
     (subst (λ z. IsReadInside c' j z) (sym s.tag) p))))
 
@@ -138,6 +138,6 @@ pub HeadersBegun-not_read_inside : (x : List ℕ) (c : ASN1Class) (k : Bool) (n 
     Encoding x c k n contents h
     → (IsReadInside c k n → ⊥) → IsBlock x → HeadersBegun x 1
 HeadersBegun-not_read_inside x c k n contents h F o b =
-    begun_some (encoding_some x c k n contents h F) 0 0
+    begun_some (Encoding-not_empty x c k n contents h F) 0 0
     (BegunInside-not_read_inside x x [] c k n contents h F (sym (append-nil x)) o)
     (after_first x [] (sym (append-nil x)) b (begun_none refl)) refl

@@ -18,7 +18,7 @@ use Rattle.asn1_leaves.specs.Contents.Moment.{Moment}
 use Rattle.asn1_leaves.specs.Contents.ObjectIdentifier.{ObjectIdentifierFault}
 use Rattle.asn1_leaves.specs.Contents.UtcTime.{UtcTimeFault}
 use Rattle.asn1_leaves.specs.Contents.Text.{text_form, TextContents, TextFault}
-use Rattle.asn1_numbers.proofs.SignedNumbers.{signed_number_of_shortest}
+use Rattle.asn1_numbers.proofs.SignedNumbers.{signed_number-shortest_octets}
 use Rattle.asn1_leaves.proofs.Leaves.Boolean.{BooleanContents-unique, BooleanFault-unique, BooleanContents-no_fault, BooleanContents-or_fault, BooleanFault-of_reading, BooleanContents-written}
 use Rattle.asn1_leaves.proofs.Leaves.Integer.{IntegerContents-unique}
 use Rattle.asn1_leaves.proofs.Leaves.BitString.{BitStringContents-unique, BitStringFault-unique, BitStringContents-no_fault, BitStringContents-or_fault, BitStringFault-of_reading, bit_string_write_fault-read, BitStringContents-written, bit_string_write_fault-faithful, IsFaithfulBitString-written, IsFaithfulBitString-read, bit_string_contents-written_bits}
@@ -412,7 +412,7 @@ leaf_write_fault-read (text kind cs) contents all p = text_write_fault-read (tex
 -- what is written of a faithful leaf means it
 pub LeafContents-written : (l : Leaf) → IsFaithfulLeaf l → LeafContents l (leaf_contents l)
 LeafContents-written (boolean b) f = BooleanContents-written b
-LeafContents-written (integer n) f = sym (signed_number_of_shortest n)
+LeafContents-written (integer n) f = sym (signed_number-shortest_octets n)
 LeafContents-written (bit_string n v) f = BitStringContents-written n v f
 LeafContents-written (octet_string v) f = refl
 LeafContents-written null f = tt

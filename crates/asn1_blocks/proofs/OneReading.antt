@@ -6,7 +6,7 @@ use Rattle.asn1_blocks.specs.Contents.{LeafContents}
 use Rattle.asn1_blocks.specs.Grammar.{IsBlock, of_other_class, of_unknown_tag, of_leaf, of_group, AreBlocks, no_blocks, more_blocks, Encodes, EncodesAll}
 use Rattle.asn1_blocks.specs.Inner.EqualityLaws.{group_tag-injective}
 use Rattle.asn1_blocks.proofs.Leaves.{leaf_tag-not_group_tag, LeafContents-unique}
-use Rattle.asn1_headers.proofs.Prefixes.{encoding_alone, encoding_some}
+use Rattle.asn1_headers.proofs.Prefixes.{Encoding-unique, Encoding-not_empty}
 
 mutual
   -- octets that encode a tree are a block
@@ -43,35 +43,35 @@ Encodes-single o octets b s =
 
 -- a block has octets
 pub IsBlock-not_empty : (octets : List ℕ) → IsBlock octets → 0 < length octets
-IsBlock-not_empty octets (of_other_class f ne) = encoding_some _ _ _ _ _ _ f
-IsBlock-not_empty octets (of_unknown_tag f ne) = encoding_some _ _ _ _ _ _ f
-IsBlock-not_empty octets (of_leaf f l e p) = encoding_some _ _ _ _ _ _ f
-IsBlock-not_empty octets (of_group f g e q) = encoding_some _ _ _ _ _ _ f
+IsBlock-not_empty octets (of_other_class f ne) = Encoding-not_empty _ _ _ _ _ _ f
+IsBlock-not_empty octets (of_unknown_tag f ne) = Encoding-not_empty _ _ _ _ _ _ f
+IsBlock-not_empty octets (of_leaf f l e p) = Encoding-not_empty _ _ _ _ _ _ f
+IsBlock-not_empty octets (of_group f g e q) = Encoding-not_empty _ _ _ _ _ _ f
 
 mutual
   -- octets of a tree begin those of no other
   pub Encodes-unique : (o : ℕ) (xs ys r q : List ℕ) (a b : Tree ℕ) → Encodes o xs a → Encodes o ys b → xs ++ r ≡ ys ++ q
       → (xs ≡ ys) × (a ≡ b) × (r ≡ q)
   Encodes-unique o xs ys r q (leaf p l) (leaf p' m) (at, _, contents, _, F, means) (at', _, _, _, F', means') e =
-      let f = encoding_alone _ _ _ _ _ _ _ _ _ _ _ _ r q F F' e in
+      let f = Encoding-unique _ _ _ _ _ _ _ _ _ _ _ _ r q F F' e in
       let g = LeafContents-unique l m contents f.tag means (subst (LeafContents m) (sym f.contents) means') in
       let h : p ≡ p' = at ∙ sym at' in
       (f.octets, cc, f.rest)
   Encodes-unique o xs ys r q (leaf p l) (group p' g bs) (_, _, _, _, F, _) (_, _, _, _, F', _) e =
-      let f = encoding_alone _ _ _ _ _ _ _ _ _ _ _ _ r q F F' e in
+      let f = Encoding-unique _ _ _ _ _ _ _ _ _ _ _ _ r q F F' e in
       absurd (leaf_tag-not_group_tag l g f.tag)
   Encodes-unique o xs ys r q (leaf p l) (explicit c p' n b) (_, _, _, _, F, _) (_, other', _, _, F', _) e =
-      let f = encoding_alone _ _ _ _ _ _ _ _ _ _ _ _ r q F F' e in
+      let f = Encoding-unique _ _ _ _ _ _ _ _ _ _ _ _ r q F F' e in
       absurd (other' (sym f.class))
   Encodes-unique o xs ys r q (leaf p l) (unknown c k p' n v) (_, _, _, _, F, _) (_, _, F', stays') e =
-      let f = encoding_alone _ _ _ _ _ _ _ _ _ _ _ _ r q F F' e in
+      let f = Encoding-unique _ _ _ _ _ _ _ _ _ _ _ _ r q F F' e in
       absurd (elim stays' [ inl (_, no_rule) ↦ no_rule.0 l (sym f.tag) | inr (class, _) ↦ class (sym f.class) ])
   Encodes-unique o xs ys r q (group p g bs) (leaf p' m) (_, _, _, _, F, _) (_, _, _, _, F', _) e =
-      let f = encoding_alone _ _ _ _ _ _ _ _ _ _ _ _ r q F F' e in
+      let f = Encoding-unique _ _ _ _ _ _ _ _ _ _ _ _ r q F F' e in
       absurd (leaf_tag-not_group_tag m g (sym f.tag))
   Encodes-unique o xs ys r q (group p g bs) (group p' g' cs) (at, _, contents, header, F, items)
       (at', _, _, header', F', items') e =
-      let f = encoding_alone _ _ _ _ _ _ _ _ _ _ _ _ r q F F' e in
+      let f = Encoding-unique _ _ _ _ _ _ _ _ _ _ _ _ r q F F' e in
       let i : g ≡ g' = group_tag-injective g g' f.tag in
       let b = EncodesAll-unique (o + header) contents bs cs items
       (subst (λ z. EncodesAll (o + z) contents cs) (sym f.header)
@@ -79,20 +79,20 @@ mutual
       let h : p ≡ p' = at ∙ sym at' in
       (f.octets, cc, f.rest)
   Encodes-unique o xs ys r q (group p g bs) (explicit c p' n b) (_, _, _, _, F, _) (_, other', _, _, F', _) e =
-      let f = encoding_alone _ _ _ _ _ _ _ _ _ _ _ _ r q F F' e in
+      let f = Encoding-unique _ _ _ _ _ _ _ _ _ _ _ _ r q F F' e in
       absurd (other' (sym f.class))
   Encodes-unique o xs ys r q (group p g bs) (unknown c k p' n v) (_, _, _, _, F, _) (_, _, F', stays') e =
-      let f = encoding_alone _ _ _ _ _ _ _ _ _ _ _ _ r q F F' e in
+      let f = Encoding-unique _ _ _ _ _ _ _ _ _ _ _ _ r q F F' e in
       absurd (elim stays' [ inl (_, no_rule) ↦ no_rule.1 g (sym f.tag) | inr (class, _) ↦ class (sym f.class) ])
   Encodes-unique o xs ys r q (explicit c p n a) (leaf p' m) (_, other, _, _, F, _) (_, _, _, _, F', _) e =
-      let f = encoding_alone _ _ _ _ _ _ _ _ _ _ _ _ r q F F' e in
+      let f = Encoding-unique _ _ _ _ _ _ _ _ _ _ _ _ r q F F' e in
       absurd (other f.class)
   Encodes-unique o xs ys r q (explicit c p n a) (group p' g bs) (_, other, _, _, F, _) (_, _, _, _, F', _) e =
-      let f = encoding_alone _ _ _ _ _ _ _ _ _ _ _ _ r q F F' e in
+      let f = Encoding-unique _ _ _ _ _ _ _ _ _ _ _ _ r q F F' e in
       absurd (other f.class)
   Encodes-unique o xs ys r q (explicit c p n a) (explicit d p' m b) (at, _, contents, header, F, item)
       (at', _, _, header', F', item') e =
-      let f = encoding_alone _ _ _ _ _ _ _ _ _ _ _ _ r q F F' e in
+      let f = Encoding-unique _ _ _ _ _ _ _ _ _ _ _ _ r q F F' e in
       let g = Encodes-unique (o + header) contents contents [] [] a b item
       (subst (λ z. Encodes (o + z) contents b) (sym f.header)
       (subst (λ z. Encodes (o + header') z b) (sym f.contents) item'))
@@ -104,28 +104,28 @@ mutual
       (f.octets, cc, f.rest)
   Encodes-unique o xs ys r q (explicit c p n a) (unknown d k p' m v) (_, other, contents, header, F, item)
       (_, _, F', stays') e =
-      let f = encoding_alone _ _ _ _ _ _ _ _ _ _ _ _ r q F F' e in
+      let f = Encoding-unique _ _ _ _ _ _ _ _ _ _ _ _ r q F F' e in
       absurd (elim stays' [
         | inl u ↦ other (f.class ∙ u.0)
         | inr u ↦ u.1
             (sym f.constructed, subst IsBlock f.contents (IsBlock-encodes (o + header) contents a item))
       ])
   Encodes-unique o xs ys r q (unknown c k p n v) (leaf p' m) (_, _, F, stays) (_, _, _, _, F', _) e =
-      let f = encoding_alone _ _ _ _ _ _ _ _ _ _ _ _ r q F F' e in
+      let f = Encoding-unique _ _ _ _ _ _ _ _ _ _ _ _ r q F F' e in
       absurd (elim stays [ inl (_, no_rule) ↦ no_rule.0 m f.tag | inr (class, _) ↦ class f.class ])
   Encodes-unique o xs ys r q (unknown c k p n v) (group p' g bs) (_, _, F, stays) (_, _, _, _, F', _) e =
-      let f = encoding_alone _ _ _ _ _ _ _ _ _ _ _ _ r q F F' e in
+      let f = Encoding-unique _ _ _ _ _ _ _ _ _ _ _ _ r q F F' e in
       absurd (elim stays [ inl (_, no_rule) ↦ no_rule.1 g f.tag | inr (class, _) ↦ class f.class ])
   Encodes-unique o xs ys r q (unknown c k p n v) (explicit d p' m b) (_, _, F, stays)
       (_, other', contents', header', F', item') e =
-      let f = encoding_alone _ _ _ _ _ _ _ _ _ _ _ _ r q F F' e in
+      let f = Encoding-unique _ _ _ _ _ _ _ _ _ _ _ _ r q F F' e in
       absurd (elim stays [
         | inl u ↦ other' (sym f.class ∙ u.0)
         | inr u ↦ u.1
             (f.constructed, subst IsBlock (sym f.contents) (IsBlock-encodes (o + header') contents' b item'))
       ])
   Encodes-unique o xs ys r q (unknown c k p n v) (unknown d j p' m w) (at, _, F, _) (at', _, F', _) e =
-      let f = encoding_alone _ _ _ _ _ _ _ _ _ _ _ _ r q F F' e in
+      let f = Encoding-unique _ _ _ _ _ _ _ _ _ _ _ _ r q F F' e in
       let h : p ≡ p' = at ∙ sym at' in
       let i = f.class in
       let l = f.constructed in

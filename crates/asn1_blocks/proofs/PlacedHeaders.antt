@@ -7,7 +7,7 @@ use Rattle.asn1_headers.specs.Fault.{incomplete, length_too_large}
 use Rattle.asn1_headers.specs.Front.{BeginsWithHeader}
 use Rattle.asn1_headers.specs.Header.{IsLength}
 use Rattle.asn1_headers.specs.HeaderFault.{HeaderFault, too_far, too_long}
-use Rattle.asn1_headers.proofs.Prefixes.{identifier_some}
+use Rattle.asn1_headers.proofs.Prefixes.{IsIdentifier-not_empty}
 use Rattle.asn1_blocks.specs.Places.{HeaderFound}
 use Rattle.asn1_blocks.proofs.ReadSteps.{slice_range-append, length-slice_range}
 
@@ -82,7 +82,7 @@ HeaderFound-fits octets offset limit size announced class constructed tag front 
             ∙ (ap (λ z. z ++ contents) header ∙ append_assoc front.identifier front.len contents);
         size = omega (arith, some);
       };
-      starts_after = omega (arith, some, identifier_some front.identifier class constructed tag front.fields);
+      starts_after = omega (arith, some, IsIdentifier-not_empty front.identifier class constructed tag front.fields);
       order = omega arith;
       ends_within = ends;
     }

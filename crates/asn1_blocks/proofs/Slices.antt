@@ -6,7 +6,7 @@ use Rattle.asn1_blocks.specs.Tree.{Tree, Trees, leaf, group, explicit, unknown, 
 use Rattle.asn1_blocks.specs.View.{tree_offset}
 use Rattle.asn1_blocks.specs.Grammar.{Encodes, EncodesAll, IsDocument}
 use Rattle.asn1_blocks.specs.Places.{with_offsets, all_with_offsets, rebased, all_later, joined, end_before, StandsIn, itself, in_group, in_explicit, StandsAmong, in_first, in_later, HasOctets, EncodingAt}
-use Rattle.asn1_headers.proofs.Prefixes.{encoding_alone}
+use Rattle.asn1_headers.proofs.Prefixes.{Encoding-unique}
 use Rattle.asn1_blocks.proofs.OneReading.{IsBlock-not_empty, IsBlock-encodes, EncodesAll-single}
 use Rattle.asn1_blocks.proofs.Faults.{IsEncoding-block}
 
@@ -214,7 +214,7 @@ EncodingAt-tree_octets i bs b octets d h =
 -- one encoding stands at an offset
 pub EncodingAt-unique : (i : List ℕ) (o : ℕ) (x y : List ℕ) → EncodingAt i o x → EncodingAt i o y → x ≡ y
 EncodingAt-unique i o x y p q =
-    (encoding_alone _ _ _ _ _ _ _ _ _ _ _ _ p.rest q.rest p.encoding.encoding q.encoding.encoding
+    (Encoding-unique _ _ _ _ _ _ _ _ _ _ _ _ p.rest q.rest p.encoding.encoding q.encoding.encoding
     (sym p.at_offset ∙ q.at_offset)).octets
 
 -- the encoding at the offset of a tree is that of the tree

@@ -6,7 +6,7 @@ use Rattle.asn1_headers.specs.Header.{Encoding, shortest_identifier, shortest_le
 use Rattle.asn1_headers.specs.HeaderFault.{HeaderFault}
 use Rattle.asn1_headers.specs.declared.header.ASN1Class.{ASN1Class}
 use Rattle.asn1_headers.specs.declared.header.ASN1Class.TheVariants.{Universal, Application, ContextSpecific, Private}
-use Rattle.asn1_headers.proofs.Prefixes.{encoding_alone, encoding_some, identifier_alone}
+use Rattle.asn1_headers.proofs.Prefixes.{Encoding-unique, Encoding-not_empty, IsIdentifier-unique}
 use Rattle.asn1_blocks.proofs.Faults.{HeaderFault-not_encoding}
 use Rattle.asn1_blocks.proofs.FaultsAlone.{HeaderFault-unique}
 use Rattle.asn1_der.specs.Der.{IsDer, IsRightAlone}
@@ -76,7 +76,7 @@ identifier-same_encoding :
     (G : Encoding ys d k n w h) →
     xs ≡ ys → F.identifier ≡ G.identifier
 identifier-same_encoding xs ys c d j k m n v w g h F G e =
-    (identifier_alone F.identifier G.identifier (F.len ++ v) (G.len ++ w) c d j k m n F.identifier_octets
+    (IsIdentifier-unique F.identifier G.identifier (F.len ++ v) (G.len ++ w) c d j k m n F.identifier_octets
     G.identifier_octets
     (sym F.whole ∙ (e ∙ G.whole))).octets
 
@@ -106,14 +106,14 @@ module _ (u o : ℕ) (found : List Departure) where
   Lists-next x first rest m (none_left z e f) =
       absurd (omega (
         arith,
-        encoding_some first m.class m.constructed m.tag m.contents m.header m.encoding,
+        Encoding-not_empty first m.class m.constructed m.tag m.contents m.header m.encoding,
         ap length m.whole,
         ap length e,
         length-append first rest,
       ))
   Lists-next x first rest m (encoding_listed {first = f} {rest = q} {inside = inside} {later = later} n r i ls all) =
       let e : first ++ rest ≡ f ++ q = sym m.whole ∙ n.whole in
-      let same = encoding_alone first f m.class n.class m.constructed n.constructed m.tag n.tag m.contents n.contents
+      let same = Encoding-unique first f m.class n.class m.constructed n.constructed m.tag n.tag m.contents n.contents
       m.header n.header rest q
       m.encoding n.encoding e in
       let id = identifier-same_encoding first f m.class n.class m.constructed n.constructed m.tag n.tag m.contents
@@ -151,7 +151,7 @@ module _ (u o : ℕ) (found : List Departure) where
   Lists-nil x z e (encoding_listed {first = f} {rest = q} n r i ls all) =
       absurd (omega (
         arith,
-        encoding_some f n.class n.constructed n.tag n.contents n.header n.encoding,
+        Encoding-not_empty f n.class n.constructed n.tag n.contents n.header n.encoding,
         ap length n.whole,
         ap length e,
         length-append f q,
@@ -249,7 +249,7 @@ HeaderFaultBehind-same_next :
     HeaderFaultBehind (unended_behind u n.constructed n.encoding.len) (o + length first) rest q e
 HeaderFaultBehind-same_next u o q x first rest e n f r m h =
     let w : first ++ rest ≡ f ++ r = sym n.whole ∙ m.whole in
-    let same = encoding_alone first f n.class m.class n.constructed m.constructed n.tag m.tag n.contents m.contents
+    let same = Encoding-unique first f n.class m.class n.constructed m.constructed n.tag m.tag n.contents m.contents
     n.header m.header rest r
     n.encoding m.encoding w in
     let len = len-same_encoding first f n.class m.class n.constructed m.constructed n.tag m.tag n.contents m.contents
@@ -267,7 +267,7 @@ IsNext-not_nil : (u : ℕ) (x first rest : List ℕ) → IsNext u x first rest �
 IsNext-not_nil u x first rest n none =
     omega (
       arith,
-      encoding_some first n.class n.constructed n.tag n.contents n.header n.encoding,
+      Encoding-not_empty first n.class n.constructed n.tag n.contents n.header n.encoding,
       ap length n.whole,
       ap length none,
       length-append first rest,

@@ -8,7 +8,7 @@ use Rattle.std.proofs.lemmas.Int.Digits.{length-digits_of_step}
 use Rattle.asn1_headers.specs.Header.{Encoding, IsLength, IsSomeIdentifier, shortest_length}
 use Rattle.asn1_headers.specs.declared.header.ASN1Class.{ASN1Class}
 use Rattle.asn1_headers.specs.declared.header.ASN1Class.TheVariants.{Universal}
-use Rattle.asn1_headers.proofs.Prefixes.{encoding_alone, encoding_some, identifier_alone, length_alone}
+use Rattle.asn1_headers.proofs.Prefixes.{Encoding-unique, Encoding-not_empty, IsIdentifier-unique, IsLength-unique}
 use Rattle.asn1_der.specs.Der.{AreDerEncodings, more_encodings, no_encodings}
 use Rattle.asn1_der.proofs.Encodings.{length_shortest}
 use Rattle.asn1_blocks.specs.Places.{HasNoEncodingAt, IsEncoding}
@@ -31,10 +31,10 @@ len-same_encoding xs ys c d j k m n v w g h r q F G e =
     let two : ys ++ q ≡ G.identifier ++ (G.len ++ (w ++ q)) =
     ap (λ z. z ++ q) G.whole
     ∙ (append_assoc G.identifier (G.len ++ w) q ∙ ap (λ z. G.identifier ++ z) (append_assoc G.len w q)) in
-    let i = identifier_alone F.identifier G.identifier (F.len ++ (v ++ r)) (G.len ++ (w ++ q)) c d j k m n
+    let i = IsIdentifier-unique F.identifier G.identifier (F.len ++ (v ++ r)) (G.len ++ (w ++ q)) c d j k m n
     F.identifier_octets G.identifier_octets
     (sym one ∙ (e ∙ two)) in
-    (length_alone F.len G.len (v ++ r) (w ++ q) (length v) (length w) F.length_octets G.length_octets i.rest).octets
+    (IsLength-unique F.len G.len (v ++ r) (w ++ q) (length v) (length w) F.length_octets G.length_octets i.rest).octets
 
 -- end-of-contents octets are an encoding
 pub Encoding-end_of_contents : Encoding (0 ∷ 0 ∷ []) Universal false 0 [] 2
@@ -52,7 +52,7 @@ pub Encoding-is_end_of_contents :
     (x first rest behind : List ℕ) (c : ASN1Class) (k : Bool) (n : ℕ) (v : List ℕ) (h : ℕ) → Encoding first c k n v h →
     x ≡ first ++ rest → x ≡ 0 ∷ 0 ∷ behind → first ≡ 0 ∷ 0 ∷ []
 Encoding-is_end_of_contents x first rest behind c k n v h e w z =
-    (encoding_alone first (0 ∷ 0 ∷ []) c Universal k false n 0 v [] h 2 rest behind e Encoding-end_of_contents
+    (Encoding-unique first (0 ∷ 0 ∷ []) c Universal k false n 0 v [] h 2 rest behind e Encoding-end_of_contents
     (sym w ∙ z)).octets
 
 -- the encoding in front is that of the relation
@@ -62,14 +62,14 @@ pub AreEncodings-behind_next :
 AreEncodings-behind_next u x first rest n (no_more z e) =
     absurd (omega (
       arith,
-      encoding_some first n.class n.constructed n.tag n.contents n.header n.encoding,
+      Encoding-not_empty first n.class n.constructed n.tag n.contents n.header n.encoding,
       ap length n.whole,
       ap length e,
       length-append first rest,
     ))
 AreEncodings-behind_next u x first rest n (next {first = f} {rest = r} m a) =
     let e : first ++ rest ≡ f ++ r = sym n.whole ∙ m.whole in
-    let same = encoding_alone first f n.class m.class n.constructed m.constructed n.tag m.tag n.contents m.contents
+    let same = Encoding-unique first f n.class m.class n.constructed m.constructed n.tag m.tag n.contents m.contents
     n.header m.header rest r
     n.encoding m.encoding e in
     let len = len-same_encoding first f n.class m.class n.constructed m.constructed n.tag m.tag n.contents m.contents
@@ -108,7 +108,7 @@ AreEncodings-nil u x e (no_more z none) = z
 AreEncodings-nil u x e (next {first = f} {rest = r} m a) =
     absurd (omega (
       arith,
-      encoding_some f m.class m.constructed m.tag m.contents m.header m.encoding,
+      Encoding-not_empty f m.class m.constructed m.tag m.contents m.header m.encoding,
       ap length m.whole,
       ap length e,
       length-append f r,
@@ -156,7 +156,7 @@ pub IsSomeIdentifier-front :
     octets ≡ identifier ++ behind →
     IsSomeIdentifier (take size octets) number → (take size octets ≡ identifier) × (drop size octets ≡ behind)
 IsSomeIdentifier-front octets identifier behind tag number size (c, k, is) whole (d, j, found) =
-    let same = identifier_alone (take size octets) identifier (drop size octets) behind d c j k number tag found is
+    let same = IsIdentifier-unique (take size octets) identifier (drop size octets) behind d c j k number tag found is
     (take-append-drop size octets ∙ whole) in
     (same.octets, same.rest)
 
@@ -222,7 +222,7 @@ IsStep-next u v x part behind e o w t is count =
       no_end = is_at_end-none_in_front u x part behind w t;
     } in
     let open_behind : v ≡ unended_behind u e.constructed e.encoding.len = count ∙ ap (λ b. if b then suc u else u) is in
-    let some = encoding_some part e.class e.constructed e.tag e.contents e.header e.encoding in
+    let some = Encoding-not_empty part e.class e.constructed e.tag e.contents e.header e.encoding in
     record {
       same = (
         λ a. subst (λ z. AreEncodings z behind) (sym open_behind) (AreEncodings-behind_next u x part behind n a),

@@ -4,8 +4,8 @@ use Rattle.std.specs.Prelude.{◌↔◌, suc, if◌then◌else◌, not, MatchBoo
 use Rattle.asn1_headers.specs.Header.{Encoding, shortest_identifier, shortest_length}
 use Rattle.asn1_headers.specs.declared.header.ASN1Class.{ASN1Class}
 use Rattle.asn1_headers.specs.declared.header.ASN1Class.TheVariants.{Universal, Application, ContextSpecific, Private}
-use Rattle.asn1_headers.proofs.Prefixes.{encoding_alone, encoding_some, identifier_alone, length_alone}
-use Rattle.asn1_headers.proofs.Shortest.{shortest_identifier_is, shortest_length_is}
+use Rattle.asn1_headers.proofs.Prefixes.{Encoding-unique, Encoding-not_empty, IsIdentifier-unique, IsLength-unique}
+use Rattle.asn1_headers.proofs.Shortest.{IsIdentifier-shortest, IsLength-shortest}
 use Rattle.asn1_der.specs.Der.{AreDerEncodings, IsDer, IsDerEncoding, IsRightAlone, IsShortest, more_encodings, no_encodings}
 use Rattle.asn1_der.specs.Steps.{AreDer, IsDerAlone, IsWhole}
 use Rattle.asn1_der.proofs.Encodings.{der_encoding, der_whole, whole_der}
@@ -167,11 +167,11 @@ HasShortest-encoding x c k n v h e small s =
     let l = shortest_length (length v) in
     let size : length v < 2 ^ 64 =
     omega (arith, small, ap length s.whole, length-append i (l ++ v), length-append l v) in
-    let a = identifier_alone e.identifier i (e.len ++ v) (l ++ v) c c k k n n e.identifier_octets
-    (shortest_identifier_is c k n)
+    let a = IsIdentifier-unique e.identifier i (e.len ++ v) (l ++ v) c c k k n n e.identifier_octets
+    (IsIdentifier-shortest c k n)
     (sym e.whole ∙ s.whole) in
     let b =
-    length_alone e.len l v v (length v) (length v) e.length_octets (shortest_length_is (length v) size) a.rest in
+    IsLength-unique e.len l v v (length v) (length v) e.length_octets (IsLength-shortest (length v) size) a.rest in
     record { identifier = a.octets; len_is = b.octets }
 
 -- encodings of DER by the first
@@ -183,14 +183,14 @@ AreDer-next : (x first rest : List ℕ) (n : IsNext 0 x first rest) → length x
 AreDer-next x first rest n small (items, no_encodings) =
     absurd (omega (
       arith,
-      encoding_some first n.class n.constructed n.tag n.contents n.header n.encoding,
+      Encoding-not_empty first n.class n.constructed n.tag n.contents n.header n.encoding,
       ap length n.whole,
       length-append first rest,
     ))
 AreDer-next x first rest n small (items, more_encodings {first = f} {rest = r} {items = is} w d ds) =
     let size : length x ≡ length f + length r = ap length w ∙ length-append f r in
     let (c, k, t, v, h, e) = der_encoding f (omega (arith, small, size)) d in
-    let same = encoding_alone first f n.class c n.constructed k n.tag t n.contents v n.header h rest r n.encoding e
+    let same = Encoding-unique first f n.class c n.constructed k n.tag t n.contents v n.header h rest r n.encoding e
     (sym n.whole ∙ w) in
     record {
       der = subst IsDerEncoding (sym same.octets) d;

@@ -4,8 +4,8 @@ use Rattle.std.proofs.lemmas.Bool.{cases_lt}
 use Rattle.asn1_headers.specs.Header.{Encoding, shortest_identifier, shortest_length}
 use Rattle.asn1_headers.specs.declared.header.ASN1Class.{ASN1Class}
 use Rattle.asn1_headers.specs.declared.header.ASN1Class.TheVariants.{Universal, Application, ContextSpecific, Private}
-use Rattle.asn1_headers.proofs.Prefixes.{encoding_alone, identifier_some}
-use Rattle.asn1_headers.proofs.Shortest.{shortest_identifier_is, shortest_length_is}
+use Rattle.asn1_headers.proofs.Prefixes.{Encoding-unique, IsIdentifier-not_empty}
+use Rattle.asn1_headers.proofs.Shortest.{IsIdentifier-shortest, IsLength-shortest}
 use Rattle.asn1_blocks.specs.Places.{IsEncoding}
 use Rattle.asn1_der.specs.Der.{AreDerEncodings, IsDerEncoding, IsInOrder, IsRightAlone, IsShortest, more_encodings, no_encodings, of_other_constructed, of_other_primitive, of_primitive_type, of_sequence, of_set}
 use Rattle.asn1_der.specs.Steps.{IsWhole}
@@ -22,8 +22,8 @@ encoding_of_shortest x c k n v small s =
       record {
         identifier = i;
         len = l;
-        identifier_octets = shortest_identifier_is c k n;
-        length_octets = shortest_length_is (length v) size;
+        identifier_octets = IsIdentifier-shortest c k n;
+        length_octets = IsLength-shortest (length v) size;
         whole = s.whole;
         size = refl;
       },
@@ -76,8 +76,8 @@ length_shortest x small d =
         encoding = record {
           identifier = i;
           len = l;
-          identifier_octets = shortest_identifier_is s.c s.k s.n;
-          length_octets = shortest_length_is (length s.v) size;
+          identifier_octets = IsIdentifier-shortest s.c s.k s.n;
+          length_octets = IsLength-shortest (length s.v) size;
           whole = s.shortest.whole;
           size = refl;
         };
@@ -93,7 +93,7 @@ encoding_some x c k n v h e =
       arith,
       ap length e.whole,
       length-append e.identifier (e.len ++ v),
-      identifier_some e.identifier c k n e.identifier_octets,
+      IsIdentifier-not_empty e.identifier c k n e.identifier_octets,
     )
 
 -- octets have one list of items
@@ -116,7 +116,7 @@ items_alone x y is js small e (more_encodings {first = f} {rest = r} {items = fs
     let long' : length x ≡ length g + length q = ap length e ∙ (ap length u ∙ length-append g q) in
     let (c, k, n, v, h, p) = der_encoding f (omega (arith, long, small)) d in
     let (c', k', n', v', h', p') = der_encoding g (omega (arith, long', small)) b in
-    let same = encoding_alone f g c c' k k' n n' v v' h h' r q p p' (sym w ∙ (e ∙ u)) in
+    let same = Encoding-unique f g c c' k k' n n' v v' h h' r q p p' (sym w ∙ (e ∙ u)) in
     let first : f ≡ g = same.octets in
     let more : fs ≡ gs = items_alone r q fs gs (omega (arith, long, small)) same.rest ds bs in
     cc
@@ -169,7 +169,7 @@ pub der_whole :
 der_whole x c k n v h small e d =
     let (c', k', n', v', w) = whole_of x small d in
     let (h', e') = encoding_of_shortest x c' k' n' v' small w.alone.0 in
-    let same = encoding_alone x x c c' k k' n n' v v' h h' [] [] e e' refl in
+    let same = Encoding-unique x x c c' k k' n n' v v' h h' [] [] e e' refl in
     IsWhole-same_fields x c c' k k' n n' v v' same.class same.constructed same.tag same.contents w
 
 -- octets with the properties that an encoding of DER has are one

@@ -4,7 +4,7 @@ use Rattle.std.specs.Prelude.{◌↔◌, IsTrue, Option, None, Some}
 use Rattle.std.specs.List.{All, concat}
 use Rattle.std.proofs.lemmas.List.{drop_at}
 use Rattle.std.proofs.lemmas.List.Elements.{All-cons, All-drop, All-head, All-nil}
-use Rattle.asn1_headers.proofs.Prefixes.{encoding_alone, encoding_some}
+use Rattle.asn1_headers.proofs.Prefixes.{Encoding-unique, Encoding-not_empty}
 use Rattle.asn1_blocks.specs.Places.{EncodingAt, HasNoEncodingAt, IsEncoding}
 use Rattle.asn1_der.specs.Der.{AreDerEncodings, Ascend, more_encodings, no_encodings}
 use Rattle.asn1_der.specs.Steps.{MayFollow, MayStandBefore, behind}
@@ -37,7 +37,7 @@ first_of :
 first_of rest part after [] all e i w =
     absurd (omega (
       arith,
-      encoding_some part i.class i.constructed i.tag i.contents i.header i.encoding,
+      Encoding-not_empty part i.class i.constructed i.tag i.contents i.header i.encoding,
       ap length e,
       ap length w,
       length-append part after,
@@ -45,7 +45,7 @@ first_of rest part after [] all e i w =
 first_of rest part after (p ∷ ps) all e i w =
     let j = All-head IsEncoding p ps all in
     let same =
-    encoding_alone part p i.class j.class i.constructed j.constructed i.tag j.tag i.contents j.contents i.header
+    Encoding-unique part p i.class j.class i.constructed j.constructed i.tag j.tag i.contents j.contents i.header
     j.header
     after (concat ps) i.encoding j.encoding (sym w ∙ e) in
     record { more = ps; is = ap (λ z. z ∷ ps) (sym same.octets); whole = same.rest }

@@ -10,7 +10,7 @@ use Rattle.asn1_numbers.specs.Inner.Comparisons.{compared}
 use Rattle.asn1_numbers.specs.declared.sink.Comparison.{Comparison}
 use Rattle.asn1_headers.specs.Header.{Encoding, IsIdentifier, IsLength, leading_octet, shortest_identifier, shortest_length}
 use Rattle.asn1_headers.specs.declared.header.ASN1Class.{ASN1Class}
-use Rattle.asn1_headers.proofs.Prefixes.{same_split}
+use Rattle.asn1_headers.proofs.Prefixes.{append-injective}
 use Rattle.asn1_blocks.proofs.ReadSteps.{slice_range-append, length-slice_range}
 use Rattle.asn1_der.specs.Der.{IsShortest}
 use Rattle.asn1_der.specs.Steps.{IsHeaderOf, is_short}
@@ -43,7 +43,7 @@ shortest_front x i s e c k n before order within =
       },
       λ h. let whole : f ++ v ≡ (id ++ shortest_length (e - s)) ++ v =
           sym join ∙ (h.whole ∙ (ap (λ z. id ++ (z ++ v)) len ∙ sym (append_assoc id (shortest_length (e - s)) v))) in
-          (same_split f (id ++ shortest_length (e - s)) v v
+          (append-injective f (id ++ shortest_length (e - s)) v v
           (omega (arith, ap length whole, length-append f v, length-append (id ++ shortest_length (e - s)) v)) whole).0,
     )
 
@@ -60,7 +60,7 @@ header_front x i s e c k n before order within f =
     record {
       identifier = id;
       len = f.len;
-      whole = (same_split (slice_range x i s) (id ++ f.len) v v
+      whole = (append-injective (slice_range x i s) (id ++ f.len) v v
           (length-slice_range x i s before (omega (arith, order, within)) ∙ (f.size ∙ sym (length-append id f.len)))
           both).0;
       identifier_octets = f.identifier_octets;

@@ -11,8 +11,8 @@ use Rattle.std.proofs.lemmas.Bool.{cases_lt}
 use Rattle.std.proofs.lemmas.Int.Digits.{number_digits_of}
 use Rattle.std.proofs.lemmas.List.{length-map}
 use Rattle.asn1_numbers.specs.Base128.{IsBase128, base128_number, shortest_base128}
-use Rattle.asn1_numbers.proofs.DigitOrder.{digits_order}
-use Rattle.asn1_headers.proofs.Prefixes.{encoding_alone}
+use Rattle.asn1_numbers.proofs.DigitOrder.{ordering_then-digits}
+use Rattle.asn1_headers.proofs.Prefixes.{Encoding-unique}
 use Rattle.asn1_blocks.specs.Places.{IsEncoding}
 use Rattle.asn1_der.specs.Der.{HasLessTag, is_less_tag}
 use Rattle.asn1_der.specs.Steps.{IsFront}
@@ -100,7 +100,7 @@ nat_cmp-shortest_base128 m n =
     ends = number_digits_of 128 (n / 128) (omega arith)
 
     order : ordering_then (nat_cmp (length ds) (length es)) (slice_cmp nat_cmp ds es) ≡ nat_cmp (m / 128) (n / 128)
-    order = digits_order ds es (sym (ap (digits_of 128) fronts)) (sym (ap (digits_of 128) ends))
+    order = ordering_then-digits ds es (sym (ap (digits_of 128) fronts)) (sym (ap (digits_of 128) ends))
         ∙ (ap (λ z. nat_cmp z (base128_number es)) fronts ∙ ap (λ z. nat_cmp (m / 128) z) ends)
 
     lows : Ordering
@@ -147,10 +147,10 @@ HasLessTag-fields x y e f found is = (
     sym is ∙ t,
   ),
   λ (c, m, d, n, p, q, less).
-      let a = encoding_alone x x e.class c e.constructed p.constructed e.tag m e.contents p.contents e.header p.header
+      let a = Encoding-unique x x e.class c e.constructed p.constructed e.tag m e.contents p.contents e.header p.header
       [] []
       e.encoding p.encoding refl in
-      let b = encoding_alone y y f.class d f.constructed q.constructed f.tag n f.contents q.contents f.header q.header
+      let b = Encoding-unique y y f.class d f.constructed q.constructed f.tag n f.contents q.contents f.header q.header
       [] []
       f.encoding q.encoding refl in
       is ∙ (ap (λ z. is_less_tag z e.tag f.class f.tag) a.class ∙ (ap (λ z. is_less_tag c z f.class f.tag) a.tag

@@ -4,7 +4,7 @@ use Rattle.std.specs.Prelude.{◌↔◌}
 use Rattle.std.specs.List.{slice_range}
 use Rattle.asn1_headers.specs.Fault.{DecodeFault}
 use Rattle.asn1_headers.specs.HeaderFault.{HeaderFault}
-use Rattle.asn1_headers.proofs.Prefixes.{encoding_alone}
+use Rattle.asn1_headers.proofs.Prefixes.{Encoding-unique}
 use Rattle.asn1_blocks.specs.Places.{HeaderFound}
 use Rattle.asn1_blocks.specs.declared.parsed.PlacedHeader.{PlacedHeader}
 use Rattle.asn1_blocks.proofs.Faults.{HeaderFault-not_encoding}
@@ -54,7 +54,7 @@ module _ (x : List ℕ) (small : length x < 2 ^ 64) (i e : ℕ) (within : e ≤ 
         omega (arith, all_size, within, ap length s.whole, length-append s.first s.rest) in
         let (c, k, n, v, g, p) = der_encoding s.first (omega (arith, long, small)) s.der in
         let same =
-        encoding_alone (slice_range x i h.end) s.first h.class c h.constructed k h.tag n
+        Encoding-unique (slice_range x i h.end) s.first h.class c h.constructed k h.tag n
         (slice_range x h.start h.end) v (h.start - i) g
         (slice_range x h.end e) s.rest f.encoding p (sym join ∙ s.whole) in
         let der : IsDerEncoding (slice_range x i h.end) = subst IsDerEncoding (sym same.octets) s.der in

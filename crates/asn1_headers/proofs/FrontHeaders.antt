@@ -8,11 +8,11 @@ use Rattle.asn1_headers.specs.Fault.{DecodeFault, OutOfMemoryOr}
 use Rattle.asn1_headers.specs.Front.{HasNoHeader}
 use Rattle.asn1_headers.specs.Header.{BeginsWithNo, IsIdentifier, IsIncomplete, IsLength, IsSomeIdentifier, length_fault}
 use Rattle.asn1_headers.specs.HeaderFault.{HeaderFault, no_identifier, no_length}
-use Rattle.asn1_headers.proofs.Prefixes.{identifier_alone}
+use Rattle.asn1_headers.proofs.Prefixes.{IsIdentifier-unique}
 
 -- what begins with no identifier octets begins with no header
-pub none_without_identifier : (octets : List ℕ) → BeginsWithNo IsSomeIdentifier octets → HasNoHeader octets
-none_without_identifier octets none header rest (identifier, len, is, (tag, i), l) q =
+pub HasNoHeader-no_identifier : (octets : List ℕ) → BeginsWithNo IsSomeIdentifier octets → HasNoHeader octets
+HasNoHeader-no_identifier octets none header rest (identifier, len, is, (tag, i), l) q =
     let whole : octets ≡ identifier ++ (len ++ rest) =
     q ∙ (ap (λ z. z ++ rest) is ∙ append_assoc identifier len rest) in
     let e : take (length identifier) octets ≡ identifier =
@@ -20,15 +20,16 @@ none_without_identifier octets none header rest (identifier, len, is, (tag, i), 
     none tag (length identifier) (subst (λ z. IsSomeIdentifier z tag) (sym e) i)
 
 -- octets that have no length octets behind their identifier octets begin with no header
-pub none_without_length :
+pub HasNoHeader-no_length :
     (octets : List ℕ) (s m : ℕ) → s ≤ length octets → IsSomeIdentifier (take s octets) m
     → BeginsWithNo IsLength (drop s octets) →
     HasNoHeader octets
-none_without_length octets s m fits (c, j, found) none header rest (identifier, len, is, (tag, (d, k, i)), (n, l)) q =
+HasNoHeader-no_length octets s m fits (c, j, found) none header rest (identifier, len, is, (tag, (d, k, i)), (n, l)) q =
     let whole : octets ≡ identifier ++ (len ++ rest) =
     q ∙ (ap (λ z. z ++ rest) is ∙ append_assoc identifier len rest) in
     let parts : take s octets ++ drop s octets ≡ identifier ++ (len ++ rest) = take-append-drop s octets ∙ whole in
-    let same = identifier_alone (take s octets) identifier (drop s octets) (len ++ rest) c d j k m tag found i parts in
+    let same =
+    IsIdentifier-unique (take s octets) identifier (drop s octets) (len ++ rest) c d j k m tag found i parts in
     let size : length identifier ≡ s = sym (ap length same.octets) ∙ length-take-le s octets fits in
     let behind : drop s octets ≡ len ++ rest = ap (drop s) whole ∙ drop_at identifier (len ++ rest) s size in
     let e : take (length len) (drop s octets) ≡ len =
@@ -36,11 +37,11 @@ none_without_length octets s m fits (c, j, found) none header rest (identifier, 
     none n (length len) (subst (λ z. IsLength z n) (sym e) l)
 
 -- identifier octets that are not there
-pub identifier_missed : (place : ℕ) (octets : List ℕ) (e : ASN1DecodeErr)
+pub HeaderFault-no_identifier : (place : ℕ) (octets : List ℕ) (e : ASN1DecodeErr)
     → OutOfMemoryOr (IsIncomplete IsSomeIdentifier octets) e
     → OutOfMemoryOr (HeaderFault place octets) e
-identifier_missed place octets e (inl memory) = inl memory
-identifier_missed place octets e (inr (f, missing)) =
+HeaderFault-no_identifier place octets e (inl memory) = inl memory
+HeaderFault-no_identifier place octets e (inr (f, missing)) =
     inr (subst (HeaderFault place octets) (sym f) (no_identifier (λ s rest c k n b t d. missing n (length s) (
       c,
       k,
@@ -48,28 +49,29 @@ identifier_missed place octets e (inr (f, missing)) =
     ))))
 
 -- length octets that are not there
-pub length_missed : (place : ℕ) (octets s rest : List ℕ) (c : ASN1Class) (k : Bool) (n : ℕ) (e : DecodeFault)
+pub HeaderFault-no_length : (place : ℕ) (octets s rest : List ℕ) (c : ASN1Class) (k : Bool) (n : ℕ) (e : DecodeFault)
     → IsIdentifier s c k n → octets ≡ s ++ rest
     → ((m j : ℕ) → IsLength (take j rest) m → ⊥) → e ≡ length_fault rest → HeaderFault place octets e
-length_missed place octets s [] c k n e t d missing h =
+HeaderFault-no_length place octets s [] c k n e t d missing h =
     subst (HeaderFault place octets) (sym h)
-    (no_identifier (λ s' r c' k' n' b t' d'. let q = identifier_alone s s' [] (b ∷ r) c c' k k' n n' t t'
+    (no_identifier (λ s' r c' k' n' b t' d'. let q = IsIdentifier-unique s s' [] (b ∷ r) c c' k k' n n' t t'
     (sym d ∙ d') in let f : [] ≡ b ∷ r = q.rest in cc))
-length_missed place octets s (b ∷ rest) c k n e t d missing h =
+HeaderFault-no_length place octets s (b ∷ rest) c k n e t d missing h =
     no_length s b rest c k n t d (λ l r m u f. missing m (length l)
     (subst (λ z. IsLength z m) (sym (ap (take (length l)) f ∙ take_at l r (length l) refl)) u)) h
 
 -- identifier octets up to an index stand at the front
-pub identifier_taken : (octets : List ℕ) (index : ℕ) (c : ASN1Class) (k : Bool) (n : ℕ)
+pub IsIdentifier-take : (octets : List ℕ) (index : ℕ) (c : ASN1Class) (k : Bool) (n : ℕ)
     → IsIdentifier (slice_range octets 0 index) c k n
     → IsIdentifier (take index octets) c k n
-identifier_taken octets index c k n i =
+IsIdentifier-take octets index c k n i =
     let e : index - 0 ≡ index = omega arith in
     subst (λ z. IsIdentifier (take z octets) c k n) e i
 
 -- identifier octets that begin with an octet of a low tag number are that octet
-pub low_identifier : (b d : ℕ) (octets : List ℕ) (size : ℕ) (c : ASN1Class) (k : Bool) (n : ℕ) → b % 32 < 31 → 0 < size
+pub IsIdentifier-low_tag : (b d : ℕ) (octets : List ℕ) (size : ℕ) (c : ASN1Class) (k : Bool) (n : ℕ) → b % 32 < 31
+    → 0 < size
     → IsIdentifier (take size (b ∷ d ∷ octets)) c k n → IsIdentifier (b ∷ []) c k n
-low_identifier b d octets zero c k n low some i = absurd (omega (arith, some))
-low_identifier b d octets (suc zero) c k n low some i = i
-low_identifier b d octets (suc (suc size)) c k n low some i = absurd (omega (arith, low, i.0))
+IsIdentifier-low_tag b d octets zero c k n low some i = absurd (omega (arith, some))
+IsIdentifier-low_tag b d octets (suc zero) c k n low some i = i
+IsIdentifier-low_tag b d octets (suc (suc size)) c k n low some i = absurd (omega (arith, low, i.0))

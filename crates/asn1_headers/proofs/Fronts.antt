@@ -9,7 +9,7 @@ use Rattle.asn1_headers.specs.Fault.{DecodeFault, incomplete, length_too_large}
 use Rattle.asn1_numbers.specs.Base128.{IsBase128, IsContinued, low_bits_number}
 use Rattle.asn1_headers.specs.Header.{Encoding, IsIdentifier, IsLength, class_number, constructed_bit, leading_octet, length_fault}
 use Rattle.asn1_headers.specs.HeaderFault.{HeaderFault, no_identifier, no_length, too_far, too_long}
-use Rattle.asn1_headers.proofs.Prefixes.{identifier_alone, bit_small, identifier_some}
+use Rattle.asn1_headers.proofs.Prefixes.{IsIdentifier-unique, constructed_bit-lt, IsIdentifier-not_empty}
 
 -- the octets begin with continued octets, or bit 8 is set in all
 data ContinuedFront (octets : List ℕ) : Type 0 where
@@ -22,19 +22,20 @@ IsContinued-not_nil [] rest p e = p
 IsContinued-not_nil (a ∷ s) rest p e = omega (arith, ap length e)
 
 -- an octet with bit 8 set before continued octets
-pub continued_more : (b : ℕ) (s : List ℕ) → 128 ≤ b → IsContinued s → IsContinued (b ∷ s)
-continued_more b [] h p = absurd p
-continued_more b (c ∷ s) h p = (h, p)
+pub IsContinued-cons : (b : ℕ) (s : List ℕ) → 128 ≤ b → IsContinued s → IsContinued (b ∷ s)
+IsContinued-cons b [] h p = absurd p
+IsContinued-cons b (c ∷ s) h p = (h, p)
 
 -- octets that begin with no continued octets do not with an octet before them whose bit 8 is set
-not_continued-cons : (b : ℕ) (octets : List ℕ) → 128 ≤ b → ((s rest : List ℕ) → IsContinued s → octets ≡ s ++ rest → ⊥)
+IsContinued-not_behind_cons : (b : ℕ) (octets : List ℕ) → 128 ≤ b
+    → ((s rest : List ℕ) → IsContinued s → octets ≡ s ++ rest → ⊥)
     → (s rest : List ℕ)
     → IsContinued s → b ∷ octets ≡ s ++ rest → ⊥
-not_continued-cons b octets h none [] rest p e = p
-not_continued-cons b octets h none (a ∷ []) rest p e =
+IsContinued-not_behind_cons b octets h none [] rest p e = p
+IsContinued-not_behind_cons b octets h none (a ∷ []) rest p e =
     let d : b ≡ a = cc in
     omega (arith, h, p, d)
-not_continued-cons b octets h none (a ∷ c ∷ s) rest p e =
+IsContinued-not_behind_cons b octets h none (a ∷ c ∷ s) rest p e =
     let d : octets ≡ (c ∷ s) ++ rest = cc in
     none (c ∷ s) rest p.1 d
 
@@ -44,24 +45,24 @@ continued_front [] = never_ends IsContinued-not_nil
 continued_front (b ∷ octets) = elim (cases_lt b 128) [
   | inl lt ↦ ends (b ∷ []) octets lt refl
   | inr ge ↦ elim (continued_front octets) [
-    | ends s rest p e ↦ ends (b ∷ s) rest (continued_more b s ge p) (ap (λ l. b ∷ l) e)
-    | never_ends none ↦ never_ends (not_continued-cons b octets ge none)
+    | ends s rest p e ↦ ends (b ∷ s) rest (IsContinued-cons b s ge p) (ap (λ l. b ∷ l) e)
+    | never_ends none ↦ never_ends (IsContinued-not_behind_cons b octets ge none)
   ]
 ]
 
 -- each two bits are those of a class
-class_numbered : (n : ℕ) → n < 4 → (c : ASN1Class) × (class_number c ≡ n)
-class_numbered zero h = (Universal, refl)
-class_numbered (suc zero) h = (Application, refl)
-class_numbered (suc (suc zero)) h = (ContextSpecific, refl)
-class_numbered (suc (suc (suc zero))) h = (Private, refl)
-class_numbered (suc (suc (suc (suc n)))) h = absurd (omega (arith, h))
+class_number-onto : (n : ℕ) → n < 4 → (c : ASN1Class) × (class_number c ≡ n)
+class_number-onto zero h = (Universal, refl)
+class_number-onto (suc zero) h = (Application, refl)
+class_number-onto (suc (suc zero)) h = (ContextSpecific, refl)
+class_number-onto (suc (suc (suc zero))) h = (Private, refl)
+class_number-onto (suc (suc (suc (suc n)))) h = absurd (omega (arith, h))
 
 -- each bit is that of primitive or constructed
-bit_numbered : (n : ℕ) → n < 2 → (k : Bool) × (constructed_bit k ≡ n)
-bit_numbered zero h = (false, refl)
-bit_numbered (suc zero) h = (true, refl)
-bit_numbered (suc (suc n)) h = absurd (omega (arith, h))
+constructed_bit-onto : (n : ℕ) → n < 2 → (k : Bool) × (constructed_bit k ≡ n)
+constructed_bit-onto zero h = (false, refl)
+constructed_bit-onto (suc zero) h = (true, refl)
+constructed_bit-onto (suc (suc n)) h = absurd (omega (arith, h))
 
 -- a class has two bits
 class_number-lt : (c : ASN1Class) → class_number c < 4
@@ -71,24 +72,25 @@ class_number-lt ContextSpecific = omega arith
 class_number-lt Private = omega arith
 
 -- an octet is the leading one of some class and constructed bit
-pub leading_parts : (b : ℕ) → b < 256 → (c : ASN1Class) × (k : Bool) × (b ≡ leading_octet c k (b % 32))
-leading_parts b h =
+pub leading_octet-parts : (b : ℕ) → b < 256 → (c : ASN1Class) × (k : Bool) × (b ≡ leading_octet c k (b % 32))
+leading_octet-parts b h =
     let q = b / 32 in
     let whole : b ≡ 32 * q + b % 32 = omega arith in
-    let (c, e) = class_numbered (q / 2) (omega (arith, h, whole)) in
-    let (k, d) = bit_numbered (q % 2) (omega arith) in
+    let (c, e) = class_number-onto (q / 2) (omega (arith, h, whole)) in
+    let (k, d) = constructed_bit-onto (q % 2) (omega arith) in
     (c, k, omega (arith, e, d, whole))
 
 -- a leading octet is an octet
-leading_small : (b : ℕ) (s : List ℕ) (c : ASN1Class) (k : Bool) (n : ℕ) → IsIdentifier (b ∷ s) c k n → b < 256
-leading_small b [] c k n p = omega (arith, p.0, p.1, class_number-lt c, bit_small k)
-leading_small b (d ∷ s) c k n p = omega (arith, p.0, class_number-lt c, bit_small k)
+IsIdentifier-first_lt : (b : ℕ) (s : List ℕ) (c : ASN1Class) (k : Bool) (n : ℕ) → IsIdentifier (b ∷ s) c k n → b < 256
+IsIdentifier-first_lt b [] c k n p = omega (arith, p.0, p.1, class_number-lt c, constructed_bit-lt k)
+IsIdentifier-first_lt b (d ∷ s) c k n p = omega (arith, p.0, class_number-lt c, constructed_bit-lt k)
 
 -- a leading octet that ends in 31, and a base-128 number
-pub long_identifier : (b : ℕ) (s : List ℕ) (c : ASN1Class) (k : Bool) (n : ℕ) → b ≡ leading_octet c k 31 → IsBase128 s n
+pub IsIdentifier-long : (b : ℕ) (s : List ℕ) (c : ASN1Class) (k : Bool) (n : ℕ) → b ≡ leading_octet c k 31
+    → IsBase128 s n
     → IsIdentifier (b ∷ s) c k n
-long_identifier b [] c k n e p = absurd p.continued
-long_identifier b (d ∷ s) c k n e p = (e, p)
+IsIdentifier-long b [] c k n e p = absurd p.continued
+IsIdentifier-long b (d ∷ s) c k n e p = (e, p)
 
 -- the octets begin with identifier octets, or with none
 data IdentifierFront (octets : List ℕ) : Type 0 where
@@ -99,42 +101,43 @@ data IdentifierFront (octets : List ℕ) : Type 0 where
       → IdentifierFront octets
 
 -- a number that is no octet leads no identifier octets
-no_octet : (b : ℕ) (octets : List ℕ) → 256 ≤ b → (s rest : List ℕ) (c : ASN1Class) (k : Bool) (n : ℕ)
+IsIdentifier-not_from_256 : (b : ℕ) (octets : List ℕ) → 256 ≤ b → (s rest : List ℕ) (c : ASN1Class) (k : Bool) (n : ℕ)
     → IsIdentifier s c k n
     → b ∷ octets ≡ s ++ rest → ⊥
-no_octet b octets h [] rest c k n p e = p
-no_octet b octets h (a ∷ s) rest c k n p e =
+IsIdentifier-not_from_256 b octets h [] rest c k n p e = p
+IsIdentifier-not_from_256 b octets h (a ∷ s) rest c k n p e =
     let d : b ≡ a = cc in
-    omega (arith, h, d, leading_small a s c k n p)
+    omega (arith, h, d, IsIdentifier-first_lt a s c k n p)
 
 -- an octet that ends in 31 leads no identifier octets, if no base-128 number comes behind it
-no_identifier_from_31 : (b : ℕ) (octets : List ℕ) → 31 ≤ b % 32
+IsIdentifier-not_without_base128 : (b : ℕ) (octets : List ℕ) → 31 ≤ b % 32
     → ((s rest : List ℕ) → IsContinued s → octets ≡ s ++ rest → ⊥)
     → (s rest : List ℕ) (c : ASN1Class) (k : Bool) (n : ℕ) → IsIdentifier s c k n → b ∷ octets ≡ s ++ rest → ⊥
-no_identifier_from_31 b octets h none [] rest c k n p e = p
-no_identifier_from_31 b octets h none (a ∷ []) rest c k n p e =
+IsIdentifier-not_without_base128 b octets h none [] rest c k n p e = p
+IsIdentifier-not_without_base128 b octets h none (a ∷ []) rest c k n p e =
     let d : b ≡ a = cc in
     let f : b ≡ leading_octet c k n = d ∙ p.1 in
     omega (arith, h, f, p.0)
-no_identifier_from_31 b octets h none (a ∷ d ∷ s) rest c k n p e =
+IsIdentifier-not_without_base128 b octets h none (a ∷ d ∷ s) rest c k n p e =
     let r : octets ≡ (d ∷ s) ++ rest = cc in
     none (d ∷ s) rest p.1.continued r
 
 -- octets begin with identifier octets, or with none
 identifier_front : (octets : List ℕ) → IdentifierFront octets
 identifier_front [] =
-    not_identified (λ s rest c k n p e. omega (arith, identifier_some s c k n p, ap length e, length-append s rest))
+    not_identified
+    (λ s rest c k n p e. omega (arith, IsIdentifier-not_empty s c k n p, ap length e, length-append s rest))
 identifier_front (b ∷ octets) = elim (cases_lt b 256) [
-  | inr ge ↦ not_identified (no_octet b octets ge)
+  | inr ge ↦ not_identified (IsIdentifier-not_from_256 b octets ge)
   | inl lt ↦
-      let (c, k, e) = leading_parts b lt in
+      let (c, k, e) = leading_octet-parts b lt in
       elim (cases_lt (b % 32) 31) [
         | inl low ↦ identified (b ∷ []) octets c k (b % 32) (low, e) refl
         | inr high ↦ elim (continued_front octets) [
-          | never_ends none ↦ not_identified (no_identifier_from_31 b octets high none)
+          | never_ends none ↦ not_identified (IsIdentifier-not_without_base128 b octets high none)
           | ends s rest p d ↦
               let f : b % 32 ≡ 31 = omega (arith, high) in
-              identified (b ∷ s) rest c k (low_bits_number s) (long_identifier b s c k (low_bits_number s) (e
+              identified (b ∷ s) rest c k (low_bits_number s) (IsIdentifier-long b s c k (low_bits_number s) (e
               ∙ ap (leading_octet c k) f) (record { continued = p; value = refl })) (ap (λ l. b ∷ l) d)
         ]
       ]
@@ -146,13 +149,13 @@ data LengthFront (octets : List ℕ) : Type 0 where
   not_measured : ((l rest : List ℕ) (m : ℕ) → IsLength l m → octets ≡ l ++ rest → ⊥) → LengthFront octets
 
 -- the octets that a leading length octet asks for are there
-length_shape : (b : ℕ) (octets l rest : List ℕ) (m : ℕ) → IsLength l m → b ∷ octets ≡ l ++ rest
+IsLength-shape : (b : ℕ) (octets l rest : List ℕ) (m : ℕ) → IsLength l m → b ∷ octets ≡ l ++ rest
     → (b < 128) ⊎ ((b ≤ 136) × (b ≤ 128 + length octets))
-length_shape b octets [] rest m p e = absurd p
-length_shape b octets (a ∷ l) rest m (inl p) e =
+IsLength-shape b octets [] rest m p e = absurd p
+IsLength-shape b octets (a ∷ l) rest m (inl p) e =
     let d : b ≡ a = cc in
     inl (omega (arith, d, p.0))
-length_shape b octets (a ∷ l) rest m (inr p) e =
+IsLength-shape b octets (a ∷ l) rest m (inr p) e =
     let d : b ≡ a = cc in
     let r : octets ≡ l ++ rest = cc in
     inr (omega (arith, d, p.0, p.1), omega (arith, d, p.0, ap length r, length-append l rest))
@@ -167,10 +170,10 @@ length_front [] = not_measured (λ l rest m p e. none l rest m p e)
 length_front (b ∷ octets) = elim (cases_lt b 128) [
   | inl lt ↦ measured (b ∷ []) octets b (inl (lt, refl, refl)) refl
   | inr ge ↦ elim (cases_lt 136 b) [
-    | inl big ↦ not_measured (λ l rest m p e. elim (length_shape b octets l rest m p e)
+    | inl big ↦ not_measured (λ l rest m p e. elim (IsLength-shape b octets l rest m p e)
         [ inl h ↦ omega (arith, h, ge) | inr h ↦ omega (arith, h.0, big) ])
     | inr few ↦ elim (cases_lt (length octets) (b - 128)) [
-      | inl short ↦ not_measured (λ l rest m p e. elim (length_shape b octets l rest m p e)
+      | inl short ↦ not_measured (λ l rest m p e. elim (IsLength-shape b octets l rest m p e)
           [ inl h ↦ omega (arith, h, ge) | inr h ↦ omega (arith, h.1, short) ])
       | inr enough ↦
           let h = length-take-le (b - 128) octets enough in
@@ -221,7 +224,7 @@ length_front_after : (place : ℕ) (octets s rest : List ℕ) (c : ASN1Class) (k
     → octets ≡ s ++ rest
     → EncodingFront place octets
 length_front_after place octets s [] c k n t g = begins_not incomplete (no_identifier (λ s' rest c' k' n' b t' g'.
-    let q = identifier_alone s s' [] (b ∷ rest) c c' k k' n n' t t' (sym g ∙ g') in
+    let q = IsIdentifier-unique s s' [] (b ∷ rest) c c' k k' n n' t t' (sym g ∙ g') in
     omega (arith, ap length q.rest)))
 length_front_after place octets s (b ∷ rest) c k n t g = elim (length_front (b ∷ rest)) [
   | not_measured none ↦ begins_not (length_fault (b ∷ rest)) (no_length s b rest c k n t g none refl)

@@ -7,32 +7,35 @@ use Rattle.asn1_numbers.specs.Base128.{IsContinued, IsBase128}
 use Rattle.asn1_headers.specs.Header.{BeginsWithNo, IsSomeIdentifier}
 
 -- octets up to the first whose bit 8 is clear
-pub continued_at : (octets : List ℕ) (i : ℕ) → i < length octets → get_or octets i 0 < 128
+pub IsContinued-take : (octets : List ℕ) (i : ℕ) → i < length octets → get_or octets i 0 < 128
     → ((j : ℕ) → j < i → 128 ≤ get_or octets j 0)
     → IsContinued (take (suc i) octets)
-continued_at [] i h lt high = absurd (omega (arith, h))
-continued_at (b ∷ []) zero h lt high = lt
-continued_at (b ∷ c ∷ octets) zero h lt high = lt
-continued_at (b ∷ []) (suc i) h lt high = absurd (omega (arith, h))
-continued_at (b ∷ c ∷ octets) (suc i) h lt high =
-    (high 0 (omega arith), continued_at (c ∷ octets) i (omega (arith, h)) lt (λ j l. high (suc j) (omega (arith, l))))
+IsContinued-take [] i h lt high = absurd (omega (arith, h))
+IsContinued-take (b ∷ []) zero h lt high = lt
+IsContinued-take (b ∷ c ∷ octets) zero h lt high = lt
+IsContinued-take (b ∷ []) (suc i) h lt high = absurd (omega (arith, h))
+IsContinued-take (b ∷ c ∷ octets) (suc i) h lt high = (
+  high 0 (omega arith),
+  IsContinued-take (c ∷ octets) i (omega (arith, h)) lt
+      (λ j l. high (suc j) (omega (arith, l))),
+)
 
 -- octets whose bit 8 is always set end no number
-pub not_continued : (octets : List ℕ) (k : ℕ) → ((j : ℕ) → j < length octets → 128 ≤ get_or octets j 0)
+pub IsContinued-not_high : (octets : List ℕ) (k : ℕ) → ((j : ℕ) → j < length octets → 128 ≤ get_or octets j 0)
     → IsContinued (take k octets) → ⊥
-not_continued [] zero high e = e
-not_continued [] (suc k) high e = e
-not_continued (b ∷ octets) zero high e = e
-not_continued (b ∷ []) (suc zero) high e = omega (arith, e, high 0 (omega arith))
-not_continued (b ∷ []) (suc (suc k)) high e = omega (arith, e, high 0 (omega arith))
-not_continued (b ∷ c ∷ octets) (suc zero) high e = omega (arith, e, high 0 (omega arith))
-not_continued (b ∷ c ∷ octets) (suc (suc k)) high e =
-    not_continued (c ∷ octets) (suc k) (λ j l. high (suc j) (omega (arith, l))) e.1
+IsContinued-not_high [] zero high e = e
+IsContinued-not_high [] (suc k) high e = e
+IsContinued-not_high (b ∷ octets) zero high e = e
+IsContinued-not_high (b ∷ []) (suc zero) high e = omega (arith, e, high 0 (omega arith))
+IsContinued-not_high (b ∷ []) (suc (suc k)) high e = omega (arith, e, high 0 (omega arith))
+IsContinued-not_high (b ∷ c ∷ octets) (suc zero) high e = omega (arith, e, high 0 (omega arith))
+IsContinued-not_high (b ∷ c ∷ octets) (suc (suc k)) high e =
+    IsContinued-not_high (c ∷ octets) (suc k) (λ j l. high (suc j) (omega (arith, l))) e.1
 
 -- a leading octet that announces a number that does not come
-pub no_long_identifier : (b : ℕ) (rest : List ℕ) → b % 32 ≡ 31 → BeginsWithNo IsBase128 rest
+pub BeginsWithNo-long_identifier : (b : ℕ) (rest : List ℕ) → b % 32 ≡ 31 → BeginsWithNo IsBase128 rest
     → BeginsWithNo IsSomeIdentifier (b ∷ rest)
-no_long_identifier b rest low missing n k = go rest k low missing
+BeginsWithNo-long_identifier b rest low missing n k = go rest k low missing
   where
     go : (rest : List ℕ) (k : ℕ) → b % 32 ≡ 31 → BeginsWithNo IsBase128 rest → IsSomeIdentifier (take k (b ∷ rest)) n
         → ⊥
@@ -43,8 +46,8 @@ no_long_identifier b rest low missing n k = go rest k low missing
     go (d ∷ rest) (suc (suc i)) low missing (c, k, t) = missing n (suc i) t.1
 
 -- the octets of a length are few
-pub few_octets : (n : ℕ) → n < 2 ^ 64 → length (digits_of 256 n) ≤ 8
-few_octets n h = length-digits_of-le 256 8 n (omega arith) h
+pub length-octets_le : (n : ℕ) → n < 2 ^ 64 → length (digits_of 256 n) ≤ 8
+length-octets_le n h = length-digits_of-le 256 8 n (omega arith) h
 
 -- fewer than eight octets leave room for one more
 pub room_for_octet : (n i : ℕ) → n < 256 ^ i → i < 8 → n * 256 + 255 < 2 ^ 64

@@ -5,8 +5,8 @@ use Rattle.asn1_headers.specs.declared.header.ASN1Class.{ASN1Class}
 use Rattle.asn1_headers.specs.declared.header.ASN1Class.TheVariants.{Universal, Application, ContextSpecific, Private}
 use Rattle.asn1_headers.specs.Names.{type_name, universal_names}
 
-pub past_names : (class : ASN1Class) (tag : ℕ) → 37 ≤ tag → None ≡ type_name class tag
-past_names Universal tag l = sym (get_or_past universal_names tag None l)
-past_names Application tag l = refl
-past_names ContextSpecific tag l = refl
-past_names Private tag l = refl
+pub type_name-past : (class : ASN1Class) (tag : ℕ) → 37 ≤ tag → None ≡ type_name class tag
+type_name-past Universal tag l = sym (get_or_past universal_names tag None l)
+type_name-past Application tag l = refl
+type_name-past ContextSpecific tag l = refl
+type_name-past Private tag l = refl

@@ -7,48 +7,48 @@ use Rattle.asn1_numbers.specs.Base128.{IsBase128, IsContinued, low_bits_number}
 use Rattle.asn1_headers.specs.Header.{IsIdentifier, IsLength, Encoding, class_number, constructed_bit, leading_octet}
 
 -- identifier octets are some
-pub identifier_some : (s : List ℕ) (c : ASN1Class) (k : Bool) (n : ℕ) → IsIdentifier s c k n → 0 < length s
-identifier_some [] c k n t = absurd t
-identifier_some (b ∷ s) c k n t = omega arith
+pub IsIdentifier-not_empty : (s : List ℕ) (c : ASN1Class) (k : Bool) (n : ℕ) → IsIdentifier s c k n → 0 < length s
+IsIdentifier-not_empty [] c k n t = absurd t
+IsIdentifier-not_empty (b ∷ s) c k n t = omega arith
 
 -- an encoding has octets
-pub encoding_some : (octets : List ℕ) (c : ASN1Class) (k : Bool) (n : ℕ) (contents : List ℕ) (h : ℕ)
+pub Encoding-not_empty : (octets : List ℕ) (c : ASN1Class) (k : Bool) (n : ℕ) (contents : List ℕ) (h : ℕ)
     → Encoding octets c k n contents h → 0 < length octets
-encoding_some octets c k n contents h f =
+Encoding-not_empty octets c k n contents h f =
     omega (
       arith,
-      identifier_some f.identifier c k n f.identifier_octets,
+      IsIdentifier-not_empty f.identifier c k n f.identifier_octets,
       ap length f.whole,
       length-append f.identifier (f.len ++ contents),
     )
 
 -- two splits of one list at one place are one
-pub same_split : (s t x y : List ℕ) → length s ≡ length t → s ++ x ≡ t ++ y → (s ≡ t) × (x ≡ y)
-same_split [] [] x y l e = (refl, e)
-same_split [] (b ∷ t) x y l e = absurd (omega (arith, l))
-same_split (a ∷ s) [] x y l e = absurd (omega (arith, l))
-same_split (a ∷ s) (b ∷ t) x y l e =
+pub append-injective : (s t x y : List ℕ) → length s ≡ length t → s ++ x ≡ t ++ y → (s ≡ t) × (x ≡ y)
+append-injective [] [] x y l e = (refl, e)
+append-injective [] (b ∷ t) x y l e = absurd (omega (arith, l))
+append-injective (a ∷ s) [] x y l e = absurd (omega (arith, l))
+append-injective (a ∷ s) (b ∷ t) x y l e =
     let h : a ≡ b = cc in
     let r : s ++ x ≡ t ++ y = cc in
-    let p = same_split s t x y (omega (arith, l)) r in
+    let p = append-injective s t x y (omega (arith, l)) r in
     let q : s ≡ t = p.0 in
     (cc, p.1)
 
 -- continued octets begin no others
-pub continued_alone : (s t x y : List ℕ) → IsContinued s → IsContinued t → s ++ x ≡ t ++ y → (s ≡ t) × (x ≡ y)
-continued_alone [] t x y p q e = absurd p
-continued_alone (a ∷ s) [] x y p q e = absurd q
-continued_alone (a ∷ []) (b ∷ []) x y p q e = (cc, cc)
-continued_alone (a ∷ []) (b ∷ d ∷ t) x y p q e =
+pub IsContinued-unique : (s t x y : List ℕ) → IsContinued s → IsContinued t → s ++ x ≡ t ++ y → (s ≡ t) × (x ≡ y)
+IsContinued-unique [] t x y p q e = absurd p
+IsContinued-unique (a ∷ s) [] x y p q e = absurd q
+IsContinued-unique (a ∷ []) (b ∷ []) x y p q e = (cc, cc)
+IsContinued-unique (a ∷ []) (b ∷ d ∷ t) x y p q e =
     let h : a ≡ b = cc in
     absurd (omega (arith, p, q.0, h))
-continued_alone (a ∷ c ∷ s) (b ∷ []) x y p q e =
+IsContinued-unique (a ∷ c ∷ s) (b ∷ []) x y p q e =
     let h : a ≡ b = cc in
     absurd (omega (arith, p.0, q, h))
-continued_alone (a ∷ c ∷ s) (b ∷ d ∷ t) x y p q e =
+IsContinued-unique (a ∷ c ∷ s) (b ∷ d ∷ t) x y p q e =
     let h : a ≡ b = cc in
     let r : (c ∷ s) ++ x ≡ (d ∷ t) ++ y = cc in
-    let i = continued_alone (c ∷ s) (d ∷ t) x y p.1 q.1 r in
+    let i = IsContinued-unique (c ∷ s) (d ∷ t) x y p.1 q.1 r in
     let j : c ∷ s ≡ d ∷ t = i.0 in
     (cc, i.1)
 
@@ -79,9 +79,9 @@ bit_with-constructed_bit true = refl
 bit_with-constructed_bit false = refl
 
 -- the constructed bit is one bit
-pub bit_small : (b : Bool) → constructed_bit b < 2
-bit_small true = omega arith
-bit_small false = omega arith
+pub constructed_bit-lt : (b : Bool) → constructed_bit b < 2
+constructed_bit-lt true = omega arith
+constructed_bit-lt false = omega arith
 
 -- the class, the constructed bit and the low bits of a leading octet
 pub record SameLeading (c d : ASN1Class) (j k : Bool) (m n : ℕ) : Type 0 where
@@ -94,8 +94,8 @@ pub leading_octet-same :
     (c d : ASN1Class) (j k : Bool) (m n : ℕ) → m < 32 → n < 32 → leading_octet c j m ≡ leading_octet d k n →
     SameLeading c d j k m n
 leading_octet-same c d j k m n lm ln e =
-    let p = bit_small j in
-    let q = bit_small k in
+    let p = constructed_bit-lt j in
+    let q = constructed_bit-lt k in
     let f : class_number c ≡ class_number d = omega (arith, e, p, q, lm, ln) in
     let g : constructed_bit j ≡ constructed_bit k = omega (arith, e, p, q, lm, ln, f) in
     record {
@@ -111,10 +111,10 @@ pub record SameNumber (s t x y : List ℕ) (m n : ℕ) : Type 0 where
   pub number : m ≡ n
 
 -- a base-128 number begins no other
-pub base128_alone :
+pub IsBase128-unique :
     (s t x y : List ℕ) (m n : ℕ) → IsBase128 s m → IsBase128 t n → s ++ x ≡ t ++ y → SameNumber s t x y m n
-base128_alone s t x y m n p q e =
-    let f = continued_alone s t x y p.continued q.continued e in
+IsBase128-unique s t x y m n p q e =
+    let f = IsContinued-unique s t x y p.continued q.continued e in
     record { octets = f.0; rest = f.1; number = p.value ∙ ap low_bits_number f.0 ∙ sym q.value }
 
 -- what two identifiers at the front of one list share
@@ -126,50 +126,50 @@ pub record SameIdentifier (s t x y : List ℕ) (c d : ASN1Class) (j k : Bool) (m
   pub tag : m ≡ n
 
 -- identifier octets begin no others
-pub identifier_alone :
+pub IsIdentifier-unique :
     (s t x y : List ℕ) (c d : ASN1Class) (j k : Bool) (m n : ℕ) → IsIdentifier s c j m → IsIdentifier t d k n →
     s ++ x ≡ t ++ y → SameIdentifier s t x y c d j k m n
-identifier_alone [] t x y c d j k m n p q e = absurd p
-identifier_alone (a ∷ s) [] x y c d j k m n p q e = absurd q
-identifier_alone (a ∷ []) (b ∷ []) x y c d j k m n p q e =
+IsIdentifier-unique [] t x y c d j k m n p q e = absurd p
+IsIdentifier-unique (a ∷ s) [] x y c d j k m n p q e = absurd q
+IsIdentifier-unique (a ∷ []) (b ∷ []) x y c d j k m n p q e =
     let h : a ≡ b = cc in
     let r : x ≡ y = cc in
     let i = leading_octet-same c d j k m n (omega (arith, p.0)) (omega (arith, q.0)) (sym p.1 ∙ h ∙ q.1) in
     record { octets = cc; rest = r; class = i.class; constructed = i.constructed; tag = i.low }
-identifier_alone (a ∷ []) (b ∷ v ∷ t) x y c d j k m n p q e =
+IsIdentifier-unique (a ∷ []) (b ∷ v ∷ t) x y c d j k m n p q e =
     let h : a ≡ b = cc in
     let i = leading_octet-same c d j k m 31 (omega (arith, p.0)) (omega arith) (sym p.1 ∙ h ∙ q.0) in
     absurd (omega (arith, i.low, p.0))
-identifier_alone (a ∷ u ∷ s) (b ∷ []) x y c d j k m n p q e =
+IsIdentifier-unique (a ∷ u ∷ s) (b ∷ []) x y c d j k m n p q e =
     let h : a ≡ b = cc in
     let i = leading_octet-same c d j k 31 n (omega arith) (omega (arith, q.0)) (sym p.0 ∙ h ∙ q.1) in
     absurd (omega (arith, i.low, q.0))
-identifier_alone (a ∷ u ∷ s) (b ∷ v ∷ t) x y c d j k m n p q e =
+IsIdentifier-unique (a ∷ u ∷ s) (b ∷ v ∷ t) x y c d j k m n p q e =
     let h : a ≡ b = cc in
     let r : (u ∷ s) ++ x ≡ (v ∷ t) ++ y = cc in
     let i = leading_octet-same c d j k 31 31 (omega arith) (omega arith) (sym p.0 ∙ h ∙ q.0) in
-    let f = base128_alone (u ∷ s) (v ∷ t) x y m n p.1 q.1 r in
+    let f = IsBase128-unique (u ∷ s) (v ∷ t) x y m n p.1 q.1 r in
     let g : u ∷ s ≡ v ∷ t = f.octets in
     record { octets = cc; rest = f.rest; class = i.class; constructed = i.constructed; tag = f.number }
 
 -- length octets begin no others
-pub length_alone :
+pub IsLength-unique :
     (s t x y : List ℕ) (m n : ℕ) → IsLength s m → IsLength t n → s ++ x ≡ t ++ y → SameNumber s t x y m n
-length_alone [] t x y m n p q e = absurd p
-length_alone (a ∷ s) [] x y m n p q e = absurd q
-length_alone (a ∷ s) (b ∷ t) x y m n (inl (_, p, f)) (inl (_, q, g)) e =
+IsLength-unique [] t x y m n p q e = absurd p
+IsLength-unique (a ∷ s) [] x y m n p q e = absurd q
+IsLength-unique (a ∷ s) (b ∷ t) x y m n (inl (_, p, f)) (inl (_, q, g)) e =
     let h : a ≡ b = cc in
-    let i = same_split (a ∷ s) (b ∷ t) x y (omega (arith, ap length p, ap length q)) e in
+    let i = append-injective (a ∷ s) (b ∷ t) x y (omega (arith, ap length p, ap length q)) e in
     record { octets = i.0; rest = i.1; number = f ∙ h ∙ sym g }
-length_alone (a ∷ s) (b ∷ t) x y m n (inl p) (inr q) e =
+IsLength-unique (a ∷ s) (b ∷ t) x y m n (inl p) (inr q) e =
     let h : a ≡ b = cc in
     absurd (omega (arith, h, p.0, q.0))
-length_alone (a ∷ s) (b ∷ t) x y m n (inr p) (inl q) e =
+IsLength-unique (a ∷ s) (b ∷ t) x y m n (inr p) (inl q) e =
     let h : a ≡ b = cc in
     absurd (omega (arith, h, p.0, q.0))
-length_alone (a ∷ s) (b ∷ t) x y m n (inr (p, _, f)) (inr (q, _, g)) e =
+IsLength-unique (a ∷ s) (b ∷ t) x y m n (inr (p, _, f)) (inr (q, _, g)) e =
     let h : a ≡ b = cc in
-    let i = same_split (a ∷ s) (b ∷ t) x y (omega (arith, h, p, q)) e in
+    let i = append-injective (a ∷ s) (b ∷ t) x y (omega (arith, h, p, q)) e in
     let o : a ∷ s ≡ b ∷ t = i.0 in
     let r : s ≡ t = cc in
     record { octets = o; rest = i.1; number = f ∙ ap (number_from_digits 256) r ∙ sym g }
@@ -186,17 +186,18 @@ pub record SameEncoding (xs ys : List ℕ) (c d : ASN1Class) (j k : Bool) (m n :
   pub rest : r ≡ q
 
 -- an encoding begins no other
-pub encoding_alone : (xs ys : List ℕ) (c d : ASN1Class) (j k : Bool) (m n : ℕ) (v w : List ℕ) (g h : ℕ) (r q : List ℕ)
+pub Encoding-unique : (xs ys : List ℕ) (c d : ASN1Class) (j k : Bool) (m n : ℕ) (v w : List ℕ) (g h : ℕ) (r q : List ℕ)
     → Encoding xs c j m v g
     → Encoding ys d k n w h → xs ++ r ≡ ys ++ q → SameEncoding xs ys c d j k m n v w g h r q
-encoding_alone xs ys c d j k m n v w g h r q F G e =
+Encoding-unique xs ys c d j k m n v w g h r q F G e =
     let e1 : F.identifier ++ (F.len ++ (v ++ r)) ≡ G.identifier ++ (G.len ++ (w ++ q)) =
     sym (regroup F.identifier F.len v r)
     ∙ (ap (λ z. z ++ r) (sym F.whole) ∙ e ∙ ap (λ z. z ++ q) G.whole) ∙ regroup G.identifier G.len w q in
-    let t = identifier_alone F.identifier G.identifier (F.len ++ (v ++ r)) (G.len ++ (w ++ q)) c d j k m n
+    let t = IsIdentifier-unique F.identifier G.identifier (F.len ++ (v ++ r)) (G.len ++ (w ++ q)) c d j k m n
     F.identifier_octets G.identifier_octets e1 in
-    let l = length_alone F.len G.len (v ++ r) (w ++ q) (length v) (length w) F.length_octets G.length_octets t.rest in
-    let b = same_split v w r q l.number l.rest in
+    let l =
+    IsLength-unique F.len G.len (v ++ r) (w ++ q) (length v) (length w) F.length_octets G.length_octets t.rest in
+    let b = append-injective v w r q l.number l.rest in
     record {
       octets = F.whole ∙ ap (λ z. z ++ (F.len ++ v)) t.octets ∙ ap (λ z. G.identifier ++ (z ++ v)) l.octets
           ∙ ap (λ z. G.identifier ++ (G.len ++ z)) b.0

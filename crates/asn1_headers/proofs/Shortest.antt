@@ -13,16 +13,16 @@ use Rattle.asn1_numbers.specs.Octets.{AreOctets}
 use Rattle.asn1_numbers.specs.Base128.{IsBase128, IsContinued, shortest_base128}
 use Rattle.asn1_numbers.specs.Inner.Natural.{HasNoLeadingZeros}
 use Rattle.asn1_headers.specs.Header.{IsIdentifier, IsLength, leading_octet, shortest_identifier, shortest_length}
-use Rattle.asn1_numbers.proofs.Base128Digits.{short_push}
+use Rattle.asn1_numbers.proofs.Base128Digits.{HasNoLeadingZeros-push}
 use Rattle.asn1_numbers.proofs.Base128Forms.{length-shortest_base128 as length-shortest_base128-digits}
-use Rattle.asn1_headers.proofs.Fronts.{continued_more, long_identifier}
-use Rattle.asn1_headers.proofs.Prefixes.{identifier_some}
+use Rattle.asn1_headers.proofs.Fronts.{IsContinued-cons, IsIdentifier-long}
+use Rattle.asn1_headers.proofs.Prefixes.{IsIdentifier-not_empty}
 
 -- digits with bit 8 set, and a last octet
 IsContinued-marked : (ds : List ℕ) (d : ℕ) → d < 128 → IsContinued (map (λ d. 128 + d) ds ++ d ∷ [])
 IsContinued-marked [] d h = h
 IsContinued-marked (e ∷ ds) d h =
-    continued_more (128 + e) (map (λ d. 128 + d) ds ++ d ∷ []) (omega arith) (IsContinued-marked ds d h)
+    IsContinued-cons (128 + e) (map (λ d. 128 + d) ds ++ d ∷ []) (omega arith) (IsContinued-marked ds d h)
 
 -- their low bits are the digits
 map-low_bits-marked : (ds : List ℕ) (d : ℕ) → AllBelowBase 128 ds → d < 128
@@ -36,8 +36,8 @@ map-low_bits-marked (a ∷ ds) d all h =
     cc
 
 -- the shortest base-128 number is one
-pub shortest_base128_is : (n : ℕ) → IsBase128 (shortest_base128 n) n
-shortest_base128_is n =
+pub IsBase128-shortest : (n : ℕ) → IsBase128 (shortest_base128 n) n
+IsBase128-shortest n =
     let ds = digits_of 128 (n / 128) in
     let last : n % 128 < 128 = omega arith in
     let low = map-low_bits-marked ds (n % 128) (all_below_base_digits_of 128 (n / 128) (omega arith)) last in
@@ -52,8 +52,8 @@ shortest_base128_is n =
     }
 
 -- the shortest length octets are length octets
-pub shortest_length_is : (n : ℕ) → n < 2 ^ 64 → IsLength (shortest_length n) n
-shortest_length_is n h =
+pub IsLength-shortest : (n : ℕ) → n < 2 ^ 64 → IsLength (shortest_length n) n
+IsLength-shortest n h =
     let ds = digits_of 256 n in
     let long = (128 + length ds) ∷ ds in
     elim (cases_lt n 128) [
@@ -63,14 +63,14 @@ shortest_length_is n h =
     ]
 
 -- the shortest identifier octets are identifier octets
-pub shortest_identifier_is : (c : ASN1Class) (k : Bool) (n : ℕ) → IsIdentifier (shortest_identifier c k n) c k n
-shortest_identifier_is c k n =
+pub IsIdentifier-shortest : (c : ASN1Class) (k : Bool) (n : ℕ) → IsIdentifier (shortest_identifier c k n) c k n
+IsIdentifier-shortest c k n =
     let short = leading_octet c k n ∷ [] in
     let long = leading_octet c k 31 ∷ shortest_base128 n in
     elim (cases_lt n 31) [
       | inl lt ↦ subst (λ s. IsIdentifier s c k n) (cond_below n 31 short long lt) (lt, refl)
       | inr ge ↦ subst (λ s. IsIdentifier s c k n) (cond_above n 31 short long long ge refl)
-          (long_identifier (leading_octet c k 31) (shortest_base128 n) c k n refl (shortest_base128_is n))
+          (IsIdentifier-long (leading_octet c k 31) (shortest_base128 n) c k n refl (IsBase128-shortest n))
     ]
 
 -- low bits are base-128 digits
@@ -85,9 +85,10 @@ length-shortest_base128 n =
     omega (arith, length-append (map (λ d. 128 + d) ds) (n % 128 ∷ []), length-map ds (λ d. 128 + d))
 
 -- no octets of the same base-128 number are fewer
-pub shortest_base128_le : (octets : List ℕ) (n : ℕ) → IsBase128 octets n → length (shortest_base128 n) ≤ length octets
-shortest_base128_le [] n p = absurd p.continued
-shortest_base128_le (b ∷ octets) n p =
+pub length-shortest_base128_le : (octets : List ℕ) (n : ℕ) → IsBase128 octets n
+    → length (shortest_base128 n) ≤ length octets
+length-shortest_base128_le [] n p = absurd p.continued
+length-shortest_base128_le (b ∷ octets) n p =
     let low = map (λ b. b % 128) (b ∷ octets) in
     let below = number_lt 128 low (AllBelowBase-low_bits (b ∷ octets)) in
     let size : length low ≡ suc (length octets) = length-map (b ∷ octets) (λ b. b % 128) in
@@ -96,28 +97,28 @@ shortest_base128_le (b ∷ octets) n p =
     omega (arith, length-shortest_base128 n, length-digits_of-le 128 (length octets) (n / 128) (omega arith) few)
 
 -- no identifier octets of the same fields are fewer
-pub shortest_identifier_le : (octets : List ℕ) (c : ASN1Class) (k : Bool) (n : ℕ) → IsIdentifier octets c k n
+pub length-shortest_identifier_le : (octets : List ℕ) (c : ASN1Class) (k : Bool) (n : ℕ) → IsIdentifier octets c k n
     → length (shortest_identifier c k n) ≤ length octets
-shortest_identifier_le octets c k n p =
+length-shortest_identifier_le octets c k n p =
     let short = leading_octet c k n ∷ [] in
     let long = leading_octet c k 31 ∷ shortest_base128 n in
     elim (cases_lt n 31) [
       | inl lt ↦
           subst (λ s. length s ≤ length octets) (cond_below n 31 short long lt)
-          (omega (arith, identifier_some octets c k n p))
+          (omega (arith, IsIdentifier-not_empty octets c k n p))
       | inr ge ↦ subst (λ s. length s ≤ length octets) (cond_above n 31 short long long ge refl) (long_le octets p ge)
     ]
   where
     long_le : (octets : List ℕ) → IsIdentifier octets c k n → 31 ≤ n → suc (length (shortest_base128 n)) ≤ length octets
     long_le [] q h = absurd q
     long_le (b ∷ []) q h = absurd (omega (arith, q.0, h))
-    long_le (b ∷ d ∷ octets) q h = omega (arith, shortest_base128_le (d ∷ octets) n q.1)
+    long_le (b ∷ d ∷ octets) q h = omega (arith, length-shortest_base128_le (d ∷ octets) n q.1)
 
 -- no length octets of the same length are fewer
-pub shortest_length_le : (octets : List ℕ) (n : ℕ) → All (λ b. b < 256) octets → IsLength octets n
+pub length-shortest_length_le : (octets : List ℕ) (n : ℕ) → All (λ b. b < 256) octets → IsLength octets n
     → length (shortest_length n) ≤ length octets
-shortest_length_le [] n all p = absurd p
-shortest_length_le (b ∷ octets) n all p =
+length-shortest_length_le [] n all p = absurd p
+length-shortest_length_le (b ∷ octets) n all p =
     let ds = digits_of 256 n in
     let long = (128 + length ds) ∷ ds in
     elim (cases_lt n 128) [
@@ -137,35 +138,37 @@ shortest_length_le (b ∷ octets) n all p =
         omega (arith, length-digits_of-le 256 (length octets) n (omega arith) small)
 
 -- as many digits of the same number, after digits of some numbers, are the same, and so are those numbers
-same_digits : (b m n : ℕ) (xs ys : List ℕ) → AllBelowBase b xs → AllBelowBase b ys → length xs ≡ length ys
+number_from_digits_after-injective : (b m n : ℕ) (xs ys : List ℕ) → AllBelowBase b xs → AllBelowBase b ys
+    → length xs ≡ length ys
     → number_from_digits_after b m xs ≡ number_from_digits_after b n ys → (m ≡ n) × (xs ≡ ys)
-same_digits b m n [] [] p q l e = (e, refl)
-same_digits b m n [] (y ∷ ys) p q l e = absurd (omega (arith, l))
-same_digits b m n (x ∷ xs) [] p q l e = absurd (omega (arith, l))
-same_digits b m n (x ∷ xs) (y ∷ ys) p q l e =
-    let f = same_digits b (m * b + x) (n * b + y) xs ys p.1 q.1 (omega (arith, l)) e in
+number_from_digits_after-injective b m n [] [] p q l e = (e, refl)
+number_from_digits_after-injective b m n [] (y ∷ ys) p q l e = absurd (omega (arith, l))
+number_from_digits_after-injective b m n (x ∷ xs) [] p q l e = absurd (omega (arith, l))
+number_from_digits_after-injective b m n (x ∷ xs) (y ∷ ys) p q l e =
+    let f = number_from_digits_after-injective b (m * b + x) (n * b + y) xs ys p.1 q.1 (omega (arith, l)) e in
     let quotient : m ≡ n = sym (div-mul-add m b x p.0) ∙ ap (λ k. k / b) f.0 ∙ div-mul-add n b y q.0 in
     let digit : x ≡ y = sym (mod-mul-add m b x p.0) ∙ ap (λ k. k % b) f.0 ∙ mod-mul-add n b y q.0 in
     let rest : xs ≡ ys = f.1 in
     (quotient, cc)
 
 -- as many continued octets with the same bits 7 to 1 are the same
-same_continued : (xs ys : List ℕ) → IsContinued xs → IsContinued ys → AllBelowBase 256 xs → AllBelowBase 256 ys
+IsContinued-same_low_bits : (xs ys : List ℕ) → IsContinued xs → IsContinued ys → AllBelowBase 256 xs
+    → AllBelowBase 256 ys
     → length xs ≡ length ys
     → map (λ b. b % 128) xs ≡ map (λ b. b % 128) ys → xs ≡ ys
-same_continued [] ys p q s t l e = absurd p
-same_continued (x ∷ xs) [] p q s t l e = absurd q
-same_continued (x ∷ []) (y ∷ []) p q s t l e =
+IsContinued-same_low_bits [] ys p q s t l e = absurd p
+IsContinued-same_low_bits (x ∷ xs) [] p q s t l e = absurd q
+IsContinued-same_low_bits (x ∷ []) (y ∷ []) p q s t l e =
     let low : x % 128 ≡ y % 128 = cc in
     let same : x ≡ y = omega (arith, low, p, q) in
     cc
-same_continued (x ∷ []) (y ∷ d ∷ ys) p q s t l e = absurd (omega (arith, l))
-same_continued (x ∷ c ∷ xs) (y ∷ []) p q s t l e = absurd (omega (arith, l))
-same_continued (x ∷ c ∷ xs) (y ∷ d ∷ ys) p q s t l e =
+IsContinued-same_low_bits (x ∷ []) (y ∷ d ∷ ys) p q s t l e = absurd (omega (arith, l))
+IsContinued-same_low_bits (x ∷ c ∷ xs) (y ∷ []) p q s t l e = absurd (omega (arith, l))
+IsContinued-same_low_bits (x ∷ c ∷ xs) (y ∷ d ∷ ys) p q s t l e =
     let low : x % 128 ≡ y % 128 = cc in
     let same : x ≡ y = omega (arith, low, p.0, q.0, s.0, t.0) in
     let lows : map (λ b. b % 128) (c ∷ xs) ≡ map (λ b. b % 128) (d ∷ ys) = cc in
-    let rest = same_continued (c ∷ xs) (d ∷ ys) p.1 q.1 s.1 t.1 (omega (arith, l)) lows in
+    let rest = IsContinued-same_low_bits (c ∷ xs) (d ∷ ys) p.1 q.1 s.1 t.1 (omega (arith, l)) lows in
     cc
 
 -- digits with bit 8 set, and a last octet, are octets
@@ -175,28 +178,29 @@ AllBelowBase-marked [] d all h = (omega (arith, h), tt)
 AllBelowBase-marked (a ∷ ds) d all h = (omega (arith, all.0), AllBelowBase-marked ds d all.1 h)
 
 -- no others of the same base-128 number are as short
-pub shortest_base128_only : (octets : List ℕ) (n : ℕ) → All (λ b. b < 256) octets → IsBase128 octets n
+pub shortest_base128-only : (octets : List ℕ) (n : ℕ) → All (λ b. b < 256) octets → IsBase128 octets n
     → length octets ≤ length (shortest_base128 n) → octets ≡ shortest_base128 n
-shortest_base128_only octets n all p few =
+shortest_base128-only octets n all p few =
     let short = shortest_base128 n in
-    let q = shortest_base128_is n in
-    let size : length octets ≡ length short = omega (arith, few, shortest_base128_le octets n p) in
+    let q = IsBase128-shortest n in
+    let size : length octets ≡ length short = omega (arith, few, length-shortest_base128_le octets n p) in
     let small =
     AllBelowBase-marked (digits_of 128 (n / 128)) (n % 128) (all_below_base_digits_of 128 (n / 128) (omega arith))
     (omega arith) in
     let digits : length (map (λ b. b % 128) octets) ≡ length (map (λ b. b % 128) short) =
     length-map octets (λ b. b % 128) ∙ size ∙ sym (length-map short (λ b. b % 128)) in
     let low =
-    same_digits 128 0 0 (map (λ b. b % 128) octets) (map (λ b. b % 128) short) (AllBelowBase-low_bits octets)
+    number_from_digits_after-injective 128 0 0 (map (λ b. b % 128) octets) (map (λ b. b % 128) short)
+    (AllBelowBase-low_bits octets)
     (AllBelowBase-low_bits short) digits
     (sym p.value ∙ q.value) in
-    same_continued octets short p.continued q.continued (recursion_from_All _ _ all) small size low.1
+    IsContinued-same_low_bits octets short p.continued q.continued (recursion_from_All _ _ all) small size low.1
 
 -- no other identifier octets of the same fields are as short
-pub shortest_identifier_only : (octets : List ℕ) (c : ASN1Class) (k : Bool) (n : ℕ) → All (λ b. b < 256) octets
+pub shortest_identifier-only : (octets : List ℕ) (c : ASN1Class) (k : Bool) (n : ℕ) → All (λ b. b < 256) octets
     → IsIdentifier octets c k n
     → length octets ≤ length (shortest_identifier c k n) → octets ≡ shortest_identifier c k n
-shortest_identifier_only octets c k n all p few =
+shortest_identifier-only octets c k n all p few =
     let short = leading_octet c k n ∷ [] in
     let long = leading_octet c k 31 ∷ shortest_base128 n in
     elim (cases_lt n 31) [
@@ -220,15 +224,15 @@ shortest_identifier_only octets c k n all p few =
     long_only (b ∷ d ∷ octets) small q ge h =
         let leading : b ≡ leading_octet c k 31 = q.0 in
         let rest =
-        shortest_base128_only (d ∷ octets) n (All-drop (λ b. b < 256) 1 (b ∷ d ∷ octets) small) q.1
+        shortest_base128-only (d ∷ octets) n (All-drop (λ b. b < 256) 1 (b ∷ d ∷ octets) small) q.1
         (omega (arith, h)) in
         cc
 
 -- no other length octets of the same length are as short, but that 80 (hexadecimal) is as short as 00
-pub shortest_length_only : (octets : List ℕ) (n : ℕ) → All (λ b. b < 256) octets → octets ≢ 128 ∷ [] → IsLength octets n
+pub shortest_length-only : (octets : List ℕ) (n : ℕ) → All (λ b. b < 256) octets → octets ≢ 128 ∷ [] → IsLength octets n
     → length octets ≤ length (shortest_length n) → octets ≡ shortest_length n
-shortest_length_only [] n all other p few = absurd p
-shortest_length_only (b ∷ octets) n all other p few =
+shortest_length-only [] n all other p few = absurd p
+shortest_length-only (b ∷ octets) n all other p few =
     let ds = digits_of 256 n in
     let long = (128 + length ds) ∷ ds in
     elim (cases_lt n 128) [
@@ -236,7 +240,8 @@ shortest_length_only (b ∷ octets) n all other p few =
           subst (λ s. length (b ∷ octets) ≤ length s → b ∷ octets ≡ s) (cond_below n 128 (n ∷ []) long lt)
           (short_only octets other p) few
       | inr ge ↦ subst (λ s. length s ≤ length (b ∷ octets) → length (b ∷ octets) ≤ length s → b ∷ octets ≡ s)
-          (cond_above n 128 (n ∷ []) long long ge refl) (long_only p ge) (shortest_length_le (b ∷ octets) n all p) few
+          (cond_above n 128 (n ∷ []) long long ge refl) (long_only p ge)
+          (length-shortest_length_le (b ∷ octets) n all p) few
     ]
   where
     short_only : (octets : List ℕ) → b ∷ octets ≢ 128 ∷ [] → IsLength (b ∷ octets) n → suc (length octets) ≤ 1
@@ -252,7 +257,8 @@ shortest_length_only (b ∷ octets) n all other p few =
     long_only (inr (size, _, e)) ge least few =
         let small = (recursion_from_All (λ b. b < 256) (b ∷ octets) all).1 in
         let same =
-        (same_digits 256 0 0 octets (digits_of 256 n) small (all_below_base_digits_of 256 n (omega arith)) (omega (
+        (number_from_digits_after-injective 256 0 0 octets (digits_of 256 n) small
+        (all_below_base_digits_of 256 n (omega arith)) (omega (
           arith,
           least,
           few,
@@ -268,8 +274,8 @@ marked-not_80 (a ∷ ds) rest d some e =
     omega (arith, some, first)
 
 -- the shortest base-128 number does not begin with 80 (hexadecimal)
-pub shortest_base128_leading : (n : ℕ) (rest : List ℕ) → shortest_base128 n ≢ 128 ∷ rest
-shortest_base128_leading n rest = leading (n / 128) (n % 128) (omega arith)
+pub shortest_base128-not_80 : (n : ℕ) (rest : List ℕ) → shortest_base128 n ≢ 128 ∷ rest
+shortest_base128-not_80 n rest = leading (n / 128) (n % 128) (omega arith)
   where
     leading : (front last : ℕ) → last < 128 → map (λ d. 128 + d) (digits_of 128 front) ++ last ∷ [] ≢ 128 ∷ rest
     leading zero last h e =
@@ -286,21 +292,21 @@ HasNoLeadingZeros-append front [] short some all = subst HasNoLeadingZeros (sym 
 HasNoLeadingZeros-append front (d ∷ ds) short some all =
     let more : 0 < length (front ++ d ∷ []) = omega (arith, length-append front (d ∷ [])) in
     subst HasNoLeadingZeros (append_assoc front (d ∷ []) ds)
-    (HasNoLeadingZeros-append (front ++ d ∷ []) ds (short_push front d short all.0 (inr some)) more all.1)
+    (HasNoLeadingZeros-append (front ++ d ∷ []) ds (HasNoLeadingZeros-push front d short all.0 (inr some)) more all.1)
 
 -- octets of a base-128 number that do not begin with 80 (hexadecimal) are the shortest
-pub shortest_base128_not_leading :
+pub shortest_base128-without_80 :
     (octets : List ℕ) (n : ℕ) → AreOctets octets → IsBase128 octets n →
     ((rest : List ℕ) → octets ≢ 128 ∷ rest) → octets ≡ shortest_base128 n
-shortest_base128_not_leading [] n all p other = absurd p.continued
-shortest_base128_not_leading (b ∷ []) n all p other =
-    shortest_base128_only (b ∷ []) n all p (omega (arith, length-shortest_base128 n))
-shortest_base128_not_leading (b ∷ c ∷ octets) n all p other =
+shortest_base128-without_80 [] n all p other = absurd p.continued
+shortest_base128-without_80 (b ∷ []) n all p other =
+    shortest_base128-only (b ∷ []) n all p (omega (arith, length-shortest_base128 n))
+shortest_base128-without_80 (b ∷ c ∷ octets) n all p other =
     let below : b < 256 = All-head (λ b. b < 256) b (c ∷ octets) all in
     let not : b ≢ 128 = λ e. other (c ∷ octets) (ap (λ z. z ∷ c ∷ octets) e) in
     let some : 0 < b % 128 = omega (arith, below, not, p.continued.0) in
     let low = map (λ b. b % 128) (b ∷ c ∷ octets) in
-    let first : HasNoLeadingZeros (b % 128 ∷ []) = short_push [] (b % 128) refl (omega arith) (inl some) in
+    let first : HasNoLeadingZeros (b % 128 ∷ []) = HasNoLeadingZeros-push [] (b % 128) refl (omega arith) (inl some) in
     let short : low ≡ digits_of 128 n =
     HasNoLeadingZeros-append (b % 128 ∷ []) (map (λ b. b % 128) (c ∷ octets)) first (omega arith)
     (AllBelowBase-low_bits (c ∷ octets))
@@ -309,4 +315,4 @@ shortest_base128_not_leading (b ∷ c ∷ octets) n all p other =
     let size : length low ≡ length (b ∷ c ∷ octets) = length-map (b ∷ c ∷ octets) (λ b. b % 128) in
     let many : length (shortest_base128 n) ≡ length (digits_of 128 n) =
     length-shortest_base128-digits n (omega (arith, ap length short, size)) in
-    shortest_base128_only (b ∷ c ∷ octets) n all p (omega (arith, many, ap length short, size))
+    shortest_base128-only (b ∷ c ∷ octets) n all p (omega (arith, many, ap length short, size))

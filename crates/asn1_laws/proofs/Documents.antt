@@ -5,7 +5,7 @@ use Rattle.asn1_numbers.specs.Octets.{AreOctets}
 use Rattle.asn1_headers.specs.Header.{Encoding}
 use Rattle.asn1_headers.specs.declared.header.ASN1Class.{ASN1Class}
 use Rattle.asn1_headers.specs.declared.header.ASN1Class.TheVariants.{Universal}
-use Rattle.asn1_headers.proofs.Prefixes.{encoding_alone}
+use Rattle.asn1_headers.proofs.Prefixes.{Encoding-unique}
 use Rattle.asn1_blocks.specs.Contents.{LeafContents, group_tag, leaf_contents, leaf_tag}
 use Rattle.asn1_blocks.specs.Grammar.{Encodes, EncodesAll, IsDocument}
 use Rattle.asn1_blocks.specs.Places.{StandsAmong, StandsIn, end_before, in_explicit, in_first, in_group, in_later, itself}
@@ -152,7 +152,7 @@ shortest_encoding-same_contents :
     x ≡ shortest_encoding d k n w → v ≡ w
 shortest_encoding-same_contents x c d j k m n v w h small F e =
     let size : length w < 2 ^ 64 = omega (arith, small, ap length e, length-le_shortest_encoding d k n w) in
-    (encoding_alone x (shortest_encoding d k n w) c d j k m n v w h _ [] [] F (Encoding-shortest_encoding d k n w size)
+    (Encoding-unique x (shortest_encoding d k n w) c d j k m n v w h _ [] [] F (Encoding-shortest_encoding d k n w size)
     (ap (λ z. z ++ []) e)).contents
 
 -- the first of canonical octets
@@ -168,7 +168,7 @@ all_canonical-fronts o x first rest b bs small s w e =
     let F = IsEncoding-block first (IsBlock-encodes o first b s) in
     let G =
     IsEncoding-canonical b (omega (arith, small, ap length e, length-append (canonical b) (all_canonical bs))) in
-    let same = encoding_alone first (canonical b) F.class G.class F.constructed G.constructed F.tag G.tag F.contents
+    let same = Encoding-unique first (canonical b) F.class G.class F.constructed G.constructed F.tag G.tag F.contents
     G.contents F.header G.header
     rest (all_canonical bs) F.encoding G.encoding (sym w ∙ e) in
     record { one = same.octets; others = same.rest }
@@ -255,7 +255,7 @@ is_written_otherwise-canonical_leaf x o p l contents header small (q, k, w, h, F
     let whole = der_whole x Universal false (leaf_tag l) contents header small G d in
     let right = IsRightAlone-leaf l false contents whole.alone.1 in
     let is : w ≡ contents =
-    (encoding_alone x x Universal Universal k false (leaf_tag l) (leaf_tag l) w contents h header [] [] F G
+    (Encoding-unique x x Universal Universal k false (leaf_tag l) (leaf_tag l) w contents h header [] [] F G
     refl).contents in
     is_written_otherwise-leaf_contents l contents (subst (LeafContents l) is means) right.1
     (shortest_encoding-same_contents x Universal Universal false false (leaf_tag l) (leaf_tag l) contents

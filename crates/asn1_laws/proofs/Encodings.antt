@@ -7,7 +7,7 @@ use Rattle.asn1_numbers.specs.Octets.{AreOctets}
 use Rattle.asn1_headers.specs.Header.{Encoding}
 use Rattle.asn1_headers.specs.declared.header.ASN1Class.{ASN1Class}
 use Rattle.asn1_headers.specs.declared.header.ASN1Class.TheVariants.{Universal}
-use Rattle.asn1_headers.proofs.Prefixes.{encoding_alone, encoding_some}
+use Rattle.asn1_headers.proofs.Prefixes.{Encoding-unique, Encoding-not_empty}
 use Rattle.asn1_leaves.specs.StringKind.{utf8, printable, teletex, ia5, universal, bmp}
 use Rattle.asn1_blocks.specs.Contents.{group_tag, leaf_tag}
 use Rattle.asn1_blocks.specs.Tree.{Leaf, boolean, integer, bit_string, octet_string, null, object_identifier, text, utc_time, generalized_time}
@@ -90,10 +90,10 @@ pub AreDer-first :
     x ≡ first ++ rest →
     length x < 2 ^ 64 → AreDer x → IsSplit first rest
 AreDer-first x first rest c k n v h e whole small (items, no_encodings) =
-    absurd (omega (arith, encoding_some first c k n v h e, ap length whole, length-append first rest))
+    absurd (omega (arith, Encoding-not_empty first c k n v h e, ap length whole, length-append first rest))
 AreDer-first x first rest c k n v h e whole small (items, more_encodings {first = f} {rest = r} {items = is} w d ds) =
     let (c', k', n', v', h', e') = der_encoding f (omega (arith, small, ap length w, length-append f r)) d in
-    let same = encoding_alone first f c c' k k' n n' v v' h h' rest r e e' (sym whole ∙ w) in
+    let same = Encoding-unique first f c c' k k' n n' v v' h h' rest r e e' (sym whole ∙ w) in
     record {
       der = subst IsDerEncoding (sym same.octets) d;
       more =

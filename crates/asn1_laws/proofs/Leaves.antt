@@ -8,8 +8,8 @@ use Rattle.std.proofs.lemmas.List.Elements.{recursion_from_All}
 use Rattle.asn1_numbers.specs.Octets.{AreOctets}
 use Rattle.asn1_numbers.specs.TwosComplement.{shortest_octets}
 use Rattle.asn1_numbers.specs.Base128.{IsContinued, shortest_base128}
-use Rattle.asn1_headers.proofs.Shortest.{shortest_base128_is, shortest_base128_leading}
-use Rattle.asn1_numbers.proofs.SignedNumbers.{shortest_signed, sign_before}
+use Rattle.asn1_headers.proofs.Shortest.{IsBase128-shortest, shortest_base128-not_80}
+use Rattle.asn1_numbers.proofs.SignedNumbers.{IsShortestSigned-needed, sign_before}
 use Rattle.asn1_leaves.specs.Contents.BitString.{BitStringContents, bit_string_contents}
 use Rattle.asn1_leaves.specs.Contents.Boolean.{BooleanContents, boolean_contents}
 use Rattle.asn1_leaves.specs.Contents.Integer.{IntegerContents}
@@ -45,10 +45,10 @@ pub IntegerContents-der : (n : ℤ) (contents : List ℕ) → AreOctets contents
     is_integer contents ≡ true → contents ≡ shortest_octets n
 IntegerContents-der n [] all is der = absurd cc
 IntegerContents-der n (b ∷ []) all is der =
-    shortest_signed b [] (recursion_from_All (λ x. x < 256) (b ∷ []) all) (λ some. absurd (omega (arith, some)))
+    IsShortestSigned-needed b [] (recursion_from_All (λ x. x < 256) (b ∷ []) all) (λ some. absurd (omega (arith, some)))
     ∙ ap shortest_octets (sym is)
 IntegerContents-der n (b ∷ c ∷ more) all is der =
-    shortest_signed b (c ∷ more) (recursion_from_All (λ x. x < 256) (b ∷ c ∷ more) all)
+    IsShortestSigned-needed b (c ∷ more) (recursion_from_All (λ x. x < 256) (b ∷ c ∷ more) all)
     (λ some. sign_before-needed b c (not_true _ der)) ∙ ap shortest_octets (sym is)
   where
     not_true : (b : Bool) → not b ≡ true → b ≡ false
@@ -212,7 +212,7 @@ goes_on_with_80-shortest b [] = refl
 goes_on_with_80-shortest b (n ∷ ns) =
     goes_on_with_80-cons b (shortest_base128 n ++ flat_map shortest_base128 ns) (λ more.
     append-not_80 (shortest_base128 n) (flat_map shortest_base128 ns) more
-    (IsContinued-some (shortest_base128 n) (shortest_base128_is n).continued) (shortest_base128_leading n))
+    (IsContinued-some (shortest_base128 n) (IsBase128-shortest n).continued) (shortest_base128-not_80 n))
 
 -- an octet 80 is not written there
 pub goes_on_with_80-written :

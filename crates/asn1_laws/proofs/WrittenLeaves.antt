@@ -7,8 +7,8 @@ use Rattle.std.proofs.lemmas.Bool.Decides.{nat_tests}
 use Rattle.std.proofs.lemmas.Str.{is_utf8-from_IsUtf8}
 use Rattle.asn1_numbers.specs.TwosComplement.{shortest_octets}
 use Rattle.asn1_numbers.specs.Base128.{IsContinued, shortest_base128}
-use Rattle.asn1_numbers.proofs.SignedNumbers.{shortest_octets_ones, shortest_octets_some, shortest_octets_zeros}
-use Rattle.asn1_headers.proofs.Shortest.{shortest_base128_is, shortest_base128_leading}
+use Rattle.asn1_numbers.proofs.SignedNumbers.{shortest_octets-not_ones, shortest_octets-not_empty, shortest_octets-not_zeros}
+use Rattle.asn1_headers.proofs.Shortest.{IsBase128-shortest, shortest_base128-not_80}
 use Rattle.asn1_leaves.specs.Contents.BitString.{IsFaithfulBitString, bit_string_contents}
 use Rattle.asn1_leaves.specs.Contents.ObjectIdentifier.{IsFaithfulObjectIdentifier, object_identifier_contents}
 use Rattle.asn1_leaves.specs.StringKind.{utf8, printable, teletex, ia5, universal, bmp}
@@ -44,7 +44,8 @@ is_integer-unpadded (b ∷ c ∷ more) some zeros ones = elim (cases_lt c 128) [
 
 is_integer-shortest_octets : (n : ℤ) → is_integer (shortest_octets n) ≡ true
 is_integer-shortest_octets n =
-    is_integer-unpadded (shortest_octets n) (shortest_octets_some n) (shortest_octets_zeros n) (shortest_octets_ones n)
+    is_integer-unpadded (shortest_octets n) (shortest_octets-not_empty n) (shortest_octets-not_zeros n)
+    (shortest_octets-not_ones n)
 
 -- a BIT STRING
 nat_lt-unused : (n size unused : ℕ) → n ≤ size → unused ≡ size - n → nat_lt unused 8 ≡ nat_lt size (n + 8)
@@ -112,15 +113,15 @@ AreEnded-shortest : (ns : List ℕ) → AreEnded (flat_map shortest_base128 ns)
 AreEnded-shortest [] = record { last = λ some. absurd (omega (arith, some)); unpadded = refl }
 AreEnded-shortest (n ∷ ns) =
     let i = is_padded_from-continued (shortest_base128 n) (flat_map shortest_base128 ns) true
-    (shortest_base128_is n).continued
-    (λ t. shortest_base128_leading n) (AreEnded-shortest ns) in
+    (IsBase128-shortest n).continued
+    (λ t. shortest_base128-not_80 n) (AreEnded-shortest ns) in
     record { last = λ some. i.1; unpadded = i.0 }
 
 -- behind an octet with bit 8 set, the shortest subidentifiers are not padded
 is_padded_from-shortest : (n : ℕ) (ns : List ℕ) → is_padded_from false (flat_map shortest_base128 (n ∷ ns)) ≡ false
 is_padded_from-shortest n ns =
     (is_padded_from-continued (shortest_base128 n) (flat_map shortest_base128 ns) false
-    (shortest_base128_is n).continued
+    (IsBase128-shortest n).continued
     (λ t. absurd (false≢true t)) (AreEnded-shortest ns)).0
 
 are_subidentifiers-ended : (octets : List ℕ) → 0 < length octets → last_octet octets < 128 →
@@ -156,7 +157,7 @@ length-shortest-positive : (n : ℕ) (ns : List ℕ) → 0 < length (flat_map sh
 length-shortest-positive n ns =
     omega (
       arith,
-      IsContinued-some (shortest_base128 n) (shortest_base128_is n).continued,
+      IsContinued-some (shortest_base128 n) (IsBase128-shortest n).continued,
       length-append (shortest_base128 n) (flat_map shortest_base128 ns),
     )
 

@@ -12,8 +12,8 @@ use Rattle.std.proofs.lemmas.Grind.{flat_map-append}
 use Rattle.std.proofs.lemmas.List.Elements.{All-from_get_or}
 use Rattle.std.proofs.lemmas.List.Splits.{slice_split_at, slice_split_none}
 use Rattle.asn1_numbers.specs.Decimal.{natural_numeral}
-use Rattle.asn1_numbers.proofs.Numerals.{decimal_numeral}
-use Rattle.asn1_numbers.proofs.ReadNumerals.{digits_of_numeral, same_numeral}
+use Rattle.asn1_numbers.proofs.Numerals.{decimal-natural_numeral}
+use Rattle.asn1_numbers.proofs.ReadNumerals.{AreDigits-natural_numeral, natural_numeral-injective}
 use Rattle.asn1_leaves.specs.DottedDecimal.{IsDottedDecimal, dotted_decimal}
 use Rattle.asn1_leaves.specs.Inner.IdentifierForms.{numbers_after, pointed}
 use Rattle.asn1_leaves.proofs.PushedNumbers.{numbers_after-drop}
@@ -32,8 +32,8 @@ dotted_decimal-cons n (m ∷ ns) = ap (λ l. natural_numeral n ++ 46 ∷ l) (dot
 pub append-decimal-dotted : (x y : ℕ) (ns : List ℕ) → x < 256 → y < 256
     → (decimal x ++ 46 ∷ decimal y) ++ flat_map pointed ns ≡ dotted_decimal (x ∷ y ∷ ns)
 append-decimal-dotted x y ns low_x low_y =
-    let first = decimal_numeral x (omega arith) in
-    let second = decimal_numeral y (omega arith) in
+    let first = decimal-natural_numeral x (omega arith) in
+    let second = decimal-natural_numeral y (omega arith) in
     (λ i. (first i ++ 46 ∷ second i) ++ flat_map pointed ns)
     ∙ append_assoc (natural_numeral x) (pointed y) (flat_map pointed ns)
     ∙ ap (λ l. natural_numeral x ++ 46 ∷ l) (sym (dotted_decimal-cons y ns))
@@ -43,7 +43,7 @@ All-natural_numeral-no_point : (n : ℕ) → All (λ b. (b == 46) ≡ false) (na
 All-natural_numeral-no_point n =
     All-from_get_or (λ b. (b == 46) ≡ false) (natural_numeral n) 0
     (λ k h. ne_eqb (get_or (natural_numeral n) k 0) 46
-    (λ e. omega (arith, digits_of_numeral n (natural_numeral n) refl k h, e)))
+    (λ e. omega (arith, AreDigits-natural_numeral n (natural_numeral n) refl k h, e)))
 
 -- cut at the points
 slice_split-dotted_decimal : (n : ℕ) (ns : List ℕ) →
@@ -73,7 +73,7 @@ map-natural_numeral-injective [] [] e = refl
 map-natural_numeral-injective [] (n ∷ ns) e = absurd (omega (arith, ap length e))
 map-natural_numeral-injective (m ∷ ms) [] e = absurd (omega (arith, ap length e))
 map-natural_numeral-injective (m ∷ ms) (n ∷ ns) e =
-    let first = same_numeral m n (ap first_of e) in
+    let first = natural_numeral-injective m n (ap first_of e) in
     let rest = map-natural_numeral-injective ms ns (ap rest_of e) in
     (λ i. first i ∷ rest i)
 

@@ -7,7 +7,7 @@ use Rattle.std.proofs.lemmas.List.Elements.{All-drop, All-take}
 use Rattle.asn1_numbers.specs.Octets.{AreOctets}
 use Rattle.asn1_numbers.specs.Base128.{IsContinued, low_bits_number, shortest_base128}
 use Rattle.asn1_leaves.specs.Contents.ObjectIdentifier.{ObjectIdentifierContents, Subidentifiers, object_identifier_contents}
-use Rattle.asn1_headers.proofs.Shortest.{shortest_base128_not_leading}
+use Rattle.asn1_headers.proofs.Shortest.{shortest_base128-without_80}
 use Rattle.asn1_leaves.proofs.Leaves.ObjectIdentifier.{AreFirstTwo-some}
 use Rattle.asn1_leaves.proofs.Subidentifiers.{IsContinued-cons}
 
@@ -46,7 +46,7 @@ NoneLeads-shortest (n ∷ ns) octets all h (first, rest, e, p, s) =
     let back : AreOctets rest =
     subst AreOctets (drop_at first rest (length first) refl)
     (All-drop (λ b. b < 256) (length first) (first ++ rest) whole) in
-    let here = shortest_base128_not_leading first n front p
+    let here = shortest_base128-without_80 first n front p
     (λ more. NoneLeads-first first rest more p.continued none) in
     let others = NoneLeads-shortest ns rest back (NoneLeads-after_first first rest true p.continued none) s in
     e ∙ (ap (λ z. z ++ rest) here ∙ ap (λ z. shortest_base128 n ++ z) others)

@@ -7,8 +7,8 @@ use Rattle.asn1_numbers.specs.Base128.{IsBase128, IsContinued, low_bits_number, 
 use Rattle.asn1_leaves.specs.Contents.ObjectIdentifier.{Subidentifiers}
 use Rattle.asn1_headers.specs.Fault.{DecodeFault, incomplete}
 use Rattle.asn1_headers.specs.Header.{BeginsWithNo, IsIncomplete}
-use Rattle.asn1_headers.proofs.Prefixes.{continued_alone}
-use Rattle.asn1_headers.proofs.Shortest.{shortest_base128_is}
+use Rattle.asn1_headers.proofs.Prefixes.{IsContinued-unique}
+use Rattle.asn1_headers.proofs.Shortest.{IsBase128-shortest}
 
 -- one more at the end
 pub Subidentifiers-push : (ns octets last : List ℕ) (n : ℕ) → Subidentifiers ns octets → IsBase128 last n
@@ -29,7 +29,7 @@ pub Subidentifiers-none_after : (first rest : List ℕ) (n : ℕ) → IsBase128 
 Subidentifiers-none_after [] rest n t none octets e ns s = t.continued
 Subidentifiers-none_after (a ∷ first) rest n t none octets e [] s = absurd (omega (arith, ap length (sym s ∙ e)))
 Subidentifiers-none_after (a ∷ first) rest n t none octets e (m ∷ ms) s =
-    let p = continued_alone (a ∷ first) s.0 rest s.1 t.continued s.3.continued (sym e ∙ s.2) in
+    let p = IsContinued-unique (a ∷ first) s.0 rest s.1 t.continued s.3.continued (sym e ∙ s.2) in
     none ms (subst (Subidentifiers ms) (sym p.1) s.4)
 
 -- octets that begin with no base-128 number are no subidentifiers
@@ -59,7 +59,7 @@ Subidentifiers-unique [] (n ∷ ns) octets s t =
 Subidentifiers-unique (m ∷ ms) [] octets s t =
     absurd (IsContinued-not_empty s.0 s.3.continued (omega (arith, ap length (sym t ∙ s.2), length-append s.0 s.1)))
 Subidentifiers-unique (m ∷ ms) (n ∷ ns) octets s t =
-    let p = continued_alone s.0 t.0 s.1 t.1 s.3.continued t.3.continued (sym s.2 ∙ t.2) in
+    let p = IsContinued-unique s.0 t.0 s.1 t.1 s.3.continued t.3.continued (sym s.2 ∙ t.2) in
     let e : m ≡ n = s.3.value ∙ ap low_bits_number p.0 ∙ sym t.3.value in
     let r : ms ≡ ns = Subidentifiers-unique ms ns s.1 s.4 (subst (Subidentifiers ns) (sym p.1) t.4) in
     cc
@@ -164,4 +164,4 @@ Subidentifiers-unended (b ∷ c ∷ octets) high ns s =
 pub Subidentifiers-shortest : (ns : List ℕ) → Subidentifiers ns (flat_map shortest_base128 ns)
 Subidentifiers-shortest [] = refl
 Subidentifiers-shortest (n ∷ ns) =
-    (shortest_base128 n, flat_map shortest_base128 ns, refl, shortest_base128_is n, Subidentifiers-shortest ns)
+    (shortest_base128 n, flat_map shortest_base128 ns, refl, IsBase128-shortest n, Subidentifiers-shortest ns)

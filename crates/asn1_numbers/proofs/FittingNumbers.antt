@@ -15,6 +15,8 @@ HasNotAll-at has (n ∷ ns) zero h p = inl p
 HasNotAll-at has (n ∷ ns) (suc i) h p = inr (HasNotAll-at has ns i (omega (arith, h)) p)
 
 -- an item that the type does not have
-pub missing_item : (has : ℕ → Type 0) (ns : List ℕ) (i n : ℕ) → i < length ns → n ≡ get_or ns i n → (has n → ⊥)
+pub HasNotAll-missing_item : (has : ℕ → Type 0) (ns : List ℕ) (i n : ℕ) → i < length ns → n ≡ get_or ns i n
+    → (has n → ⊥)
     → HasNotAll has ns
-missing_item has ns i n h at p = HasNotAll-at has ns i h (λ q. p (subst has (sym (get_or-default ns i n h at)) q))
+HasNotAll-missing_item has ns i n h at p =
+    HasNotAll-at has ns i h (λ q. p (subst has (sym (get_or-default ns i n h at)) q))

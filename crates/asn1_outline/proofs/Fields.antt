@@ -5,7 +5,7 @@ use Rattle.std.specs.Bool.{one_answer}
 use Rattle.asn1_headers.specs.Header.{Encoding}
 use Rattle.asn1_headers.specs.declared.header.ASN1Class.{ASN1Class}
 use Rattle.asn1_headers.specs.declared.header.ASN1Class.TheVariants.{Universal}
-use Rattle.asn1_headers.proofs.Prefixes.{SameEncoding, encoding_alone}
+use Rattle.asn1_headers.proofs.Prefixes.{SameEncoding, Encoding-unique}
 use Rattle.asn1_blocks.specs.Grammar.{EncodesAll}
 use Rattle.asn1_blocks.specs.Places.{EncodingAt}
 use Rattle.asn1_outline.specs.Entries.{HasHeader}
@@ -29,7 +29,7 @@ module _ (x : List ℕ) (b : Tree ℕ) (r : Entry) (y : List ℕ) (c : ASN1Class
   SameEncoding-entry octets at own =
       let same = EncodingAt-unique x (tree_offset b) octets y (subst (λ o. EncodingAt x o octets) e.offset_is at)
       (EncodingAt-encoded x b y s) in
-      encoding_alone octets y r.class c r.constructed k own.tag n own.contents v r.header h [] [] own.encoding f
+      Encoding-unique octets y r.class c r.constructed k own.tag n own.contents v r.header h [] [] own.encoding f
       (ap (λ z. z ++ []) same)
 
   pub header-of_encoding : r.header ≡ h

@@ -4,7 +4,7 @@ use Rattle.std.specs.List.{slice_range}
 use Rattle.std.proofs.lemmas.List.{length-map, map-append}
 use Rattle.std.proofs.Math.Seq.{get_or-append_seam, set-append_seam}
 use Rattle.asn1_headers.specs.Header.{Encoding}
-use Rattle.asn1_headers.proofs.Prefixes.{encoding_alone}
+use Rattle.asn1_headers.proofs.Prefixes.{Encoding-unique}
 use Rattle.asn1_leaves.proofs.SliceSplit.{drop-slice_range}
 use Rattle.asn1_blocks.specs.declared.parsed.PlacedHeader.{PlacedHeader}
 use Rattle.asn1_blocks.specs.declared.read_loop.Attempt as other
@@ -119,7 +119,7 @@ Holds-none x o e h (group p g bs) v i none s found shut = absurd (cc)
 Holds-none x o e h (explicit c p n b) v i none s found shut = absurd (cc)
 Holds-none x o e h (unknown c k p n w) v i none s found shut =
     let y = slice_range x o e in
-    let same = encoding_alone y y c h.class k h.constructed n h.tag w v s.1 i [] [] s.2 found refl in
+    let same = Encoding-unique y y c h.class k h.constructed n h.tag w v s.1 i [] [] s.2 found refl in
     inr (refl, λ (other, bit, are). shut (inr (λ z. other (same.class ∙ z), sym same.constructed ∙ bit)))
 
 -- a block that holds none stands at the header

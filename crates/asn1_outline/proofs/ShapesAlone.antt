@@ -4,7 +4,7 @@ use Rattle.std.specs.List.{slice_range}
 use Rattle.asn1_headers.specs.Fault.{DecodeFault}
 use Rattle.asn1_headers.specs.HeaderFault.{HeaderFault}
 use Rattle.asn1_headers.specs.declared.header.ASN1Class.TheVariants.{Universal}
-use Rattle.asn1_headers.proofs.Prefixes.{encoding_alone}
+use Rattle.asn1_headers.proofs.Prefixes.{Encoding-unique}
 use Rattle.asn1_leaves.proofs.SliceSplit.{drop-slice_range}
 use Rattle.asn1_blocks.specs.HeadersBegun.{IsReadInside}
 use Rattle.asn1_blocks.specs.Places.{HeaderFound}
@@ -23,7 +23,7 @@ HeaderFound-unique x p e h g within f f' =
     let whole : y ++ drop h.end x ≡ z ++ drop g.end x =
     sym (drop-slice_range x p h.end (omega (arith, f.starts_after, f.order)))
     ∙ drop-slice_range x p g.end (omega (arith, f'.starts_after, f'.order)) in
-    let s = encoding_alone y z h.class g.class h.constructed g.constructed h.tag g.tag _ _ _ _ (drop h.end x)
+    let s = Encoding-unique y z h.class g.class h.constructed g.constructed h.tag g.tag _ _ _ _ (drop h.end x)
     (drop g.end x) f.encoding f'.encoding whole in
     let class : h.class ≡ g.class = s.class in
     let constructed : h.constructed ≡ g.constructed = s.constructed in

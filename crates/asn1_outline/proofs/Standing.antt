@@ -4,7 +4,7 @@ use Rattle.std.proofs.lemmas.Bool.{cases_lt}
 use Rattle.std.proofs.lemmas.List.{drop_at, get_or_append_left, get_or-append_right}
 use Rattle.asn1_headers.specs.Header.{Encoding, IsLength}
 use Rattle.asn1_headers.specs.declared.header.ASN1Class.{ASN1Class}
-use Rattle.asn1_headers.proofs.Prefixes.{identifier_some}
+use Rattle.asn1_headers.proofs.Prefixes.{IsIdentifier-not_empty}
 use Rattle.asn1_blocks.specs.Grammar.{Encodes, EncodesAll}
 use Rattle.asn1_blocks.specs.Tree.{Tree, Trees, explicit, group, leaf, no_trees, unknown}
 use Rattle.asn1_blocks.specs.View.{tree_offset}
@@ -22,7 +22,7 @@ IsLength-not_empty (b ∷ s) n h = omega arith
 pub length-contents_le : (x : List ℕ) (c : ASN1Class) (k : Bool) (n : ℕ) (v : List ℕ) (h : ℕ) → Encoding x c k n v h →
     2 + length v ≤ length x
 length-contents_le x c k n v h e =
-    let first = identifier_some e.identifier c k n e.identifier_octets in
+    let first = IsIdentifier-not_empty e.identifier c k n e.identifier_octets in
     let second = IsLength-not_empty e.len (length v) e.length_octets in
     omega (arith, first, second, ap length e.whole, length-append e.identifier (e.len ++ v), length-append e.len v)
 

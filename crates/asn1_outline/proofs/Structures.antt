@@ -1,6 +1,6 @@
 -- A document has one structure.
 use Rattle.std.proofs.Common.{◌≡◌, ℕ, suc, ◌+◌, ◌++◌, true, List, [], ◌∷◌, inl, inr, length, map, refl, sym, ap, ◌∙◌, subst}
-use Rattle.asn1_headers.proofs.Prefixes.{encoding_alone}
+use Rattle.asn1_headers.proofs.Prefixes.{Encoding-unique}
 use Rattle.asn1_blocks.specs.Grammar.{EncodesAll}
 use Rattle.asn1_blocks.specs.Tree.{Tree, Trees, explicit, group, leaf, more_trees, no_trees, trees_of, unknown}
 use Rattle.asn1_blocks.proofs.OneReading.{EncodesAll-unique, AreBlocks-encodes}
@@ -27,7 +27,7 @@ Holds-unique x (leaf o l) bs cs p q = p ∙ sym q
 Holds-unique x (group o g items) bs cs p q = p ∙ sym q
 Holds-unique x (explicit c o n b) bs cs p q = p ∙ sym q
 Holds-unique x (unknown c k o n v) bs cs (inl (i, p, t, e)) (inl (j, q, u, f)) =
-    let same = encoding_alone t.octets u.octets c c true true n n v v t.header u.header t.rest u.rest t.encoding
+    let same = Encoding-unique t.octets u.octets c c true true n n v v t.header u.header t.rest u.rest t.encoding
     u.encoding (sym t.at_offset ∙ u.at_offset) in
     let place : q ≡ p = u.start_is ∙ ap (λ z. o + z) (sym same.header) ∙ sym t.start_is in
     EncodesAll-unique p v bs cs e (subst (λ z. EncodesAll z v cs) place f)

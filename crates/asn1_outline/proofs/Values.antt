@@ -9,7 +9,7 @@ use Rattle.asn1_numbers.specs.TwosComplement.{signed_number}
 use Rattle.asn1_headers.specs.Header.{BeginsWithNo, Encoding, IsIdentifier, IsSomeIdentifier}
 use Rattle.asn1_headers.specs.declared.header.ASN1Class.{ASN1Class}
 use Rattle.asn1_headers.specs.declared.header.ASN1Class.TheVariants.{Application, ContextSpecific, Private, Universal}
-use Rattle.asn1_headers.proofs.Prefixes.{SameEncoding, encoding_alone, encoding_some, identifier_alone}
+use Rattle.asn1_headers.proofs.Prefixes.{SameEncoding, Encoding-unique, Encoding-not_empty, IsIdentifier-unique}
 use Rattle.asn1_leaves.specs.StringKind.{StringKind}
 use Rattle.asn1_blocks.specs.BlockParts.{leaf_integer, tree_bits, tree_boolean, tree_integer, tree_moment, tree_octets, tree_oid, tree_tag, tree_text}
 use Rattle.asn1_blocks.specs.Contents.{LeafContents, LeafFault, group_tag, is_known_tag, is_leaf_tag, leaf_tag, of_text, string_tag}
@@ -65,7 +65,7 @@ EntryContents-entry x b r e =
       length-append h.encoding.len h.contents,
     ) in
     let after = drop-contents x y at.rest r.class r.constructed h.tag h.contents r.offset r.header stands h.encoding in
-    let some = encoding_some y r.class r.constructed h.tag h.contents r.header h.encoding in
+    let some = Encoding-not_empty y r.class r.constructed h.tag h.contents r.header h.encoding in
     record {
       octets = y;
       tag = h.tag;
@@ -83,7 +83,7 @@ pub SameEncoding-octets : (y : List ℕ) (c d : ASN1Class) (j k : Bool) (m n : �
     Encoding y c j m v g →
     Encoding y d k n w h
     → SameEncoding y y c d j k m n v w g h [] []
-SameEncoding-octets y c d j k m n v w g h p q = encoding_alone y y c d j k m n v w g h [] [] p q refl
+SameEncoding-octets y c d j k m n v w g h p q = Encoding-unique y y c d j k m n v w g h [] [] p q refl
 
 -- a small number is the tag's
 pub HasTag-small : (n field m : ℕ) → HasTag n field → field ≡ m → m < 64 → n ≡ m
@@ -514,7 +514,7 @@ tree_tag-identifier x b r end c k n e own =
     let rest = drop (end - r.offset) (drop r.offset x) in
     let whole : slice_range x r.offset end ++ rest ≡ i.identifier ++ i.after =
     take-append-drop (end - r.offset) (drop r.offset x) ∙ i.stands in
-    (identifier_alone (slice_range x r.offset end) i.identifier rest i.after c i.class k i.constructed n (tree_tag b)
+    (IsIdentifier-unique (slice_range x r.offset end) i.identifier rest i.after c i.class k i.constructed n (tree_tag b)
     own i.are whole).tag
 
 -- identifier octets stand at the offset of an entry

@@ -4,7 +4,7 @@ use Rattle.std.proofs.Common.{drop, length, take, refl, sym, ap, ◌∙◌, subs
 use Rattle.std.proofs.lemmas.Bool.{and_parts}
 use Rattle.std.proofs.lemmas.List.{drop_at, take-append-drop}
 use Rattle.std.specs.Prelude.{◌↔◌, ◌==◌, not, IfNone, IfSome, MatchOption, None, Option, Some}
-use Rattle.asn1_headers.proofs.Prefixes.{encoding_alone, identifier_alone, identifier_some, length_alone}
+use Rattle.asn1_headers.proofs.Prefixes.{Encoding-unique, IsIdentifier-unique, IsIdentifier-not_empty, IsLength-unique}
 use Rattle.asn1_headers.specs.Front.{BeginsWithHeader, HasIndefiniteForm, HasNoHeader}
 use Rattle.asn1_headers.specs.Header.{IsLength}
 use Rattle.asn1_headers.specs.declared.header.ASN1Class.{ASN1Class}
@@ -49,7 +49,7 @@ IsEncoding-two_octets xs e =
       ap length f.whole,
       length-append f.identifier (f.len ++ e.contents),
       length-append f.len e.contents,
-      identifier_some f.identifier e.class e.constructed e.tag f.identifier_octets,
+      IsIdentifier-not_empty f.identifier e.class e.constructed e.tag f.identifier_octets,
       IsLength-some f.len (length e.contents) f.length_octets,
     )
 
@@ -60,7 +60,7 @@ IsElement-two_octets xs (of_indefinite_form contents (identifier, e, (class, tag
       arith,
       ap length e,
       length-append identifier (128 ∷ (contents ++ end_octets)),
-      identifier_some identifier class true tag i,
+      IsIdentifier-not_empty identifier class true tag i,
     )
 
 pub HasIndefiniteForm-behind : (xs behind : List ℕ) → StandsBehindIndefinite xs behind → HasIndefiniteForm xs
@@ -71,7 +71,7 @@ pub StandsBehindIndefinite-unique :
     (xs a b : List ℕ) → StandsBehindIndefinite xs a → StandsBehindIndefinite xs b → a ≡ b
 StandsBehindIndefinite-unique xs a b (identifier, e, (class, tag, i)) (identifier', e', (class', tag', i')) =
     let same =
-    identifier_alone identifier identifier' (128 ∷ a) (128 ∷ b) class class' true true tag tag' i i' (sym e ∙ e') in
+    IsIdentifier-unique identifier identifier' (128 ∷ a) (128 ∷ b) class class' true true tag tag' i i' (sym e ∙ e') in
     let rest : 128 ∷ a ≡ 128 ∷ b = same.rest in
     cc rest
 
@@ -89,12 +89,14 @@ HasIndefiniteForm-front part rest e (identifier, behind, is, (class, tag, i)) =
     sym (ap (λ z. z ++ rest) f.whole ∙ (append_assoc f.identifier (f.len ++ e.contents) rest
     ∙ ap (λ z. f.identifier ++ z) (append_assoc f.len e.contents rest))) ∙ is in
     let same =
-    identifier_alone f.identifier identifier (f.len ++ (e.contents ++ rest)) (128 ∷ behind) e.class class e.constructed
+    IsIdentifier-unique f.identifier identifier (f.len ++ (e.contents ++ rest)) (128 ∷ behind) e.class class
+    e.constructed
     true
     e.tag tag f.identifier_octets i whole in
     let none : IsLength (128 ∷ []) 0 = inr (refl, omega arith, refl) in
     let len =
-    length_alone f.len (128 ∷ []) (e.contents ++ rest) behind (length e.contents) 0 f.length_octets none same.rest in (
+    IsLength-unique f.len (128 ∷ []) (e.contents ++ rest) behind (length e.contents) 0 f.length_octets none
+    same.rest in (
       identifier,
       e.contents,
       f.whole ∙ (ap (λ z. z ++ (f.len ++ e.contents)) same.octets
@@ -199,7 +201,7 @@ module _ (xs : List ℕ) (not : begins_with_end xs ≡ false) where
         to (contents, more, e, one_more first rest f n (of_definite_form d first_one) others, later) =
             let w = append-first_element xs contents first rest more e f in
             let same =
-            encoding_alone part first _ _ _ _ _ _ _ _ _ _ left (rest ++ 0 ∷ 0 ∷ more) encoding.encoding
+            Encoding-unique part first _ _ _ _ _ _ _ _ _ _ left (rest ++ 0 ∷ 0 ∷ more) encoding.encoding
             first_one.encoding
             (sym whole ∙ w) in
             (rest, more, same.rest, others, later)
@@ -381,10 +383,10 @@ StandsBehindIndefinite-header xs s n c k t h (identifier, behind, e, (class, tag
     sym (sym (take-append-drop s xs)
     ∙ (ap (λ z. z ++ drop s xs) h.front_is ∙ append_assoc h.identifier h.len (drop s xs)))
     ∙ e in
-    let same = identifier_alone h.identifier identifier (h.len ++ drop s xs) (128 ∷ behind) c class k true t tag
+    let same = IsIdentifier-unique h.identifier identifier (h.len ++ drop s xs) (128 ∷ behind) c class k true t tag
     h.fields i whole in
     let none : IsLength (128 ∷ []) 0 = inr (refl, omega arith, refl) in
-    let len = length_alone h.len (128 ∷ []) (drop s xs) behind n 0 h.length_octets none same.rest in
+    let len = IsLength-unique h.len (128 ∷ []) (drop s xs) behind n 0 h.length_octets none same.rest in
     (identifier, e ∙ ap (λ z. identifier ++ 128 ∷ z) (sym len.rest), (class, tag, i))
 
 pub HasIndefiniteForm-no_header : (xs : List ℕ) → HasNoHeader xs → HasIndefiniteForm xs → ⊥

@@ -6,7 +6,7 @@ use Rattle.std.proofs.lemmas.List.{drop-drop, drop_at, drop_min, length-append, 
 use Rattle.asn1_headers.specs.Header.{IsIdentifier, IsLength}
 use Rattle.asn1_headers.specs.declared.header.ASN1Class.{ASN1Class}
 use Rattle.asn1_headers.specs.declared.header.ASN1Class.TheVariants.{Universal}
-use Rattle.asn1_headers.proofs.Prefixes.{encoding_alone, identifier_alone, length_alone}
+use Rattle.asn1_headers.proofs.Prefixes.{Encoding-unique, IsIdentifier-unique, IsLength-unique}
 use Rattle.asn1_blocks.specs.Places.{EncodingAt, HasNoEncodingAt, IsEncoding}
 use Rattle.asn1_headers.specs.Front.{BeginsWithHeader, HasIndefiniteForm, HasNoHeader}
 use Rattle.der_elements.specs.Ends.{begins_with_end}
@@ -59,11 +59,11 @@ pub BeginsWithHeader-unique :
 BeginsWithHeader-unique octets s n c k t s' n' c' k' t' h g =
     let whole = sym (append-header_parts octets s n c k t h) ∙ append-header_parts octets s' n' c' k' t' g in
     let i =
-    identifier_alone h.identifier g.identifier (h.len ++ drop s octets) (g.len ++ drop s' octets) c c' k k' t t'
+    IsIdentifier-unique h.identifier g.identifier (h.len ++ drop s octets) (g.len ++ drop s' octets) c c' k k' t t'
     h.fields
     g.fields whole
     in
-    let l = length_alone h.len g.len (drop s octets) (drop s' octets) n n' h.length_octets g.length_octets i.rest in
+    let l = IsLength-unique h.len g.len (drop s octets) (drop s' octets) n n' h.length_octets g.length_octets i.rest in
     let size : s ≡ s' =
     omega (
       arith,
@@ -82,7 +82,7 @@ pub identifier-unique :
 identifier-unique octets s n c k t s' n' c' k' t' h g =
     let whole = sym (append-header_parts octets s n c k t h) ∙ append-header_parts octets s' n' c' k' t' g in
     let i =
-    identifier_alone h.identifier g.identifier (h.len ++ drop s octets) (g.len ++ drop s' octets) c c' k k' t t'
+    IsIdentifier-unique h.identifier g.identifier (h.len ++ drop s octets) (g.len ++ drop s' octets) c c' k k' t t'
     h.fields
     g.fields whole
     in
@@ -436,7 +436,7 @@ AreEncodings-after octets part after at is = (some, fits, (to, λ more. one_firs
     to : AreEncodings octets → AreEncodings after
     to (none_left e) = absurd (omega (arith, ap length e, fits, some))
     to (one_first first rest e i more) =
-        let same = encoding_alone _ _ _ _ _ _ _ _ _ _ _ _ rest after i.encoding at.encoding.encoding (sym e ∙ whole) in
+        let same = Encoding-unique _ _ _ _ _ _ _ _ _ _ _ _ rest after i.encoding at.encoding.encoding (sym e ∙ whole) in
         subst AreEncodings same.rest more
 
 -- and where there is none

@@ -13,7 +13,7 @@ use Rattle.asn1_headers.specs.Header.{Encoding, leading_octet, shortest_identifi
 use Rattle.asn1_headers.specs.declared.front.Header.{Header}
 use Rattle.asn1_headers.specs.declared.header.ASN1Class.{ASN1Class}
 use Rattle.asn1_headers.specs.declared.header.ASN1Class.TheVariants.{Universal}
-use Rattle.asn1_headers.proofs.Prefixes.{encoding_alone, encoding_some}
+use Rattle.asn1_headers.proofs.Prefixes.{Encoding-unique, Encoding-not_empty}
 use Rattle.asn1_blocks.specs.declared.block.GroupKind.TheVariants.{Sequence, Set}
 use Rattle.asn1_blocks.specs.Contents.{group_tag, leaf_contents, leaf_tag}
 use Rattle.asn1_blocks.specs.Grammar.{Encodes, EncodesAll, IsDocument}
@@ -39,7 +39,8 @@ IsCanonicalEncoding-at_offset :
     (x y rest : List ℕ) (o : ℕ) (c : ASN1Class) (k : Bool) (n : ℕ) (v : List ℕ) (h : ℕ) → drop o x ≡ y ++ rest →
     Encoding y c k n v h → HasCanonicalAt x o → IsCanonicalEncoding y c k n v
 IsCanonicalEncoding-at_offset x y rest o c k n v h s e there =
-    let same = encoding_alone there.octets y there.class c there.constructed k there.tag n there.contents v there.header
+    let same = Encoding-unique there.octets y there.class c there.constructed k there.tag n there.contents v
+    there.header
     h
     there.at_offset.rest rest there.encoding e (sym there.at_offset.at_offset ∙ s) in
     let q0 = there.canonical in
@@ -165,7 +166,7 @@ module _ (x y v : List ℕ) (r : Entry) (n : ℕ) (at : EncodingAt x r.offset y)
   -- the octets of an entry lie in the document
   pub end-within : r.offset + r.header + r.contents ≤ length x
   end-within =
-      let some = encoding_some y r.class r.constructed n v r.header e in
+      let some = Encoding-not_empty y r.class r.constructed n v r.header e in
       omega (arith, length-encoding, some, ap length at.at_offset, length-append y at.rest, length-drop r.offset x)
 
   -- the header of an entry has two octets at least

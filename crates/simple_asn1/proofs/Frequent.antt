@@ -5,7 +5,7 @@ use Rattle.std.proofs.Math.Seq.{take-append_seam}
 use Rattle.std.proofs.lemmas.Bool.{cases_lt}
 use Rattle.std.proofs.lemmas.List.{get_or-take, length-take}
 use Rattle.asn1_numbers.specs.TwosComplement.{shortest_octets}
-use Rattle.asn1_numbers.proofs.SignedNumbers.{shortest_from, sign_before}
+use Rattle.asn1_numbers.proofs.SignedNumbers.{IsShortestSigned-drop, sign_before}
 use Rattle.asn1_headers.specs.Header.{Encoding, leading_octet}
 use Rattle.asn1_headers.specs.declared.header.ASN1Class.{ASN1Class}
 use Rattle.asn1_headers.specs.declared.header.ASN1Class.TheVariants.{Universal}
@@ -109,7 +109,7 @@ canonical_integer x n small some more needed =
     record {
       no_group = λ u g e. is_leaf_tag-not_group_tag 2 g refl e;
       primitive = λ u l e. refl;
-      leaf = λ u l e p. integer_leaf v (λ m q. shortest_from v 0 long (take-octets x n small) own
+      leaf = λ u l e p. integer_leaf v (λ m q. IsShortestSigned-drop v 0 long (take-octets x n small) own
           ∙ ap shortest_octets (sym q)) l e p;
       within = λ other e. absurd (other refl);
     }

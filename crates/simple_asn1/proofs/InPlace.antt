@@ -20,11 +20,11 @@ use Rattle.simple_asn1.specs.Canonical.{shortest_encoding, canonical, all_canoni
 use Rattle.asn1_blocks.specs.Grammar.{Encodes, EncodesAll}
 use Rattle.asn1_blocks.specs.Places.{joined}
 use Rattle.simple_asn1.specs.Inner.InPlace.{AreCanonical, AreCanonicalContents, BeginsShortest, IsOfGroup, LeavesBoth}
-use Rattle.asn1_headers.proofs.Prefixes.{encoding_alone, identifier_alone, identifier_some, length_alone, same_split}
+use Rattle.asn1_headers.proofs.Prefixes.{Encoding-unique, IsIdentifier-unique, IsIdentifier-not_empty, IsLength-unique, append-injective}
 use Rattle.asn1_blocks.proofs.OneReading.{IsBlock-not_empty, IsBlock-encodes, EncodesAll-single}
 use Rattle.asn1_blocks.proofs.Faults.{IsEncoding-block}
 use Rattle.asn1_blocks.proofs.Leaves.{is_known_tag-group_tag, is_known_tag-leaf_tag, leaf_tag-not_group_tag}
-use Rattle.asn1_headers.proofs.Shortest.{shortest_identifier_is, shortest_identifier_le, shortest_identifier_only, shortest_length_is, shortest_length_le, shortest_length_only}
+use Rattle.asn1_headers.proofs.Shortest.{IsIdentifier-shortest, length-shortest_identifier_le, shortest_identifier-only, IsLength-shortest, length-shortest_length_le, shortest_length-only}
 use Rattle.asn1_blocks.proofs.Slices.{EncodesAll-joined}
 use Rattle.simple_asn1.proofs.Strict.{IsEncoding-canonical}
 use Rattle.simple_asn1.proofs.WriteSteps.{append-regrouped}
@@ -54,11 +54,11 @@ HasCanonicalFront-header x s r contents own rest c d j k n p h m w F small e =
     let e1 : F.identifier ++ (F.len ++ (contents ++ r)) ≡ shortest_identifier d k p
     ++ (shortest_length m ++ (own ++ rest)) =
     append-regrouped F.identifier F.len contents r ∙ (ap (λ z. z ++ r) (sym F.whole) ∙ (sym w ∙ e)) in
-    let t = identifier_alone F.identifier (shortest_identifier d k p) (F.len ++ (contents ++ r))
+    let t = IsIdentifier-unique F.identifier (shortest_identifier d k p) (F.len ++ (contents ++ r))
     (shortest_length m ++ (own ++ rest)) c d j k n p
-    F.identifier_octets (shortest_identifier_is d k p) e1 in
-    let l = length_alone F.len (shortest_length m) (contents ++ r) (own ++ rest) (length contents) m F.length_octets
-    (shortest_length_is m small) t.rest in
+    F.identifier_octets (IsIdentifier-shortest d k p) e1 in
+    let l = IsLength-unique F.len (shortest_length m) (contents ++ r) (own ++ rest) (length contents) m F.length_octets
+    (IsLength-shortest m small) t.rest in
     record {
       encoding = F.whole ∙ (ap (λ z. z ++ (F.len ++ contents)) t.octets
           ∙ (ap (λ z. shortest_identifier d k p ++ (z ++ contents)) l.octets ∙
@@ -85,7 +85,7 @@ all_canonical-front o y z w (more_trees b bs) small s e =
     sym (length-append s.first (s.rest ++ z)) ∙ (ap length d ∙ length-append (canonical b) (all_canonical bs ++ w)) in
     let F = IsEncoding-block s.first (IsBlock-encodes o s.first b s.item) in
     let G = IsEncoding-canonical b (omega (arith, small, n, m)) in
-    let h = encoding_alone _ _ _ _ _ _ _ _ _ _ _ _ (s.rest ++ z) (all_canonical bs ++ w) F.encoding G.encoding d in
+    let h = Encoding-unique _ _ _ _ _ _ _ _ _ _ _ _ (s.rest ++ z) (all_canonical bs ++ w) F.encoding G.encoding d in
     let r = all_canonical-front (o + length s.first) s.rest z w bs (omega (arith, small, n)) s.items h.rest in
     (s.whole ∙ (ap (λ q. q ++ s.rest) h.octets ∙ ap (λ q. canonical b ++ q) r.0), r.1)
 
@@ -143,7 +143,7 @@ AreCanonical-past x own rest c k n few keeps e after o (more_trees (leaf p l) bs
     HasCanonicalFront-header x s.first s.rest contents own rest Universal c bit k (leaf_tag l) n header
     (length own) s.whole F
     (length-contents_lt x own rest c k n few e) e in
-    let q = same_split contents own s.rest rest f.size f.whole in
+    let q = append-injective contents own s.rest rest f.size f.whole in
     let written = keeps.leaf (sym f.class) l (sym f.tag) (subst (LeafContents l) q.0 means) in
     let here =
     f.encoding ∙ shortest_encoding-same_fields c Universal k false n (leaf_tag l) contents (leaf_contents l)
@@ -162,7 +162,7 @@ AreCanonical-past x own rest c k n few keeps e after o (more_trees (explicit d p
     let (_, other, contents, header, F, encoded) = s.item in
     let f = HasCanonicalFront-header x s.first s.rest contents own rest d c true k m n header (length own) s.whole F
     (length-contents_lt x own rest c k n few e) e in
-    let q = same_split contents own s.rest rest f.size f.whole in
+    let q = append-injective contents own s.rest rest f.size f.whole in
     let within = keeps.within (λ u. other (f.class ∙ u)) (sym f.constructed) in
     let place = o + header in
     let item : EncodesAll place own (more_trees b no_trees) =
@@ -177,7 +177,7 @@ AreCanonical-past x own rest c k n few keeps e after o (more_trees (unknown d j 
     let (_, header, F, _) = s.item in
     let f = HasCanonicalFront-header x s.first s.rest v own rest d c j k m n header (length own) s.whole F
     (length-contents_lt x own rest c k n few e) e in
-    let q = same_split v own s.rest rest f.size f.whole in
+    let q = append-injective v own s.rest rest f.size f.whole in
     let here =
     f.encoding ∙ shortest_encoding-same_fields c d k j n m v v (sym f.class) (sym f.constructed) (sym f.tag) refl in
     all_canonical-first_and_rest (o + length s.first) x s.first s.rest rest
@@ -257,7 +257,7 @@ length-two_octets_fewer x own rest c k n m e =
     let l = shortest_length m in
     omega (
       arith,
-      identifier_some i c k n (shortest_identifier_is c k n),
+      IsIdentifier-not_empty i c k n (IsIdentifier-shortest c k n),
       length-shortest_length_some m,
       ap length e,
       length-append i (l ++ (own ++ rest)),
@@ -352,8 +352,8 @@ length-shortest_header_le x h all f =
     omega (
       arith,
       length-header_parts x f.identifier f.len h.size f.within f.front_is,
-      shortest_identifier_le f.identifier h.class h.constructed h.tag f.fields,
-      shortest_length_le f.len h.announced p.len f.length_octets,
+      length-shortest_identifier_le f.identifier h.class h.constructed h.tag f.fields,
+      length-shortest_length_le f.len h.announced p.len f.length_octets,
     )
 
 -- a header with no more octets than these
@@ -366,17 +366,17 @@ BeginsShortest-of_size x h all f other same =
     let l = f.len in
     let p = AreHeaderOctets-front x i l h.size all f.front_is in
     let size = length-header_parts x i l h.size f.within f.front_is in
-    let a = shortest_identifier_le i h.class h.constructed h.tag f.fields in
-    let b = shortest_length_le l h.announced p.len f.length_octets in
+    let a = length-shortest_identifier_le i h.class h.constructed h.tag f.fields in
+    let b = length-shortest_length_le l h.announced p.len f.length_octets in
     let not : l ≢ 128 ∷ [] = λ one.
     other (IsLength-80 l h.announced f.length_octets one)
     (get_or-last_of_header x i l h.size f.within f.front_is one) in
     record {
       within = f.within;
       shortest = f.front_is ∙ ap₂ (λ s t. s ++ t)
-          (shortest_identifier_only i h.class h.constructed h.tag p.identifier f.fields
+          (shortest_identifier-only i h.class h.constructed h.tag p.identifier f.fields
           (omega (arith, size, a, b, same)))
-          (shortest_length_only l h.announced p.len not f.length_octets (omega (arith, size, a, b, same)));
+          (shortest_length-only l h.announced p.len not f.length_octets (omega (arith, size, a, b, same)));
     }
 
 -- octets that begin with a shortest header, by that header and what follows it

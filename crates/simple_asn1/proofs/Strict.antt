@@ -19,7 +19,7 @@ use Rattle.asn1_blocks.specs.Places.{end_before}
 use Rattle.simple_asn1.specs.ReadBack.{CanonicalDocument}
 use Rattle.simple_asn1.specs.Strict.{EqualByOctets, FirstNotCanonical, EachIsCanonical, StrictFault, top_octets}
 use Rattle.asn1_leaves.proofs.Leaves.Known.{Known-octets}
-use Rattle.asn1_headers.proofs.Prefixes.{encoding_alone, same_split}
+use Rattle.asn1_headers.proofs.Prefixes.{Encoding-unique, append-injective}
 use Rattle.asn1_blocks.proofs.OneReading.{IsBlock-encodes, EncodesAll-unique}
 use Rattle.asn1_blocks.specs.Places.{IsEncoding}
 use Rattle.asn1_blocks.proofs.Faults.{IsEncoding-block}
@@ -142,7 +142,7 @@ pub compared-whole : (a b : Comparison) (xs : List ℕ) → compared a xs b → 
     → IsTrue b.same ↔ (a.rest.now ≡ xs)
 compared-whole a b xs (front, whole, size, same) n s =
     let all : a.rest.now ≡ front =
-    (same_split a.rest.now front [] b.rest.now (omega (arith, n, size)) (append-nil a.rest.now ∙ whole)).0 in
+    (append-injective a.rest.now front [] b.rest.now (omega (arith, n, size)) (append-nil a.rest.now ∙ whole)).0 in
     (λ h. all ∙ (same.0 h).1, λ e. same.1 (s, sym all ∙ e))
 
 -- what is written of trees is, of each, where it stands
@@ -154,7 +154,7 @@ EachIsCanonical-written (more_trees b bs) i u x w small s e =
     let l = ap length e ∙ length-append (canonical b) (all_canonical bs) in
     let F = IsEncoding-block s.first (IsBlock-encodes (length u) s.first b s.item) in
     let G = IsEncoding-canonical b (omega (arith, small, l)) in
-    let h = encoding_alone _ _ _ _ _ _ _ _ _ _ _ _ s.rest (all_canonical bs) F.encoding G.encoding (sym s.whole ∙ e)
+    let h = Encoding-unique _ _ _ _ _ _ _ _ _ _ _ _ s.rest (all_canonical bs) F.encoding G.encoding (sym s.whole ∙ e)
     in (
       p.octets ∙ h.octets,
       EachIsCanonical-written bs i (u ++ s.first) s.rest p.whole

@@ -5,7 +5,7 @@ use Rattle.asn1_headers.specs.declared.header.ASN1Class.{ASN1Class}
 use Rattle.asn1_headers.specs.declared.header.ASN1Class.TheVariants.{Universal, Application, ContextSpecific, Private}
 use Rattle.simple_asn1.specs.Header.{BeginsWithNo, Encoding, IsIdentifier, IsLength, IsSomeIdentifier, class_number}
 use Rattle.simple_asn1.specs.Places.{IsEncoding}
-use Rattle.asn1_headers.proofs.Prefixes.{identifier_alone, length_alone}
+use Rattle.asn1_headers.proofs.Prefixes.{IsIdentifier-unique, IsLength-unique}
 use Rattle.asn1_headers.specs.Front.{BeginsWithHeader, HasNoHeader}
 
 -- an encoding begins with a header
@@ -27,10 +27,11 @@ Encoding-front_header x size m c k n is f =
     let w = drop size x in
     let parts : x ≡ f.identifier ++ (f.len ++ w) =
     sym (take-append-drop size x) ∙ (ap (λ z. z ++ w) f.front_is ∙ append_assoc f.identifier f.len w) in
-    let same = identifier_alone e.identifier f.identifier (e.len ++ v) (f.len ++ w) is.class c is.constructed k is.tag n
+    let same = IsIdentifier-unique e.identifier f.identifier (e.len ++ v) (f.len ++ w) is.class c is.constructed k
+    is.tag n
     e.identifier_octets
     f.fields (sym e.whole ∙ parts) in
-    let lens = length_alone e.len f.len v w (length v) m e.length_octets f.length_octets same.rest in
+    let lens = IsLength-unique e.len f.len v w (length v) m e.length_octets f.length_octets same.rest in
     let count : m ≡ length w = sym lens.number ∙ ap length lens.rest in (
       record {
         identifier = f.identifier;
@@ -64,7 +65,8 @@ pub length-front_identifier : (x : List ℕ) (size n : ℕ) (c : ASN1Class) (k :
 length-front_identifier x size n c k is within found =
     let e = is.encoding in
     let v = is.contents in
-    let same = identifier_alone e.identifier (take size x) (e.len ++ v) (drop size x) is.class c is.constructed k is.tag
+    let same = IsIdentifier-unique e.identifier (take size x) (e.len ++ v) (drop size x) is.class c is.constructed k
+    is.tag
     n e.identifier_octets
     found (sym e.whole ∙ sym (take-append-drop size x)) in
     ap length same.octets ∙ length-take-le size x within

@@ -1,6 +1,6 @@
 -- The leaf that an encoding at an offset is, by its tag and its contents octets, and why there is none of a kind.
 use Rattle.std.proofs.Common.{◌≡◌, ◌⊎◌, ℕ, ◌<◌, ◌^◌, List, [], inl, inr, refl, sym, subst, ◌∙◌, append-nil}
-use Rattle.asn1_headers.proofs.Prefixes.{encoding_alone}
+use Rattle.asn1_headers.proofs.Prefixes.{Encoding-unique}
 use Rattle.asn1_headers.specs.declared.header.ASN1Class.TheVariants.{Universal}
 use Rattle.asn1_blocks.proofs.Leaves.{LeafContents-no_fault}
 use Rattle.asn1_blocks.proofs.OneReading.{IsBlock-not_empty, IsBlock-encodes, EncodesAll-single, Encodes-single}
@@ -44,7 +44,7 @@ module _ (octets : List ℕ) (offset : ℕ) where
   UniversalAt-unique m n v w a b =
       let same = EncodingAt-unique octets offset a.whole b.whole a.at b.at in
       let here = subst (λ z. Encoding z Universal a.constructed m v a.header) same a.encoding in
-      let e = encoding_alone b.whole b.whole Universal Universal a.constructed b.constructed m n v w a.header b.header
+      let e = Encoding-unique b.whole b.whole Universal Universal a.constructed b.constructed m n v w a.header b.header
       [] [] here b.encoding refl in
       (e.tag, e.contents)
 

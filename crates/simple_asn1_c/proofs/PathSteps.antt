@@ -5,7 +5,7 @@ use Rattle.std.specs.Int.{w64}
 use Rattle.std.specs.Int.Digits.{number_from_digits}
 use Rattle.std.proofs.lemmas.Bool.{cases_lt, cond_above, cond_below, le-leb, lt-leb}
 use Rattle.asn1_numbers.specs.TwosComplement.{signed_number}
-use Rattle.asn1_numbers.proofs.SignedNumbers.{magnitude_digits, magnitude_of, signed_above, signed_below}
+use Rattle.asn1_numbers.proofs.SignedNumbers.{magnitude_digits, magnitude_of, signed_number-negative, signed_number-not_negative}
 use Rattle.asn1_outline.specs.Triple.{entry_at}
 use Rattle.simple_asn1_c.specs.Paths.{fitting, item_from}
 use Rattle.asn1_outline.specs.declared.entry.Entry.{Entry}
@@ -50,10 +50,10 @@ pub fitting-none : (octets : List ℕ) → 2 ^ 63 ≤ magnitude_of octets → No
 fitting-none octets large = elim (cases_lt (get_or octets 0 0) 128) [
   | inl below ↦
       cond_above (magnitude_of octets) (2 ^ 63) (Some (pos (magnitude_of octets))) None None large refl
-      ∙ ap fitting (sym (signed_below octets below))
+      ∙ ap fitting (sym (signed_number-not_negative octets below))
   | inr above ↦
       cond_above (magnitude_of octets) (2 ^ 63) (Some (negsuc (magnitude_of octets))) None None large refl
-      ∙ ap fitting (sym (signed_above octets above))
+      ∙ ap fitting (sym (signed_number-negative octets above))
 ]
 
 -- a natural number below 2^63 fits
@@ -61,7 +61,7 @@ pub fitting-natural : (octets : List ℕ) → get_or octets 0 0 < 128 → magnit
     → Some (pos (magnitude_of octets)) ≡ fitting (signed_number octets)
 fitting-natural octets below small =
     cond_below (magnitude_of octets) (2 ^ 63) (Some (pos (magnitude_of octets))) None small
-    ∙ ap fitting (sym (signed_below octets below))
+    ∙ ap fitting (sym (signed_number-not_negative octets below))
 
 Some-injective : {A : Type 0} {x y : A} → Some x ≡ Some y → x ≡ y
 Some-injective e = cc

@@ -7,7 +7,7 @@ use Rattle.std.specs.Result.{is_ok}
 use Rattle.std.proofs.lemmas.Int.Digits.{digits_of_step}
 use Rattle.asn1_numbers.specs.Decimal.{natural_numeral}
 use Rattle.asn1_numbers.specs.Octets.{digit}
-use Rattle.asn1_numbers.proofs.Numerals.{natural_some}
+use Rattle.asn1_numbers.proofs.Numerals.{natural_numeral-positive}
 use Rattle.asn1_leaves.specs.Contents.ObjectIdentifier.{AreFirstTwo}
 use Rattle.asn1_leaves.specs.DottedDecimal.{dotted_decimal}
 use Rattle.asn1_leaves.specs.Inner.IdentifierForms.{components_of, first_component, numbers_after, pointed, second_component}
@@ -26,7 +26,7 @@ natural_numeral-digit (suc m) low =
     let none : suc m / 10 ≡ 0 = omega (arith, low) in
     let last : suc m % 10 ≡ suc m = omega (arith, low) in
     sym (
-    natural_some (suc m) (omega arith)
+    natural_numeral-positive (suc m) (omega arith)
     ∙ ap (map digit) (digits_of_step 10 (suc m) (omega arith) (omega arith)
     ∙ (λ i. digits_of 10 (none i) ++ (last i ∷ [])))
     )
@@ -39,7 +39,7 @@ natural_numeral-two_digits n two low =
     let front : digits_of 10 (n / 10) ≡ n / 10 ∷ [] =
     digits_of_step 10 (n / 10) (omega arith) (omega (arith, two)) ∙ (λ i. digits_of 10 (none i) ++ (first i ∷ [])) in
     sym (
-    natural_some n (omega (arith, two))
+    natural_numeral-positive n (omega (arith, two))
     ∙ ap (map digit) (digits_of_step 10 n (omega arith) (omega (arith, two)) ∙ ap (λ z. z ++ (n % 10) ∷ []) front)
     )
 

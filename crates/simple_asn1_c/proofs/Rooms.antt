@@ -11,7 +11,7 @@ use Rattle.asn1_headers.specs.Header.{IsIdentifier}
 use Rattle.asn1_headers.specs.declared.header.ASN1Class.{ASN1Class}
 use Rattle.asn1_headers.specs.declared.header.ASN1Class.TheVariants.{Universal}
 use Rattle.asn1_leaves.specs.Contents.ObjectIdentifier.{ObjectIdentifierContents, Subidentifiers}
-use Rattle.asn1_numbers.proofs.Numerals.{natural_some}
+use Rattle.asn1_numbers.proofs.Numerals.{natural_numeral-positive}
 use Rattle.asn1_numbers.specs.Base128.{IsBase128}
 use Rattle.asn1_numbers.specs.Decimal.{natural_numeral}
 use Rattle.asn1_numbers.specs.Octets.{AreOctets}
@@ -19,7 +19,7 @@ use Rattle.simple_asn1.specs.DottedDecimal.{dotted_decimal}
 use Rattle.simple_asn1.specs.Places.{EncodingAt}
 use Rattle.simple_asn1.specs.Tree.{object_identifier}
 use Rattle.asn1_blocks.proofs.Slices.{EncodingAt-unique}
-use Rattle.asn1_headers.proofs.Prefixes.{encoding_alone}
+use Rattle.asn1_headers.proofs.Prefixes.{Encoding-unique}
 use Rattle.simple_asn1_c.proofs.Headers.{drop-header}
 use Rattle.simple_asn1_c.proofs.OffsetLeaves.{HasLeafAt-leaf, UniversalAt-unique}
 use Rattle.simple_asn1_c.specs.Contents.{AnswersDotted, AnswersTag, had_no_memory_for_components, had_no_memory_for_tag, mean_components, mean_no_components, no_tag_was_found, tag_was_found}
@@ -54,7 +54,7 @@ length-numeral_le : (n k : ℕ) → 0 < k → n < 10 ^ k → length (natural_num
 length-numeral_le zero k some small = omega (arith, some, length-numeral_of_zero)
 length-numeral_le (suc n) k some small =
     let digits = digits_of 10 (suc n) in
-    let text = ap length (natural_some (suc n) (omega arith)) ∙ length-map digits (λ d. 48 + d) in
+    let text = ap length (natural_numeral-positive (suc n) (omega arith)) ∙ length-map digits (λ d. 48 + d) in
     omega (arith, text, length-digits_of-le 10 k (suc n) (omega arith) small)
 
 -- the numeral of a base-128 number has at most three digits an octet
@@ -150,7 +150,7 @@ count-tag_le octets offset before after o
     let same : y ≡ x = EncodingAt-unique octets offset y x there at in
     let f = at.encoding.encoding in
     let own = at.encoding in
-    let z = encoding_alone y x class own.class constructed own.constructed tag own.tag contents own.contents header
+    let z = Encoding-unique y x class own.class constructed own.constructed tag own.tag contents own.contents header
     own.header [] [] e f
     (ap (λ w. w ++ []) same) in
     let room = length-tag_numeral_le e.identifier class constructed tag e.identifier_octets in

@@ -11,7 +11,7 @@ use Rattle.std.proofs.lemmas.List.Elements.{All-head, All-tail}
 use Rattle.std.specs.Prelude.{All}
 use Rattle.std.proofs.lemmas.Str.{IsAscii-append, IsUtf8-from_ascii, chars-IsAscii, encodes-chars}
 use Rattle.std.proofs.lemmas.Str.Ascii.{All-from_ascii, IsAscii-cons, IsAscii-nil}
-use Rattle.asn1_numbers.proofs.ReadNumerals.{numeral_digits}
+use Rattle.asn1_numbers.proofs.ReadNumerals.{AllDigits-natural_numeral}
 use Rattle.asn1_numbers.specs.Decimal.{natural_numeral}
 use Rattle.asn1_leaves.proofs.Characters.{IsAscii-printable, list_all-is_printable-chars}
 use Rattle.asn1_leaves.specs.Contents.Text.{text_contents}
@@ -22,7 +22,7 @@ use Rattle.simple_asn1_c.specs.Puts.{AreAllowed}
 
 -- numerals are ASCII
 IsAscii-numeral : (n : ℕ) → IsAscii (natural_numeral n)
-IsAscii-numeral n = IsAscii-from_digits (natural_numeral n) (numeral_digits n)
+IsAscii-numeral n = IsAscii-from_digits (natural_numeral n) (AllDigits-natural_numeral n)
 
 -- a text that is a numeral is UTF-8
 pub IsUtf8-numeral : (text : List ℕ) (n : ℕ) → text ≡ natural_numeral n → IsUtf8 text

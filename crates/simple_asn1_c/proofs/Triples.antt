@@ -4,7 +4,7 @@ use Rattle.std.proofs.lemmas.List.{drop_at, get_or-drop, length-drop}
 use Rattle.asn1_headers.specs.Header.{Encoding}
 use Rattle.asn1_headers.specs.declared.header.ASN1Class.TheVariants.{Universal}
 use Rattle.asn1_blocks.specs.declared.block.GroupKind.TheVariants.{Sequence, Set}
-use Rattle.asn1_headers.proofs.Prefixes.{encoding_alone}
+use Rattle.asn1_headers.proofs.Prefixes.{Encoding-unique}
 use Rattle.asn1_blocks.proofs.Leaves.{is_leaf_tag-leaf_tag, is_leaf_tag-not_group_tag}
 use Rattle.asn1_blocks.proofs.Slices.{EncodingAt-unique}
 use Rattle.asn1_outline.proofs.Entries.{IsEntry-get_or}
@@ -145,7 +145,7 @@ IsUniversal-entry x n i d tag e y k v h is s f small =
     let (octets, at, own) = is.header in
     let same = EncodingAt-unique x (tree_offset b) octets y (subst (λ o. EncodingAt x o octets) is.offset at)
     (EncodingAt-encoded x b y s) in
-    let z = encoding_alone octets y e.class Universal e.constructed k own.tag tag own.contents v e.header h [] []
+    let z = Encoding-unique octets y e.class Universal e.constructed k own.tag tag own.contents v e.header h [] []
     own.encoding f (ap (λ w. w ++ []) same) in
     (z.class, own.tag_field.0 (omega (arith, z.tag, small)) ∙ z.tag)
 

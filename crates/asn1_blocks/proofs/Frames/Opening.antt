@@ -24,7 +24,7 @@ use Rattle.asn1_blocks.proofs.Frames.Advances.{Follows, AreOpen-places}
 use Rattle.asn1_blocks.proofs.Frames.Slices.{slice_range-empty}
 use Rattle.asn1_blocks.proofs.HeaderCounts.{HeadersBegun-not_read_inside}
 use Rattle.asn1_blocks.proofs.OneReading.{IsBlock-encodes}
-use Rattle.asn1_headers.proofs.Prefixes.{encoding_alone}
+use Rattle.asn1_headers.proofs.Prefixes.{Encoding-unique}
 use Rattle.asn1_blocks.proofs.ReadSteps.{length-slice_range, slice_range-append}
 
 -- the frame of contents octets that are read as blocks
@@ -52,7 +52,7 @@ HeaderFound-same_attempt octets o e h found b start here at =
     let behind = slice_range octets h.end e in
     let d = slice_range-append octets o h.end e (omega (arith, found.starts_after, found.order)) found.ends_within in
     let moved = subst (λ z. IsEncodingBetween octets b.class true b.tag z start e) here at.encoding in
-    let z = encoding_alone _ _ _ _ _ _ _ _ _ _ _ _ behind [] found.encoding moved
+    let z = Encoding-unique _ _ _ _ _ _ _ _ _ _ _ _ behind [] found.encoding moved
     (sym d ∙ sym (append-nil (slice_range octets o e))) in
     ap (λ c. attempt_with c o h.tag) z.class
     ∙ (ap (λ i. attempt_with b.class i h.tag) (sym here) ∙ ap (attempt_with b.class b.offset) z.tag)
@@ -133,7 +133,7 @@ IsStopping-leaf octets f gs p n h e small found o shut u w =
     let stops : BlockFaultAt i rest e 0 = at_leaf first behind d F w in
     let here : p < f.extent.end = omega (arith, found.starts_after, found.order, found.ends_within) in
     let no_header = nothing_inside (λ y r c k t contents m g G op.
-    let z = encoding_alone _ _ _ _ _ _ _ _ _ _ _ _ behind r found.encoding G (sym d ∙ g) in
+    let z = Encoding-unique _ _ _ _ _ _ _ _ _ _ _ _ behind r found.encoding G (sym d ∙ g) in
     let tag = subst (λ i. IsReadInside c k i) (sym z.tag) op in
     let bit = subst (λ i. IsReadInside c i h.tag) (sym z.constructed) tag in
     shut (subst (λ i. IsReadInside i h.constructed h.tag) (sym z.class) bit)) in

@@ -2,7 +2,7 @@
 use Rattle.std.proofs.Common.{◌≡◌, ap, refl, drop, length, take, sym, ◌∙◌, subst}
 use Rattle.std.proofs.lemmas.List.{take-append-drop, take_at}
 use Rattle.asn1_headers.specs.Header.{IsSomeIdentifier}
-use Rattle.asn1_headers.proofs.Prefixes.{identifier_alone}
+use Rattle.asn1_headers.proofs.Prefixes.{IsIdentifier-unique}
 use Rattle.asn1_der.proofs.order.identifier_of.Goals as goal
 
 pub returns-in-Some : goal.returns-in-Some
@@ -12,7 +12,7 @@ returns-in-Some c identifier front =
     let (class, constructed, is) = front.is in
     let (some, within, number, (other, bit, found)) = c.in-Some.ensures.found in
     let same =
-    identifier_alone (take size octets) identifier (drop size octets) front.rest other class bit constructed number
+    IsIdentifier-unique (take size octets) identifier (drop size octets) front.rest other class bit constructed number
     front.tag found is
     (take-append-drop size octets ∙ front.whole)
     in

@@ -2,7 +2,7 @@
 use Rattle.std.proofs.Common.{◌≡◌, ◌-◌, ◌<◌, ap, arith, drop, get_or, length, length-drop, subst, sym, take}
 use Rattle.std.proofs.lemmas.List.{take_all}
 use Rattle.std.proofs.lemmas.List.Elements.{All-drop, All-from_get_or}
-use Rattle.asn1_headers.proofs.Shortest.{shortest_base128_not_leading}
+use Rattle.asn1_headers.proofs.Shortest.{shortest_base128-without_80}
 use Rattle.asn1_numbers.specs.Base128.{IsBase128}
 use Rattle.asn1_numbers.specs.Octets.{AreOctets}
 use Rattle.asn1_der.proofs.Tags.{IsBase128-behind_80}
@@ -28,5 +28,5 @@ loop-rest-preserved c =
 
 pub returns-then-first : goal.returns-then-first
 returns-then-first c n is =
-    shortest_base128_not_leading c.loop-rest.rest.now n c.loop-rest.invariant.fit (c.loop-rest.invariant.same n is)
+    shortest_base128-without_80 c.loop-rest.rest.now n c.loop-rest.invariant.fit (c.loop-rest.invariant.same n is)
     (λ tail e. c.if-first.true (ap (λ xs. get_or xs 0 0) e))

@@ -4,8 +4,8 @@ use Rattle.std.proofs.Math.Seq.{take-add}
 use Rattle.std.proofs.lemmas.List.{take-append-drop}
 use Rattle.std.proofs.lemmas.Result.{err_from_is_err_and}
 use Rattle.asn1_headers.specs.Fault.{fault_of}
-use Rattle.asn1_headers.proofs.FrontHeaders.{identifier_missed, identifier_taken, length_missed, none_without_identifier, none_without_length}
-use Rattle.asn1_headers.proofs.IndefiniteForms.{form_of_constructed, form_of_primitive}
+use Rattle.asn1_headers.proofs.FrontHeaders.{HeaderFault-no_identifier, IsIdentifier-take, HeaderFault-no_length, HasNoHeader-no_identifier, HasNoHeader-no_length}
+use Rattle.asn1_headers.proofs.IndefiniteForms.{HasIndefiniteForm-iff_80, HasIndefiniteForm-not_primitive}
 use Rattle.asn1_headers.proofs.front.header_at.Goals as goal
 use Rattle.asn1_headers.proofs.front.header_at.Goals.{then-constructed, else-constructed}
 
@@ -14,22 +14,23 @@ returns-in_err-tag-clause-none c =
     let p = err_from_is_err_and c.from_residual.result c.from_residual.ensures.1 in
     rw (p.1, p.2) (elim c.in_err-tag.ensures.refused [
       | inl memory ↦ inl memory
-      | inr none ↦ inr (none_without_identifier c.args.octets.now none.1)
+      | inr none ↦ inr (HasNoHeader-no_identifier c.args.octets.now none.1)
     ])
 
 pub returns-in_err-tag-clause-fault : goal.returns-in_err-tag-clause-fault
 returns-in_err-tag-clause-fault c offset =
     let p = err_from_is_err_and c.from_residual.result c.from_residual.ensures.1 in
-    rw (p.1, p.2) (identifier_missed offset c.args.octets.now c.in_err-tag.field-0.0 c.in_err-tag.ensures.refused)
+    rw (p.1, p.2) (HeaderFault-no_identifier offset c.args.octets.now c.in_err-tag.field-0.0
+    c.in_err-tag.ensures.refused)
 
 pub returns-in_err-announced-clause-none : goal.returns-in_err-announced-clause-none
 returns-in_err-announced-clause-none c =
     let octets = c.args.octets.now in
     let found = c.in_ok-tag in
     let size = c.decode_tag.new.index in
-    let is = identifier_taken octets size found.class found.constructed found.tag found.ensures.found in
+    let is = IsIdentifier-take octets size found.class found.constructed found.tag found.ensures.found in
     let p = err_from_is_err_and c.from_residual-in_err-announced.result c.from_residual-in_err-announced.ensures.1 in
-    rw (p.1, p.2) (inr (none_without_length octets size found.tag found.ensures.moved.1
+    rw (p.1, p.2) (inr (HasNoHeader-no_length octets size found.tag found.ensures.moved.1
     (found.class, found.constructed, is) (rw (sym c.split_at.ensures.back) c.in_err-announced.ensures.refused)))
 
 pub returns-in_err-announced-clause-fault : goal.returns-in_err-announced-clause-fault
@@ -37,9 +38,9 @@ returns-in_err-announced-clause-fault c offset =
     let octets = c.args.octets.now in
     let found = c.in_ok-tag in
     let size = c.decode_tag.new.index in
-    let is = identifier_taken octets size found.class found.constructed found.tag found.ensures.found in
+    let is = IsIdentifier-take octets size found.class found.constructed found.tag found.ensures.found in
     let p = err_from_is_err_and c.from_residual-in_err-announced.result c.from_residual-in_err-announced.ensures.1 in
-    rw (p.1, p.2) (inr (length_missed offset octets (take size octets) (drop size octets) found.class
+    rw (p.1, p.2) (inr (HeaderFault-no_length offset octets (take size octets) (drop size octets) found.class
     found.constructed found.tag (fault_of c.in_err-announced.field-0.0) is
     (sym (take-append-drop size octets)) (rw (sym c.split_at.ensures.back) c.in_err-announced.ensures.refused)
     (rw (sym c.split_at.ensures.back) c.in_err-announced.ensures.fault)))
@@ -49,7 +50,7 @@ returns-clause-found c =
     let octets = c.args.octets.now in
     let found = c.in_ok-tag in
     let size = c.decode_tag.new.index in
-    let is = identifier_taken octets size found.class found.constructed found.tag found.ensures.found in
+    let is = IsIdentifier-take octets size found.class found.constructed found.tag found.ensures.found in
     let l = c.in_ok-announced.length in
     record {
       within = omega (arith, found.ensures.moved.1, c.in_ok-announced.ensures.found.0, c.split_at.ensures.back_len);
@@ -65,14 +66,14 @@ returns-clause-form c =
     let octets = c.args.octets.now in
     let found = c.in_ok-tag in
     let size = c.decode_tag.new.index in
-    let is = identifier_taken octets size found.class found.constructed found.tag found.ensures.found in
+    let is = IsIdentifier-take octets size found.class found.constructed found.tag found.ensures.found in
     elim c.if-constructed.branch [
       | then-constructed w ↦
-          form_of_constructed octets c.split_at.result.1.now size found.tag found.class found.constructed
+          HasIndefiniteForm-iff_80 octets c.split_at.result.1.now size found.tag found.class found.constructed
           found.ensures.moved.1 is c.split_at.ensures.back w.begins_with_80.result
           c.if-constructed.result w.if-constructed.true w.begins_with_80.ensures w.result-is
       | else-constructed w ↦
-          form_of_primitive octets c.split_at.result.1.now size found.tag found.class found.constructed
+          HasIndefiniteForm-not_primitive octets c.split_at.result.1.now size found.tag found.class found.constructed
           found.ensures.moved.1 is c.split_at.ensures.back c.if-constructed.result
           w.if-constructed.false (w.result-is ∙ w.if-constructed.false)
     ]

@@ -3,14 +3,14 @@ use Rattle.std.proofs.Common.{◌≡◌, ◌+◌, ◌∷◌, [], sym, subst, ari
 use Rattle.std.specs.Int.Digits.{digits_of}
 use Rattle.std.proofs.lemmas.Grind.{common_steps}
 use Rattle.asn1_headers.specs.Header.{shortest_length}
-use Rattle.asn1_headers.proofs.HeaderOctets.{few_octets}
+use Rattle.asn1_headers.proofs.HeaderOctets.{length-octets_le}
 use Rattle.asn1_headers.proofs.header.push_length.Goals as goal
 
 pub overflow_cast-octet_count : goal.overflow_cast-octet_count
-overflow_cast-octet_count g c = grind (arith, common_steps, few_octets c.args.n (omega arith))
+overflow_cast-octet_count g c = grind (arith, common_steps, length-octets_le c.args.n (omega arith))
 
 pub overflow_add-octet_count : goal.overflow_add-octet_count
-overflow_add-octet_count g c = grind (arith, common_steps, few_octets c.args.n (omega arith))
+overflow_add-octet_count g c = grind (arith, common_steps, length-octets_le c.args.n (omega arith))
 
 pub returns : goal.returns
 returns g c =

@@ -3,7 +3,7 @@ use Rattle.std.proofs.Common.{arith, ◌≡◌, ◌∷◌, subst, sym, inl, inr}
 use Rattle.std.proofs.lemmas.Grind.{common_steps}
 use Rattle.std.proofs.lemmas.Result.{err_from_is_err_and}
 use Rattle.asn1_headers.specs.Header.{BeginsWithNo, IsSomeIdentifier}
-use Rattle.asn1_headers.proofs.HeaderOctets.{no_long_identifier}
+use Rattle.asn1_headers.proofs.HeaderOctets.{BeginsWithNo-long_identifier}
 use Rattle.asn1_headers.proofs.header.tag_at.Goals as goal
 
 pub returns-in_err-n-2-clause-refused : goal.returns-in_err-n-2-clause-refused
@@ -15,6 +15,6 @@ returns-in_err-n-2-clause-refused c =
       | inr missing ↦ inr (
         missing.0,
         subst (BeginsWithNo IsSomeIdentifier) (sym e)
-            (no_long_identifier c.in-Some.first.now c.in-Some.rest.now c.if-low-ne31.false missing.1),
+            (BeginsWithNo-long_identifier c.in-Some.first.now c.in-Some.rest.now c.if-low-ne31.false missing.1),
       )
     ])

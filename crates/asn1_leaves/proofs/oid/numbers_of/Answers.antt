@@ -1,7 +1,7 @@
 -- For `oid::numbers_of`: what it returns is right (`refused`).
 use Rattle.std.proofs.Common.{inl, inr}
 use Rattle.std.proofs.lemmas.Result.{err_from_is_err_and}
-use Rattle.asn1_numbers.proofs.FittingNumbers.{missing_item}
+use Rattle.asn1_numbers.proofs.FittingNumbers.{HasNotAll-missing_item}
 use Rattle.asn1_leaves.proofs.oid.numbers_of.Goals as goal
 
 pub returns-in_err-push_number-clause-refused : goal.returns-in_err-push_number-clause-refused
@@ -13,7 +13,8 @@ returns-in_err-push_number-clause-refused g c =
       | inl memory ↦ inl memory
       | inr missing ↦ inr (
         missing.0,
-        missing_item g.T.FromBigUint.has c.args.components.now i c.component-item.result c.loop-component-test.true
+        HasNotAll-missing_item g.T.FromBigUint.has c.args.components.now i c.component-item.result
+            c.loop-component-test.true
             c.component-item.is missing.1,
       )
     ])

@@ -2,7 +2,7 @@
 use Rattle.std.proofs.Common.{◌≡◌, ap, refl, drop, length, take, sym, ◌∙◌, subst}
 use Rattle.std.proofs.lemmas.List.{take-append-drop, take_at}
 use Rattle.asn1_headers.specs.Header.{IsSomeIdentifier}
-use Rattle.asn1_headers.proofs.Prefixes.{identifier_alone}
+use Rattle.asn1_headers.proofs.Prefixes.{IsIdentifier-unique}
 use Rattle.der_elements.proofs.header.behind_identifier.Goals as goal
 
 pub returns-in-Some : goal.returns-in-Some
@@ -11,7 +11,7 @@ returns-in-Some c identifier behind tag (class, constructed, is) whole =
     let size = c.in-Some.size in
     let (some, within, number, (other, bit, found)) = c.in-Some.ensures.found in
     let same =
-    identifier_alone (take size octets) identifier (drop size octets) behind other class bit constructed number tag
+    IsIdentifier-unique (take size octets) identifier (drop size octets) behind other class bit constructed number tag
     found is
     (take-append-drop size octets ∙ whole)
     in

@@ -2,9 +2,10 @@
 use Rattle.std.proofs.Common.{arith}
 use Rattle.asn1_blocks.specs.BlockParts.{tree_tag}
 use Rattle.asn1_blocks.specs.View.{tree_class, view}
-use Rattle.asn1_headers.proofs.Names.{past_names}
+use Rattle.asn1_headers.proofs.Names.{type_name-past}
 use Rattle.asn1_blocks.proofs.block.ASN1Block.type_name.Goals as goal
 
 pub returns-in-None : goal.returns-in-None
 returns-in-None c =
-    past_names (tree_class (view c.args.self.now)) (tree_tag (view c.args.self.now)) (omega (arith, c.in-None.ensures))
+    type_name-past (tree_class (view c.args.self.now)) (tree_tag (view c.args.self.now))
+    (omega (arith, c.in-None.ensures))

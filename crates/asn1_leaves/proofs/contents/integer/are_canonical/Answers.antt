@@ -2,12 +2,12 @@
 use Rattle.std.proofs.Common.{◌≢◌, ◌+◌, ◌<◌, get_or, length, sym, ap, ◌∙◌, arith}
 use Rattle.std.proofs.lemmas.Bool.Decides.{nat_tests}
 use Rattle.asn1_numbers.specs.TwosComplement.{shortest_octets}
-use Rattle.asn1_numbers.proofs.SignedNumbers.{shortest_from, sign_before}
+use Rattle.asn1_numbers.proofs.SignedNumbers.{IsShortestSigned-drop, sign_before}
 use Rattle.asn1_leaves.proofs.contents.integer.are_canonical.Goals as goal
 
 pub returns-in-len1 : goal.returns-in-len1
 returns-in-len1 c said n p =
-    shortest_from c.args.contents.now 0 (omega arith) (λ k. omega (arith, c.type_inv.contents k))
+    IsShortestSigned-drop c.args.contents.now 0 (omega arith) (λ k. omega (arith, c.type_inv.contents k))
     (λ more. absurd (omega (arith, more)))
     ∙ ap shortest_octets (sym p)
 
@@ -16,7 +16,7 @@ returns-then-second-lt128 c said n p =
     let contents = c.args.contents.now in
     let needed : 0 + 1 < length contents →
     get_or contents 0 0 ≢ sign_before (get_or contents (0 + 1) 0) = λ more e. grind (arith, nat_tests, e, said) in
-    shortest_from contents 0 (omega arith) (λ k. omega (arith, c.type_inv.contents k)) needed
+    IsShortestSigned-drop contents 0 (omega arith) (λ k. omega (arith, c.type_inv.contents k)) needed
     ∙ ap shortest_octets (sym p)
 
 pub returns-else-second-lt128 : goal.returns-else-second-lt128
@@ -24,5 +24,5 @@ returns-else-second-lt128 c said n p =
     let contents = c.args.contents.now in
     let needed : 0 + 1 < length contents →
     get_or contents 0 0 ≢ sign_before (get_or contents (0 + 1) 0) = λ more e. grind (arith, nat_tests, e, said) in
-    shortest_from contents 0 (omega arith) (λ k. omega (arith, c.type_inv.contents k)) needed
+    IsShortestSigned-drop contents 0 (omega arith) (λ k. omega (arith, c.type_inv.contents k)) needed
     ∙ ap shortest_octets (sym p)
