@@ -81,9 +81,11 @@ LeafContents (generalized_time m) contents = GeneralizedTimeContents m contents
 pub data LeafFault (tag : ℕ) (contents : List ℕ) (fault : DecodeFault) : Type 0 where
   of_boolean : tag ≡ BOOLEAN → BooleanFault contents fault → LeafFault tag contents fault
   of_bit_string : tag ≡ BIT_STRING → BitStringFault contents fault → LeafFault tag contents fault
-  of_object_identifier : tag ≡ OBJECT_IDENTIFIER → ObjectIdentifierFault contents fault → LeafFault tag contents fault
+  of_object_identifier : tag ≡ OBJECT_IDENTIFIER → ObjectIdentifierFault contents fault
+      → LeafFault tag contents fault
   of_utc_time : tag ≡ UTC_TIME → UtcTimeFault contents fault → LeafFault tag contents fault
-  of_generalized_time : tag ≡ GENERALIZED_TIME → GeneralizedTimeFault contents fault → LeafFault tag contents fault
+  of_generalized_time : tag ≡ GENERALIZED_TIME → GeneralizedTimeFault contents fault
+      → LeafFault tag contents fault
   of_text : (kind : StringKind) → tag ≡ string_tag kind → TextFault (text_form kind) contents fault
       → LeafFault tag contents fault
 

@@ -27,7 +27,8 @@ mutual
   -- the octets are blocks one after another, also none
   pub data AreBlocks : List ℕ → Type 0 where
     no_blocks : AreBlocks []
-    more_blocks : {octets x rest : List ℕ} → octets ≡ x ++ rest → IsBlock x → AreBlocks rest → AreBlocks octets
+    more_blocks : {octets x rest : List ℕ} → octets ≡ x ++ rest → IsBlock x → AreBlocks rest
+        → AreBlocks octets
 
 -- contents octets with these fields are not read as more: their tag has no rule, or they are of another class and are
 -- not one block in a constructed encoding
@@ -36,7 +37,8 @@ StaysAsItCame class constructed tag contents = ((class ≡ Universal) × IsUnkno
     ⊎ ((class ≢ Universal) × ((constructed ≡ true) × IsBlock contents → ⊥))
 
 -- the octets are those of a first item, and then the rest, which begins after as many octets
-pub record EncodedFirst (octets : List ℕ) (First : List ℕ → Type 0) (Rest : ℕ → List ℕ → Type 0) : Type 0 where
+pub record EncodedFirst (octets : List ℕ) (First : List ℕ → Type 0)
+    (Rest : ℕ → List ℕ → Type 0) : Type 0 where
   pub first : List ℕ
   pub rest : List ℕ
   pub whole : octets ≡ first ++ rest
@@ -74,7 +76,8 @@ pub record IsDocument (octets : List ℕ) (bs : Trees ℕ) : Type 0 where
 -- fault inside another class is none
 pub data BlocksFaultAt : List ℕ → DecodeFault → ℕ → Type 0 where
   in_header : {octets : List ℕ} {e : DecodeFault} (front rest : List ℕ) → octets ≡ front ++ rest
-      → AreBlocks front → 0 < length rest → HeaderFault (length front) rest e → BlocksFaultAt octets e (length front)
+      → AreBlocks front → 0 < length rest → HeaderFault (length front) rest e
+      → BlocksFaultAt octets e (length front)
   in_contents : {octets contents : List ℕ} {constructed : Bool} {tag header : ℕ} {e : DecodeFault}
       (front x rest : List ℕ) → octets ≡ front ++ (x ++ rest) → AreBlocks front
       → Encoding x Universal constructed tag contents header → LeafFault tag contents e
@@ -86,7 +89,8 @@ pub data BlocksFaultAt : List ℕ → DecodeFault → ℕ → Type 0 where
 
 -- the first fault of octets that are no document, and its offset; 0 for no octets
 abbrev pub FirstFaultAt : List ℕ → DecodeFault → ℕ → Type 0
-FirstFaultAt octets e offset = ((octets ≡ []) × (e ≡ empty_buffer) × (offset ≡ 0)) ⊎ BlocksFaultAt octets e offset
+FirstFaultAt octets e offset =
+    ((octets ≡ []) × (e ≡ empty_buffer) × (offset ≡ 0)) ⊎ BlocksFaultAt octets e offset
 
 -- the first fault of octets that are no document, at whatever offset
 abbrev pub FirstFault : List ℕ → DecodeFault → Type 0

@@ -150,8 +150,8 @@ pub data HeaderFaultBehind : ℕ → ℕ → List ℕ → ℕ → DecodeFault �
       → HeaderFaultBehind (unended_behind unended n.constructed n.encoding.len) (offset + length first) rest place
       fault → HeaderFaultBehind unended offset octets place fault
   behind_end_of_contents : {unended fewer offset place : ℕ} {octets rest : List ℕ} {fault : DecodeFault}
-      → unended ≡ fewer + 1 → octets ≡ 0 ∷ 0 ∷ rest → HeaderFaultBehind fewer (offset + 2) rest place fault
-      → HeaderFaultBehind unended offset octets place fault
+      → unended ≡ fewer + 1 → octets ≡ 0 ∷ 0 ∷ rest
+      → HeaderFaultBehind fewer (offset + 2) rest place fault → HeaderFaultBehind unended offset octets place fault
 
 -- why octets are no encodings one after another, and at which offset: there are none, or the first of their headers
 -- that is at fault. Headers inside definite encodings are not among these

@@ -75,9 +75,9 @@ identifier_rule tag = if nat_lt tag 31 then LongIdentifier else PaddedTag
 -- the types of which BER has constructed encodings too, which DER has not (10.2)
 abbrev pub is_string : ℕ → Bool
 is_string tag = list_any (λ t. tag == t)
-    (BIT_STRING ∷ OCTET_STRING ∷ OBJECT_DESCRIPTOR ∷ UTF8_STRING ∷ NUMERIC_STRING ∷ PRINTABLE_STRING ∷ TELETEX_STRING
-    ∷ VIDEOTEX_STRING ∷ IA5_STRING ∷ UTC_TIME ∷ GENERALIZED_TIME ∷ GRAPHIC_STRING ∷ VISIBLE_STRING ∷ GENERAL_STRING
-    ∷ UNIVERSAL_STRING ∷ BMP_STRING ∷ [])
+    (BIT_STRING ∷ OCTET_STRING ∷ OBJECT_DESCRIPTOR ∷ UTF8_STRING ∷ NUMERIC_STRING ∷ PRINTABLE_STRING
+    ∷ TELETEX_STRING ∷ VIDEOTEX_STRING ∷ IA5_STRING ∷ UTC_TIME ∷ GENERALIZED_TIME ∷ GRAPHIC_STRING
+    ∷ VISIBLE_STRING ∷ GENERAL_STRING ∷ UNIVERSAL_STRING ∷ BMP_STRING ∷ [])
 
 -- what an encoding of class Universal breaks already by being primitive or constructed with its tag
 abbrev pub form_rule : Bool → ℕ → Option Rule

@@ -51,7 +51,8 @@ is_decimal_exponent text = is_unpadded (behind_minus text)
 
 -- behind the digits stand a full stop and an E (11.3.2.5), and the exponent
 abbrev pub ends_in_exponent : List ℕ → Bool
-ends_in_exponent (point ∷ mark ∷ exponent) = (point == byte ".") && (mark == byte "E") && is_decimal_exponent exponent
+ends_in_exponent (point ∷ mark ∷ exponent) =
+    (point == byte ".") && (mark == byte "E") && is_decimal_exponent exponent
 ends_in_exponent text = false
 
 -- a mantissa neither whose first nor whose last digit is 0 (11.3.2.4)

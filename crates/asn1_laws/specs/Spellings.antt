@@ -33,4 +33,5 @@ is_written_otherwise tag contents =
 abbrev pub HasNoOtherSpelling : List ℕ → Trees ℕ → Type 0
 HasNoOtherSpelling document bs =
     (o : ℕ) (l : Leaf) (octets contents : List ℕ) (header : ℕ) → HasOctets document bs (leaf o l) octets
-    → Encoding octets Universal false (leaf_tag l) contents header → is_written_otherwise (leaf_tag l) contents ≡ false
+    → Encoding octets Universal false (leaf_tag l) contents header
+    → is_written_otherwise (leaf_tag l) contents ≡ false

@@ -40,4 +40,5 @@ StrictFault octets e =
 -- documents are the same octets
 abbrev pub EqualByOctets : List ℕ → Trees ℕ → Type 0
 EqualByOctets document bs =
-    (other : List ℕ) (cs : Trees ℕ) → CanonicalDocument other cs → (shapes bs ≡ shapes cs) ↔ (document ≡ other)
+    (other : List ℕ) (cs : Trees ℕ) → CanonicalDocument other cs
+    → (shapes bs ≡ shapes cs) ↔ (document ≡ other)

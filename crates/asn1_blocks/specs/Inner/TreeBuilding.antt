@@ -13,7 +13,8 @@ use Rattle.asn1_blocks.specs.Tree.{Tree}
 use Rattle.asn1_blocks.specs.View.{view}
 
 -- the frame has read these trees: its blocks, and those that its postponed blocks build, which are the last of these
-pub record Holds (octets : List ℕ) (es : List Postponed) (f : OpenFrame FrameBlocks) (ts : List (Tree ℕ)) : Type 0 where
+pub record Holds (octets : List ℕ) (es : List Postponed) (f : OpenFrame FrameBlocks)
+    (ts : List (Tree ℕ)) : Type 0 where
   pub before : f.items.postponed_before ≤ length es
   pub postponed : List (Tree ℕ)
   pub leads : Builds octets (drop f.items.postponed_before es) postponed
@@ -60,8 +61,8 @@ abbrev pub IsAdded : TreeBuilder → FrameBlocks → ASN1Block → TreeBuilder �
 IsAdded a i b r j = IsPushed a i b r j ⊎ IsPostponed a i (Ready b) r j
 
 -- an encoding that stays as it came was added, as a block or a postponed one
-abbrev pub IsAddedAsItCame : List ℕ → TreeBuilder → FrameBlocks → Attempt → ℕ → ℕ → TreeBuilder → FrameBlocks
-    → Type 0
+abbrev pub IsAddedAsItCame : List ℕ → TreeBuilder → FrameBlocks → Attempt → ℕ → ℕ → TreeBuilder
+    → FrameBlocks → Type 0
 IsAddedAsItCame octets a i k start end r j =
     ((b : ASN1Block) × (view b ≡ as_it_came octets k start end) × IsAdded a i b r j)
     ⊎ IsPostponed a i (AsItCame k start end) r j

@@ -23,14 +23,14 @@ pub record IsCanonicalEncoding (octets : List ℕ) (class : ASN1Class) (construc
 
 -- whatever encoding stands at the front of the octets is such a one
 abbrev pub BeginsCanonical : List ℕ → Type 0
-BeginsCanonical octets = (own rest : List ℕ) (class : ASN1Class) (constructed : Bool) (tag : ℕ) (contents : List ℕ)
-    (header : ℕ) → octets ≡ own ++ rest → Encoding own class constructed tag contents header →
+BeginsCanonical octets = (own rest : List ℕ) (class : ASN1Class) (constructed : Bool) (tag : ℕ)
+    (contents : List ℕ) (header : ℕ) → octets ≡ own ++ rest → Encoding own class constructed tag contents header →
     IsCanonicalEncoding own class constructed tag contents
 
 -- leading octets: of a SEQUENCE, a SET, an OCTET STRING, a UTF8String, a PrintableString, an IA5String and a UTCTime
 abbrev pub IsOfOneForm : ℕ → Type 0
-IsOfOneForm leading = (leading ≡ 48) ⊎ (leading ≡ 49) ⊎ (leading ≡ 4) ⊎ (leading ≡ 12) ⊎ (leading ≡ 19)
-    ⊎ (leading ≡ 22) ⊎ (leading ≡ 23)
+IsOfOneForm leading = (leading ≡ 48) ⊎ (leading ≡ 49) ⊎ (leading ≡ 4) ⊎ (leading ≡ 12)
+    ⊎ (leading ≡ 19) ⊎ (leading ≡ 22) ⊎ (leading ≡ 23)
 
 -- at the offset in the document stands such an encoding
 pub record HasCanonicalAt (document : List ℕ) (offset : ℕ) : Type 0 where
