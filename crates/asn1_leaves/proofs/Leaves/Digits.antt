@@ -1,5 +1,6 @@
 -- Two digits, fields of two digits, and the digits of a fraction.
 use Rattle.std.proofs.Common.{◌≡◌, ℕ, zero, suc, ◌+◌, ◌-◌, ◌*◌, ◌/◌, ◌%◌, ◌^◌, ◌<◌, ◌≤◌, ◌==◌, ◌++◌, true, inl, inr, List, [], ◌∷◌, length, refl, sym, ap, ◌∙◌, subst, arith, length-append}
+use Rattle.std.specs.Int.{IsInRange}
 use Rattle.std.specs.Prelude.{ℤ, pos, negsuc, ◌≤ℤ◌, unsigned_abs, slice_index, Option, Some, None, IfNone}
 use Rattle.std.specs.Char.{is_ascii_digit}
 use Rattle.std.specs.List.{list_all}
@@ -10,7 +11,8 @@ use Rattle.std.proofs.lemmas.Int.{ints}
 use Rattle.std.proofs.lemmas.List.{append_cancel_right}
 use Rattle.std.proofs.lemmas.Nat.{div-add-mod'}
 use Rattle.jiff_core.specs.Calendar.{days_in_month}
-use Rattle.asn1_leaves.specs.Inner.DigitFields.{FollowsPoint, IsPair}
+use Rattle.jiff_core.proofs.CalendarLemmas.{days_in_month_bounds}
+use Rattle.asn1_leaves.specs.Inner.DigitFields.{FollowsPoint, IsPair, IsSpelled, PairAt, pair_number}
 use Rattle.asn1_leaves.specs.Contents.Moment.{Moment, IsValid, moment_write_fault, year_write_fault}
 use Rattle.asn1_leaves.specs.Contents.GeneralizedTime.{IsEnd, fraction_number, fraction_digits}
 use Rattle.asn1_leaves.proofs.Leaves.Known.{Known, Known-within, Known-lt, Known-IsInRange}
@@ -23,9 +25,51 @@ IfNone-map (Some x) p f = p
 pub IsPair-two_digits : (n : ℕ) → n < 100 → IsPair (48 + n / 10) (48 + n % 10) n
 IsPair-two_digits n h = record { small = h; tens = refl; units = refl }
 
+-- two digits are those of their number
+pub IsPair-digits : (a b : ℕ) → 48 ≤ a → a < 58 → 48 ≤ b → b < 58 → IsPair a b (pair_number a b)
+IsPair-digits a b f g h i = record { small = omega arith; tens = omega arith; units = omega arith }
+
 -- a month has a number of days of two digits
 pub days_in_month-le : (y : ℤ) (m : ℕ) → days_in_month y m ≤ 31
 days_in_month-le y m = grind (arith, nat_tests)
+
+-- fields of two digits with a day that each month has are those of a moment of each year
+pub IsSpelled-day_of_each_month :
+    (year : ℕ) (octets : List ℕ) (month day hour minute second : ℕ) → year ≤ 9999 →
+    PairAt octets 0 month → PairAt octets 2 day → PairAt octets 4 hour → PairAt octets 6 minute →
+    PairAt octets 8 second →
+    IsInRange 1 12 month → IsInRange 1 28 day → hour < 24 → minute < 60 → second < 60 →
+    (m : Moment) × IsSpelled year octets 0 m
+IsSpelled-day_of_each_month year octets month day hour minute second digits a b c d e m n h i s = (
+  record {
+    year = pos year;
+    month = month;
+    day = day;
+    hour = hour;
+    minute = minute;
+    second = second;
+    nanosecond = 0;
+  },
+  record {
+    valid = record {
+      from_zero = omega (arith, ints);
+      four_digits = omega (arith, ints, digits);
+      month = m;
+      day = (n.0, omega (arith, n.1, days_in_month_bounds (pos year) month));
+      hour = h;
+      minute = i;
+      second = s;
+      nanosecond = omega arith;
+    };
+    year_is = refl;
+    month_at = a;
+    day_at = b;
+    hour_at = c;
+    minute_at = d;
+    second_at = e;
+    nanosecond_is = refl;
+  },
+)
 
 -- moments of the same fields are the same
 Moment-same_numbers :

@@ -1,5 +1,5 @@
 -- Contents octets of a UTCTime.
-use Rattle.std.proofs.Common.{◌≡◌, ℕ, ◌+◌, ◌-◌, ◌*◌, ◌/◌, ◌%◌, ◌≤◌, ◌⊎◌, inl, inr, List, [], ◌∷◌, None, length, refl, sym, ap, ◌∙◌, subst, arith}
+use Rattle.std.proofs.Common.{◌≡◌, ℕ, ◌+◌, ◌-◌, ◌*◌, ◌/◌, ◌%◌, ◌<◌, ◌≤◌, ◌⊎◌, inl, inr, List, [], ◌∷◌, None, length, refl, sym, ap, ◌∙◌, subst, arith}
 use Rattle.std.specs.Prelude.{if◌then◌else◌, nat_lt, pos, ◌≤ℤ◌, unsigned_abs, slice_index}
 use Rattle.std.specs.List.{slice_range}
 use Rattle.std.proofs.lemmas.Bool.Decides.{nat_tests}
@@ -47,9 +47,35 @@ full_year-ge : (n : ℕ) → 1950 ≤ full_year n
 unfolding full_year
 full_year-ge n = grind (arith, nat_tests)
 
+full_year-le : (n : ℕ) → n < 100 → full_year n ≤ 2049
+unfolding full_year
+full_year-le n h = grind (arith, nat_tests, h)
+
+full_year-ends : (n : ℕ) → n < 100 → full_year n % 100 ≡ n
+unfolding full_year
+full_year-ends n h = grind (arith, nat_tests, h)
+
 full_year-mod : (y n : ℕ) → 1950 ≤ y → y ≤ 2049 → n ≡ y % 100 → y ≡ full_year n
 unfolding full_year
 full_year-mod y n a b e = grind (arith, nat_tests, a, b, e)
+
+-- where ten octets spell fields of each year, a UTCTime with them means a moment
+pub UtcTimeContents-of_each_year :
+    (contents : List ℕ) (short : ℕ) → length contents ≡ 13 → slice_index contents 12 ≡ 90 → PairAt contents 0 short →
+    ((year : ℕ) → year ≤ 9999 → (m : Moment) × IsSpelled year (slice_range contents 2 12) 0 m) →
+    (m : Moment) × UtcTimeContents m contents
+UtcTimeContents-of_each_year contents short size ends pair fields =
+    let from : 1950 ≤ full_year short = full_year-ge short in
+    let to : full_year short ≤ 2049 = full_year-le short pair.small in
+    let (m, spelled) = fields (full_year short) (omega (arith, to)) in
+    let faithful : IsFaithfulUtcTime m = record {
+      valid = spelled.valid;
+      from_1950 = omega (arith, ints, spelled.year_is, from);
+      to_2049 = omega (arith, ints, spelled.year_is, to);
+      whole_second = spelled.nanosecond_is;
+    } in
+    let last = full_year-ends short pair.small in
+    (m, (faithful, utc_time_contents-spelled contents (full_year short) short m size ends pair last spelled))
 
 -- a faithful moment is that of the octets that are written of it
 utc_moment-utc_time_contents : (m : Moment) → IsFaithfulUtcTime m → m ≡ utc_moment (utc_time_contents m)

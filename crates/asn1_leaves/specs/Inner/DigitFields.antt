@@ -1,5 +1,5 @@
 -- The fields of a moment by the places of their digits. Private contracts of `contents` alone name these.
-use Rattle.std.specs.Prelude.{◌≡◌, ◌⊎◌, ℕ, ◌+◌, ◌/◌, ◌%◌, ◌<◌, pos, List, slice_index, codes, ◌++◌}
+use Rattle.std.specs.Prelude.{◌≡◌, ◌⊎◌, ℕ, ◌+◌, ◌-◌, ◌*◌, ◌/◌, ◌%◌, ◌<◌, pos, List, slice_index, codes, ◌++◌}
 use Rattle.asn1_numbers.specs.Octets.{digit}
 use Rattle.asn1_leaves.specs.Contents.GeneralizedTime.{IsEnd, fraction_number, tenth}
 use Rattle.asn1_leaves.specs.Contents.Moment.{Moment, IsValid}
@@ -9,6 +9,10 @@ pub record IsPair (a b n : ℕ) : Type 0 where
   pub small : n < 100
   pub tens : a ≡ digit (n / 10)
   pub units : b ≡ digit (n % 10)
+
+-- the number of two digits
+abbrev pub pair_number : ℕ → ℕ → ℕ
+pair_number a b = (a - 48) * 10 + (b - 48)
 
 -- the octets at the place and after it are the two digits of the number
 abbrev pub PairAt : List ℕ → ℕ → ℕ → Type 0

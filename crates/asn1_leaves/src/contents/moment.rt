@@ -1,6 +1,7 @@
 // What the two kinds of times share: digits, the fields from the month on, and texts of faults.
-ghost use Rattle.std.specs.Prelude.{◌≡◌, ℕ, ◌≤◌, ◌<◌, length, IfErr, IfSome, IfNone, OnOk, None, Some};
-ghost use Rattle.asn1_leaves.specs.Inner.DigitFields.{HasFields, IsPair, IsSpelled};
+ghost use Rattle.std.specs.Prelude.{◌≡◌, ℕ, ◌≤◌, ◌<◌, length, IfErr, IfSome, IfNone, IsTrue, OnOk, None, Some};
+ghost use Rattle.std.specs.Int.{IsInRange};
+ghost use Rattle.asn1_leaves.specs.Inner.DigitFields.{HasFields, IsPair, IsSpelled, pair_number};
 ghost use Rattle.asn1_leaves.specs.Contents.Moment.{IsValid, Moment, moment_of, moment_write_fault};
 
 use asn1_headers::error::ASN1EncodeErr;
@@ -65,6 +66,71 @@ pub fn moment_from(year: u16, octets: &[u8], nanosecond: u32) -> Option<DateTime
     let minute = pair(octets[6], octets[7])?;
     let second = pair(octets[8], octets[9])?;
     valid_moment(year, month, day, hour, minute, second, nanosecond)
+}
+
+// Whether two octets are the digits of a month.
+#[inline(always)]
+fn are_month(a: u8, b: u8) -> bool
+    ensures { IsTrue result → IsPair a b (pair_number a b) × IsInRange 1 12 (pair_number a b) }
+{
+    if a == b'0' {
+        return b'1' <= b && b <= b'9';
+    }
+    a == b'1' && b'0' <= b && b <= b'2'
+}
+
+// Whether two octets are the digits of a day that each month has.
+#[inline(always)]
+fn are_day_of_each_month(a: u8, b: u8) -> bool
+    ensures { IsTrue result → IsPair a b (pair_number a b) × IsInRange 1 28 (pair_number a b) }
+{
+    if a == b'2' {
+        return b'0' <= b && b <= b'8';
+    }
+    if a == b'0' {
+        return b'1' <= b && b <= b'9';
+    }
+    a == b'1' && b.is_ascii_digit()
+}
+
+// Whether two octets are the digits of an hour.
+#[inline(always)]
+fn are_hour(a: u8, b: u8) -> bool
+    ensures { IsTrue result → IsPair a b (pair_number a b) × (pair_number a b < 24) }
+{
+    if a == b'2' {
+        return b'0' <= b && b <= b'3';
+    }
+    b'0' <= a && a <= b'1' && b.is_ascii_digit()
+}
+
+// Whether two octets are the digits of a minute or a second.
+#[inline(always)]
+fn are_below_sixty(a: u8, b: u8) -> bool
+    ensures { IsTrue result → IsPair a b (pair_number a b) × (pair_number a b < 60) }
+{
+    b'0' <= a && a <= b'5' && b.is_ascii_digit()
+}
+
+// Whether ten octets spell fields that each year has, MMDDhhmmss. No number is made for this.
+#[inline(always)]
+pub fn are_fields_of_each_year(octets: &[u8]) -> bool
+    requires { length octets.now ≡ 10 }
+    ensures { IsTrue result → (year : ℕ) → year ≤ 9999 → (m : Moment) × IsSpelled year octets.now 0 m }
+{
+    if !are_month(octets[0], octets[1]) {
+        return false;
+    }
+    if !are_day_of_each_month(octets[2], octets[3]) {
+        return false;
+    }
+    if !are_hour(octets[4], octets[5]) {
+        return false;
+    }
+    if !are_below_sixty(octets[6], octets[7]) {
+        return false;
+    }
+    are_below_sixty(octets[8], octets[9])
 }
 
 // Whether a moment can be written.

@@ -4,7 +4,7 @@ ghost use Rattle.asn1_leaves.specs.Contents.Moment.{Moment, moment_of, moment_wr
 ghost use Rattle.asn1_leaves.specs.Contents.UtcTime.{IsFaithfulUtcTime, UtcTimeContents, UtcTimeFault, century_shown, utc_time_contents, utc_time_fault};
 ghost use Rattle.asn1_headers.specs.Fault.{OutOfMemoryOr, fault_of};
 
-use crate::contents::moment::{check_year, moment_from, nanosecond, pair};
+use crate::contents::moment::{are_fields_of_each_year, check_year, moment_from, nanosecond, pair};
 use asn1_headers::error::{ASN1DecodeErr, ASN1EncodeErr};
 use asn1_numbers::sink::Sink;
 use jiff::civil::DateTime;
@@ -22,14 +22,29 @@ pub fn read(alloc: Global, contents: &[u8]) -> Result<DateTime, ASN1DecodeErr>
     }
 }
 
-// Whether the contents octets mean a moment.
-#[inline(always)]
+// Whether the contents octets mean a moment. A day that each month has is seen by its digits.
+#[inline(never)]
 pub fn are_meant(contents: &[u8]) -> bool
     ensures { IsTrue result → (m : Moment) × UtcTimeContents m contents.now }
 {
-    moment(contents).is_some()
+    are_common(contents) || moment(contents).is_some()
 }
 
+// Whether the contents octets mean a moment of a day that each month has.
+#[inline(always)]
+fn are_common(contents: &[u8]) -> bool
+    ensures { IsTrue result → (m : Moment) × UtcTimeContents m contents.now }
+{
+    if contents.len() != 13 || contents[12] != b'Z' {
+        return false;
+    }
+    if !contents[0].is_ascii_digit() || !contents[1].is_ascii_digit() {
+        return false;
+    }
+    are_fields_of_each_year(&contents[2..12])
+}
+
+// The moment that the contents octets mean, if they mean one.
 #[inline(never)]
 pub fn moment(contents: &[u8]) -> Option<DateTime>
     ensures found { IfSome result (λ d. UtcTimeContents (moment_of d) contents.now) }
