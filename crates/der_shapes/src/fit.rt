@@ -2,7 +2,7 @@
 use crate::shapes::{Shapes, Tag};
 use crate::tables::LABELS;
 use crate::walk::FieldWalk;
-use asn1_headers::header::length_at;
+use asn1_headers::header::{identifier_at, length_at};
 use std::alloc::{AllocError, Global};
 
 impl Shapes {
@@ -51,16 +51,16 @@ impl FieldWalk<'_> {
     ) -> Result<bool, AllocError> {
         let mut left = octets;
         for _ in 0..octets.len() {
-            let Some(whole) = whole_in(left) else {
+            let Some((leading, contents, behind)) = first_element(left) else {
                 return Ok(left.is_empty());
             };
-            if self.next(depth, Some(whole.tag))?.is_none() {
+            if self.next(depth, Some(Tag::of(leading)))?.is_none() {
                 return Ok(false);
             }
-            self.see(whole.contents);
+            self.see(contents);
             if depth < levels {
-                let is_open = whole.is_constructed;
-                if is_open && !self.goes_over(depth + 1, levels, whole.contents, count)? {
+                let is_open = is_constructed(leading);
+                if is_open && !self.goes_over(depth + 1, levels, contents, count)? {
                     return Ok(false);
                 }
                 self.leave(depth + 1);
@@ -69,7 +69,7 @@ impl FieldWalk<'_> {
                 }
             }
             *count = count.saturating_add(1);
-            left = left.get(whole.size..).unwrap_or(&[]);
+            left = behind;
         }
         Ok(true)
     }
@@ -79,46 +79,28 @@ impl FieldWalk<'_> {
 // of a constructed encoding of class Application or context-specific.
 fn message_in(octets: &[u8]) -> Option<&[u8]> {
     match octets {
-        [0x30 | 0x60..=0x7F | 0xA0..=0xBF, ..] => octets.get(..whole_in(octets)?.size),
+        [0x30 | 0x60..=0x7F | 0xA0..=0xBF, ..] => {
+            let (_, _, behind) = first_element(octets)?;
+            octets.get(..octets.len().checked_sub(behind.len())?)
+        }
         _ => None,
     }
 }
 
-// A whole encoding: how many octets it has, its tag, and its contents octets.
-#[derive(Clone, Copy)]
-struct WholeElement<'a> {
-    size: usize,
-    tag: Tag,
-    is_constructed: bool,
-    contents: &'a [u8],
-}
-
-// The encoding of definite form that begins octets, if one does and is whole.
-fn whole_in<'a>(octets: &'a [u8]) -> Option<WholeElement<'a>> {
+// The encoding of definite form that begins octets, if one does and is whole: its leading octet, its contents octets,
+// and the octets behind it.
+fn first_element(octets: &[u8]) -> Option<(u8, &[u8], &[u8])> {
     let leading = *octets.first()?;
-    let is_constructed = leading % 64 >= 32;
-    let identifier = identifier_size(octets)?;
-    let behind = octets.get(identifier..)?;
-    if is_constructed && behind.first() == Some(&0x80) {
+    let length = octets.get(identifier_at(octets)?..)?;
+    if is_constructed(leading) && length.first() == Some(&0x80) {
         return None;
     }
-    let (announced, length) = length_at(behind).ok()?;
-    let start = identifier.checked_add(length)?;
-    let size = start.checked_add(announced)?;
-    Some(WholeElement {
-        size,
-        tag: Tag::of(leading),
-        is_constructed,
-        contents: octets.get(start..size)?,
-    })
+    let (announced, size) = length_at(length).ok()?;
+    let (contents, behind) = length.get(size..)?.split_at_checked(announced)?;
+    Some((leading, contents, behind))
 }
 
-// How many identifier octets begin octets (X.690 8.1.2).
-fn identifier_size(octets: &[u8]) -> Option<usize> {
-    let (leading, behind) = octets.split_first()?;
-    if leading % 32 < 31 {
-        return Some(1);
-    }
-    let last = behind.iter().position(|octet| *octet < 128)?;
-    last.checked_add(2)
+// Whether the encoding with this leading octet is constructed (X.690 8.1.2.5).
+fn is_constructed(leading: u8) -> bool {
+    leading % 64 >= 32
 }

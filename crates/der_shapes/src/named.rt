@@ -33,10 +33,8 @@ impl Shapes {
     fn field_name(&self, spot: Spot) -> Option<&'static str>
         ensures { IfSome result (λ name. IsNameOf self.now spot name.now) }
     {
-        match self.name_at(spot.field) {
-            Some(name) => Some(name),
-            None => self.name_at(spot.of.alternative),
-        }
+        self.name_at(spot.field)
+            .or(self.name_at(spot.of.alternative))
     }
 
     // The name of a field that has one.

@@ -11,14 +11,8 @@ use std::collections::HashMap;
 pub enum ShapesFault {
     /// Memory ran out.
     Memory,
-    /// This line has another form, or names a shape that is not there.
+    /// This line has another form, or no shape has this name.
     Line(&'static str),
-}
-
-impl From<AllocError> for ShapesFault {
-    fn from(_e: AllocError) -> ShapesFault {
-        ShapesFault::Memory
-    }
 }
 
 impl<T: Drop> From<AllocFailed<T>> for ShapesFault {
@@ -56,7 +50,7 @@ impl Shapes {
     /// elements.
     ///
     /// # Errors
-    /// `Line` for the first line of another form, or else for the first that names a shape which is not there, and
+    /// `Line` for the first line of another form, or else for the first name of a shape that is not there, and
     /// `Memory`.
     pub fn read(
         alloc: Global,
@@ -66,18 +60,18 @@ impl Shapes {
         let mut reader = Reader {
             shapes: Shapes::none(alloc),
             places: HashMap::new(alloc),
-            last: 0,
+            last: None,
             line: "",
         };
         for text in texts {
-            reader.read_text(text)?;
+            for line in text.lines() {
+                reader.read_line(line)?;
+            }
         }
         let mut shapes = reader.finished()?;
         for line in fits.lines() {
-            match shapes.candidate(line) {
-                Some(candidate) => shapes.candidates.push(candidate)?,
-                None => return Err(ShapesFault::Line(line)),
-            }
+            let candidate = shapes.candidate(line).ok_or(ShapesFault::Line(line))?;
+            shapes.candidates.push(candidate)?;
         }
         Ok(shapes)
     }
@@ -100,7 +94,7 @@ struct Reader {
     // the places of shapes by their names
     places: HashMap<&'static str, u16>,
     // the place of the shape whose parts are read
-    last: u16,
+    last: Option<u16>,
     line: &'static str,
 }
 
@@ -109,33 +103,10 @@ impl Reader {
     fn finished(self) -> Result<Shapes, ShapesFault> {
         let Reader { mut shapes, .. } = self;
         if let Some(shape) = shapes.shapes.iter().find(|shape| shape.is_missing()) {
-            return Err(ShapesFault::Line(shape.name));
+            return Err(ShapesFault::Line(shape.full_name));
         }
-        shapes.identifiers.sort()?;
+        shapes.identifiers.sort_unstable();
         Ok(shapes)
-    }
-
-    // A place behind so many others.
-    fn index(&self, count: usize) -> Result<u16, ShapesFault> {
-        u16::try_from(count).ok().ok_or(self.fault())
-    }
-
-    // The fault of the line.
-    fn fault(&self) -> ShapesFault {
-        ShapesFault::Line(self.line)
-    }
-
-    // Reads a text, line by line.
-    fn read_text(&mut self, text: &'static str) -> Result<(), ShapesFault> {
-        let mut left = text;
-        for _ in 0..text.len() {
-            let Some((line, behind)) = first_line(left) else {
-                break;
-            };
-            self.read_line(line)?;
-            left = behind;
-        }
-        self.read_line(left)
     }
 
     // Reads a line.
@@ -144,31 +115,20 @@ impl Reader {
         if line.is_empty() || line.starts_with("--") {
             return Ok(());
         }
-        let Some(text) = line.strip_prefix("  ") else {
-            return self.begin(line);
-        };
-        let (first, words) = text.split_once(' ').ok_or(self.fault())?;
-        let part = if !first.starts_with(|c: char| c.is_ascii_digit()) {
-            self.field(first, words)?
-        } else if first.contains('.') {
-            self.row(first, words)?
-        } else {
-            let number = first.parse::<u64>().ok().ok_or(self.fault())?;
-            Part::named(words, number as u128)
-        };
-        self.push(part)
+        match line.strip_prefix("  ") {
+            Some(words) => self.part(words),
+            None => self.begin(line),
+        }
     }
 
-    // Takes one more part into the last shape.
-    fn push(&mut self, part: Part) -> Result<(), ShapesFault> {
-        let fault = self.fault();
-        let shape = self.shapes.shapes.get_mut(self.last as usize).ok_or(fault)?;
-        if shape.is_missing() {
-            return Err(fault);
-        }
-        shape.end = shape.end.checked_add(1).ok_or(fault)?;
-        self.shapes.parts.push(part)?;
-        Ok(())
+    // The fault of the line.
+    fn fault(&self) -> ShapesFault {
+        ShapesFault::Line(self.line)
+    }
+
+    // The place behind so many others.
+    fn index(&self, count: usize) -> Result<u16, ShapesFault> {
+        u16::try_from(count).ok().ok_or(self.fault())
     }
 
     // The place of the shape with this name.
@@ -178,111 +138,119 @@ impl Reader {
         }
         let place = self.index(self.shapes.shapes.len())?;
         self.places.insert(name, place)?;
-        self.shapes.shapes.push(Shape::missing(name, self.line))?;
+        self.shapes.shapes.push(Shape::missing(name))?;
         Ok(place)
     }
 
-    // Begins a shape, whose name no other has.
+    // Begins a shape, whose name no other has. A list has one part, which is its item.
     fn begin(&mut self, line: &'static str) -> Result<(), ShapesFault> {
         let (name, words) = line.split_once(" ::= ").unwrap_or((line, line));
-        let (form, item) = self.form_of(words).ok_or(self.fault())?;
+        let list = words
+            .split_once(" OF ")
+            .or(words.split_once(" CONTAINING "));
+        let form = match list {
+            Some((outer, _)) => Form::Items(self.tag_of(outer)?),
+            None => self.form_of(words)?,
+        };
         let first = self.index(self.shapes.parts.len())?;
-        self.last = self.place(name)?;
+        let place = self.place(name)?;
         let fault = self.fault();
-        let shape = self.shapes.shapes.get_mut(self.last as usize).ok_or(fault)?;
-        if !shape.is_missing() {
-            return Err(fault);
+        match self.shapes.shapes.get_mut(place as usize) {
+            Some(shape) if shape.is_missing() => shape.begin(form, first),
+            _ => return Err(fault),
         }
-        *shape = Shape {
-            full_name: name,
-            name: shown_name(name),
-            form,
-            first,
-            end: first,
-        };
-        let Some(item) = item else {
-            return Ok(());
-        };
-        let part = self.field("", item)?;
-        self.push(part)
+        self.last = Some(place);
+        match list {
+            Some((_, item)) => self.field("", item),
+            None => Ok(()),
+        }
     }
 
-    // What elements of a shape are by words, and the words for the item of a list.
-    fn form_of(&self, words: &'static str) -> Option<(Form, Option<&'static str>)> {
-        if let Some((outer, item)) = list_words(words) {
-            return Some((Form::Items(self.leaf_tag(outer)?), Some(item)));
-        }
-        let form = match words {
+    // What elements of a shape are by words, unless it is a list.
+    fn form_of(&self, words: &'static str) -> Result<Form, ShapesFault> {
+        Ok(match words {
             "CHOICE" => Form::Choice,
             "OPEN" => Form::Open,
             "KNOWN" => Form::Known,
-            "SEQUENCE" | "SET" => Form::Record(self.leaf_tag(words)?),
+            "SEQUENCE" | "SET" => Form::Record(self.tag_of(words)?),
             _ => match words.parse::<u8>() {
                 Ok(tag) => Form::Leaf(tag),
-                Err(_) => Form::Leaf(self.leaf_tag(words)?),
+                Err(_) => Form::Leaf(self.tag_of(words)?),
             },
-        };
-        Some((form, None))
+        })
     }
 
     // The tag of a leaf with this name, which was read before.
-    fn leaf_tag(&self, name: &'static str) -> Option<u8> {
-        match self.shapes.shape(*self.places.get(&name)?)?.form {
-            Form::Leaf(tag) => Some(tag),
-            _ => None,
+    fn tag_of(&self, name: &'static str) -> Result<u8, ShapesFault> {
+        let place = *self.places.get(&name).ok_or(self.fault())?;
+        match self.shapes.shape(place) {
+            Some(
+                Shape {
+                    form: Form::Leaf(tag),
+                    ..
+                },
+            ) => Ok(tag),
+            _ => Err(self.fault()),
         }
     }
 
-    // A field by its name and the words that say what it is: its tag, its shape, and whether it is optional.
-    fn field(&mut self, name: &'static str, words: &'static str) -> Result<Part, ShapesFault> {
-        let (words, is_optional) = match words.strip_suffix(" OPTIONAL") {
-            Some(words) => (words, true),
-            None => (words, false),
-        };
-        let (tag, words) = tag_before(words).ok_or(self.fault())?;
-        let (words, is_explicit) = match words.strip_prefix("EXPLICIT ") {
-            Some(words) => (words, true),
-            None => (words, false),
-        };
-        Ok(Part {
-            shape: self.place(words)?,
-            tag,
-            is_explicit,
-            is_optional,
-            ..Part::named(name, 0)
-        })
-    }
-
-    // What an object identifier says.
-    fn row(&mut self, identifier: &str, shape: &'static str) -> Result<Part, ShapesFault> {
-        let number = written_number(identifier).ok_or(self.fault())?;
+    // Reads a part of the last shape: a field; a number and its name; or an object identifier and what it says.
+    fn part(&mut self, line: &'static str) -> Result<(), ShapesFault> {
+        let (first, words) = line.split_once(' ').ok_or(self.fault())?;
+        if !first.starts_with(|c: char| c.is_ascii_digit()) {
+            return self.field(first, words);
+        }
+        if let Ok(number) = first.parse::<u64>() {
+            return self.push(Part {
+                name: words,
+                number: number as u128,
+                ..Part::default()
+            });
+        }
+        let number = written_number(first).ok_or(self.fault())?;
         self.shapes.identifiers.push(number)?;
-        Ok(Part {
-            shape: self.place(shape)?,
-            ..Part::named("", number)
+        let shape = self.place(words)?;
+        self.push(Part {
+            number,
+            shape,
+            ..Part::default()
         })
     }
-}
 
-impl Part {
-    fn named(name: &'static str, number: u128) -> Part {
-        Part {
+    // Reads a field by its name and the words that say what it is: its tag, its shape, and whether it is optional.
+    fn field(&mut self, name: &'static str, words: &'static str) -> Result<(), ShapesFault> {
+        let optional = words.strip_suffix(" OPTIONAL");
+        let (tag, words) = tag_before(optional.unwrap_or(words)).ok_or(self.fault())?;
+        let explicit = words.strip_prefix("EXPLICIT ");
+        let shape = self.place(explicit.unwrap_or(words))?;
+        self.push(Part {
             name,
-            number,
-            shape: 0,
-            tag: None,
-            is_explicit: false,
-            is_optional: false,
-        }
+            shape,
+            tag,
+            is_explicit: explicit.is_some(),
+            is_optional: optional.is_some(),
+            ..Part::default()
+        })
+    }
+
+    // Takes one more part into the last shape.
+    fn push(&mut self, part: Part) -> Result<(), ShapesFault> {
+        let fault = self.fault();
+        let place = self.last.ok_or(fault)?;
+        let shape = self.shapes.shapes.get_mut(place as usize).ok_or(fault)?;
+        shape.end = shape.end.checked_add(1).ok_or(fault)?;
+        self.shapes.parts.push(part)?;
+        Ok(())
     }
 }
 
 impl Shape {
-    // A shape that this line names, and that was not read yet: it ends before it begins.
-    fn missing(full_name: &'static str, line: &'static str) -> Shape {
+    // A shape that was not read yet: it ends before it begins. What stands in its name before a point is not shown, by
+    // which types of one name differ.
+    fn missing(full_name: &'static str) -> Shape {
         Shape {
             full_name,
-            name: line,
+            name: full_name.split_once('.').unwrap_or(("", full_name)).1,
             form: Form::Known,
             first: 1,
             end: 0,
@@ -292,19 +260,12 @@ impl Shape {
     fn is_missing(&self) -> bool {
         self.end < self.first
     }
-}
 
-// The first line of a text, and the text behind it, where a line ends.
-fn first_line(text: &'static str) -> Option<(&'static str, &'static str)> {
-    let end = text.as_bytes().iter().position(|octet| *octet == b'\n')?;
-    Some((text.get(..end)?, text.get(end.checked_add(1)?..)?))
-}
-
-// The words on both sides of the word that makes a list, or that says what a string holds.
-fn list_words(words: &'static str) -> Option<(&'static str, &'static str)> {
-    match words.split_once(" OF ") {
-        Some(found) => Some(found),
-        None => words.split_once(" CONTAINING "),
+    // Begins a shape, whose first part is this.
+    fn begin(&mut self, form: Form, first: u16) {
+        self.form = form;
+        self.first = first;
+        self.end = first;
     }
 }
 
@@ -321,52 +282,4 @@ fn tag_before(words: &'static str) -> Option<(Option<Tag>, &'static str)> {
     };
     let number = digits.parse::<u8>().ok()?;
     Some((Some(Tag { class, number }), words))
-}
-
-// The name of a type as it is shown: without the point and what stands before it, by which types of one name differ.
-fn shown_name(name: &'static str) -> &'static str {
-    match name.split_once('.') {
-        Some((_, shown)) => shown,
-        None => name,
-    }
-}
-
-#[cfg(test)]
-mod tests {
-    use super::*;
-    use std::test::Fail;
-
-    #[test]
-    fn tables_have_the_right_form(rt: HostRuntime) -> Result<(), Fail> {
-        let shapes = Shapes::new(rt.alloc())?;
-        assert!(rt; shapes.named("TBSCertificate").is_some());
-        assert!(rt; shapes.named("TBS").is_none());
-        Ok(())
-    }
-
-    #[test]
-    fn candidates_are_shapes(rt: HostRuntime) -> Result<(), Fail> {
-        let table = "A ::= 2";
-        assert!(rt; Shapes::read(rt.alloc(), &[table], "A 1 2").is_ok());
-        assert!(rt; Shapes::read(rt.alloc(), &[table], "B 1 2").is_err());
-        assert!(rt; Shapes::read(rt.alloc(), &[table], "A 1").is_err());
-        Ok(())
-    }
-
-    #[test]
-    fn lines_of_other_forms_are_named(rt: HostRuntime) -> Result<(), Fail> {
-        for line in [
-            "A ::= SEQUENCE",
-            "A",
-            "  a A",
-            "A ::= 2\n  1.2.3 B",
-            "A ::= 2\n  1x a",
-            "A ::= 2\n  a [x] A",
-            "A ::= SET OF B",
-            "A ::= 2\nA ::= 2",
-        ] {
-            assert!(rt; Shapes::read(rt.alloc(), &[line], "").is_err(), "{line}");
-        }
-        Ok(())
-    }
 }

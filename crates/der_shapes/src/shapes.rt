@@ -80,7 +80,7 @@ pub(crate) enum Form {
 
 // A part of a shape: a field, whose name may be empty, with its shape and its tag, if it has one of its own; a number
 // and its name; or an object identifier as a number, and the shape that it says.
-#[derive(Clone, Copy, Drop)]
+#[derive(Clone, Copy, Default, Drop)]
 pub(crate) struct Part {
     pub name: &'static str,
     pub number: u128,
@@ -115,14 +115,10 @@ impl Shapes {
 
     // Where an object identifier stands among those that say shapes, by its contents octets; 65535 where it is none.
     pub(crate) fn identifier(&self, contents: &[u8]) -> u16 {
-        let Some(number) = number_of(contents) else {
-            return u16::MAX;
-        };
-        let place = self.identifiers.partition_point(|row| *row < number);
-        match self.identifiers.get(place) {
-            Some(found) if *found == number => u16::try_from(place).unwrap_or(u16::MAX),
-            _ => u16::MAX,
-        }
+        number_of(contents)
+            .and_then(|number| self.identifiers.binary_search(&number).ok())
+            .and_then(|place| u16::try_from(place).ok())
+            .unwrap_or(u16::MAX)
     }
 
     // The name of a number in a shape.

@@ -1,6 +1,6 @@
 // Which elements a field or a shape takes by their tags, and what stands inside them.
 ghost use Rattle.std.specs.Prelude.{◌≡◌, ◌↔◌, ℕ, ◌<◌, ◌≤◌, IfSome, IsTrue, slice_get};
-ghost use Rattle.der_shapes.specs.Spots.{HasTag, IsAlternative, IsAnything, IsByField, IsChosen, IsOfField, IsOfShape};
+ghost use Rattle.der_shapes.specs.Spots.{IsAlternative, IsAnything, IsByField, IsChosen, IsOfField, IsOfShape};
 ghost use Rattle.der_shapes.specs.Spots.{IsOfWhole};
 ghost use Rattle.der_shapes.specs.Spots.{IsOne, IsPlain, IsSaid, IsTagged, IsUniversal, inside_of as inside_is};
 
@@ -91,16 +91,9 @@ impl Shapes {
     fn of_shape(&self, shape: u16, tag: Tag, identifier: Option<u16>) -> Option<OfShape>
         ensures { IfSome result (IsOfShape self.now shape tag identifier) }
     {
-        match self.one_of(shape, tag) {
-            Some(of) => Some(of),
-            None => self.one_of_open(shape, tag, identifier),
+        if let Some(of) = self.one_of(shape, tag) {
+            return Some(of);
         }
-    }
-
-    // What an element is as one of an open shape: what the identifier says, or anything where it may be.
-    fn one_of_open(&self, shape: u16, tag: Tag, identifier: Option<u16>) -> Option<OfShape>
-        ensures { IfSome result (IsOfShape self.now shape tag identifier) }
-    {
         match self.one_said(shape, tag, identifier) {
             Some(of) => Some(of),
             None => self.anything(shape),
@@ -216,30 +209,17 @@ impl Shapes {
         ensures { IfSome result (IsPlain self.now shape tag) }
     {
         let found = self.shape(shape)?;
-        if has_tag(found.form, tag) {
-            Some(inside_of(found))
-        } else {
-            None
+        match found.form {
+            Form::Leaf(number) | Form::Record(number) | Form::Items(number)
+                if is_universal(number, tag) => { Some(inside_of(found)) }
+            _ => None,
         }
-    }
-}
-
-// Whether elements of the form have the tag.
-#[inline(always)]
-fn has_tag(form: Form, tag: Tag) -> bool
-    ensures { IsTrue result → HasTag form tag }
-{
-    match form {
-        Form::Leaf(number) | Form::Record(number) | Form::Items(number) => is_universal(
-            number, tag,
-        ),
-        Form::Choice | Form::Open | Form::Known => false,
     }
 }
 
 // Whether the tag is the one with this number of class Universal.
 #[inline(always)]
-fn is_universal(number: u8, tag: Tag) -> bool
+pub(crate) fn is_universal(number: u8, tag: Tag) -> bool
     ensures { IsTrue result ↔ IsUniversal number tag }
 {
     matches!(tag.class, ASN1Class::Universal) && tag.number == number

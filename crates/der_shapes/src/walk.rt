@@ -1,12 +1,11 @@
 // Going over the elements of a document, one behind another, with the fields that they are.
 ghost use Rattle.std.specs.Prelude.{◌≡◌, ◌≤◌, ◌∷◌, length, IfOk, IfSome, OnOk};
 ghost use Rattle.der_shapes.specs.Spots.{IsPath, StandsIn, document_of};
-ghost use Rattle.der_shapes.specs.Walks.{IsReached, path_of};
+ghost use Rattle.der_shapes.specs.Walks.{GoesOn, IsReached, path_of};
 ghost use Rattle.der_shapes.specs.declared.take.Inside.TheVariants.{Fields as FieldsOf};
 
 use crate::shapes::{Shapes, Tag};
-use crate::take::{Inside, Spot};
-use asn1_headers::header::ASN1Class;
+use crate::take::{Inside, Spot, is_universal};
 use std::alloc::{AllocError, Global};
 
 // How far what stands inside an element was gone over.
@@ -101,7 +100,7 @@ impl<'a> FieldWalk<'a> {
         if self.frames.len() != depth {
             return Ok(None);
         }
-        match self.taken(tag) {
+        match self.shapes.taken_in(self.innermost(), self.progress, tag) {
             Some(frame) => {
                 self.enter(frame)?;
                 Ok(Some(frame.spot))
@@ -119,11 +118,10 @@ impl<'a> FieldWalk<'a> {
         ensures shapes { self.new.shapes.now ≡ self.old.shapes.now }
         ensures all { self.new.all ≡ self.old.all }
     {
-        let is_identifier = match self.frames.last() {
-            Some(frame) => is_object_identifier(frame.spot.tag),
-            None => false,
-        };
-        if is_identifier {
+        // the tag of an OBJECT IDENTIFIER (X.690 8.19)
+        if let Some(frame) = self.frames.last()
+            && is_universal(6, frame.spot.tag)
+        {
             self.progress.identifier = Some(self.shapes.identifier(contents));
         }
     }
@@ -148,32 +146,20 @@ impl<'a> FieldWalk<'a> {
     }
 
     // What stands inside the innermost element that is open.
-    fn innermost(&self) -> Inside {
+    fn innermost(&self) -> Inside
+        ensures { (spot : Spot) → StandsIn self.now.shapes.now result spot
+            → GoesOn self.now.shapes.now self.now.all self.now.frames.items spot }
+    {
         match self.frames.last() {
             Some(frame) => frame.spot.of.inside,
             None => self.all,
         }
     }
 
-    // What the next element is in the innermost one that is open.
-    fn taken(&self, tag: Tag) -> Option<Frame>
-        ensures { IfSome result (λ frame. IsPath self.now.shapes.now self.now.all
-            (path_of self.now.frames.items) → IsPath self.now.shapes.now self.now.all
-            (frame.spot ∷ path_of self.now.frames.items)) }
-    {
-        match self.frames.last().copied() {
-            Some(around) => self
-                .shapes
-                .taken_in(around.spot.of.inside, self.progress, tag),
-            None => self.shapes.taken_in(self.all, self.progress, tag),
-        }
-    }
-
     // Goes into an element. In a record of fields no identifier was seen yet; in any other element that of the one
     // around it says what stands there.
     fn enter(&mut self, frame: Frame) -> Result<(), AllocError>
-        requires { IsPath self.old.shapes.now self.old.all (path_of self.old.frames.items)
-            → IsPath self.old.shapes.now self.old.all (frame.spot ∷ path_of self.old.frames.items) }
+        requires { GoesOn self.old.shapes.now self.old.all self.old.frames.items frame.spot }
         ensures shapes { self.new.shapes.now ≡ self.old.shapes.now }
         ensures all { self.new.all ≡ self.old.all }
         ensures path { OnOk result (path_of self.new.frames.items
@@ -247,14 +233,7 @@ impl Shapes {
 
     // Whether a field among these has to be there.
     fn has_more(&self, first: u16, end: u16) -> bool {
-        match self.parts.get(first as usize..end as usize) {
-            Some(fields) => fields.iter().any(|field| !field.is_optional),
-            None => false,
-        }
+        let fields = self.parts.get(first as usize..end as usize);
+        fields.is_some_and(|fields| fields.iter().any(|field| !field.is_optional))
     }
-}
-
-// Whether the tag is that of an OBJECT IDENTIFIER (X.690 8.19).
-fn is_object_identifier(tag: Tag) -> bool {
-    matches!(tag.class, ASN1Class::Universal) && tag.number == 6
 }

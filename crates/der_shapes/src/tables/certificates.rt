@@ -1,5 +1,5 @@
 // Certificates, revocation lists and certification requests.
-pub const CERTIFICATES: &str = "\
+pub const TABLE: &str = "\
 -- RFC 5280, 4.1
 Certificate ::= SEQUENCE
   tbsCertificate TBSCertificate

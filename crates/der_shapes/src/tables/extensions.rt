@@ -1,5 +1,5 @@
 // What stands in extensions.
-pub const EXTENSIONS: &str = "\
+pub const TABLE: &str = "\
 -- RFC 5280, 4.2 and 5.2; RFC 6962, 3.3; RFC 7633; RFC 3739; RFC 6960, 4.2.2.2.1; SET; Netscape; Microsoft; Entrust
 ExtensionValue ::= KNOWN
   2.5.29.9 SubjectDirectoryAttributes

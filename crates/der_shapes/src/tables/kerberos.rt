@@ -1,5 +1,5 @@
 // Tickets and messages of Kerberos, and the negotiation of SPNEGO.
-pub const KERBEROS: &str = "\
+pub const TABLE: &str = "\
 -- RFC 4120, 5.2
 Realm ::= GeneralString
 PrincipalName ::= SEQUENCE

@@ -1,5 +1,5 @@
 // Keys and the parameters of algorithms.
-pub const KEYS: &str = "\
+pub const TABLE: &str = "\
 -- RFC 8017, appendix A; RFC 3279, 2.3; RFC 5480, 2.1; RFC 8018, appendix A; RFC 7914, 7; RFC 5084, 3; RFC 3565, 4
 AlgorithmParameters ::= OPEN
   1.2.840.113549.1.1.7 RSAES-OAEP-params

@@ -1,5 +1,5 @@
 // Messages of LDAP and of SNMP.
-pub const MESSAGES: &str = "\
+pub const TABLE: &str = "\
 -- RFC 4511, 4.1.1
 LDAPMessage ::= SEQUENCE
   messageID MessageID

@@ -1,5 +1,5 @@
 // Files of keys and certificates.
-pub const PKCS12: &str = "\
+pub const TABLE: &str = "\
 -- RFC 7292, 4 and 4.1
 PFX ::= SEQUENCE
   version PFX.Version

@@ -1,5 +1,5 @@
 // Requests and responses: the status of certificates, and time stamps.
-pub const SERVICES: &str = "\
+pub const TABLE: &str = "\
 -- RFC 6960, 4.1.1
 OCSPRequest ::= SEQUENCE
   tbsRequest TBSRequest

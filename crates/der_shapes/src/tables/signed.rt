@@ -1,5 +1,5 @@
 // The Cryptographic Message Syntax.
-pub const SIGNED: &str = "\
+pub const TABLE: &str = "\
 -- RFC 5652, 3 and 4; RFC 5083, 2; RFC 3274, 1.1
 ContentInfo ::= SEQUENCE
   contentType ContentType

@@ -1,5 +1,5 @@
 // Types of class Universal (X.680 8.4, table 1), and those that are made of them alone.
-pub const UNIVERSAL: &str = "\
+pub const TABLE: &str = "\
 -- X.680 8.4, table 1
 BOOLEAN ::= 1
 INTEGER ::= 2
