@@ -2,6 +2,7 @@
 use Rattle.std.specs.Prelude.{◌==◌, ◌&&◌, ◌||◌, ℕ, Bool, true, false, List, [], ◌∷◌, if◌then◌else◌}
 use Rattle.asn1_headers.specs.declared.header.ASN1Class.{ASN1Class}
 use Rattle.asn1_headers.specs.declared.header.ASN1Class.TheVariants.{ContextSpecific, Universal}
+use Rattle.asn1_headers.specs.declared.tags.TheConstants.{INTEGER, BIT_STRING, OCTET_STRING, SEQUENCE, UTC_TIME, GENERALIZED_TIME}
 use Rattle.asn1_blocks.specs.declared.parsed.PlacedHeader.{PlacedHeader}
 use Rattle.asn1_outline.specs.Shapes.{Shapes, more_shapes, no_shapes}
 
@@ -42,7 +43,7 @@ abbrev mutual
   is_of (universal tag) header items = is_universal header.class && header.tag == tag
   is_of (context tag) header items = is_context header.class && header.tag == tag
   is_of (either a b) header items = is_of a header items || is_of b header items
-  is_of (sequence fields) header items = (is_universal header.class && header.tag == 16) && are_of fields items
+  is_of (sequence fields) header items = (is_universal header.class && header.tag == SEQUENCE) && are_of fields items
 
   -- the encodings side by side are these fields. Where the next one is of the form of an optional field, it is this
   -- field
@@ -62,23 +63,23 @@ abbrev pub each : List Form → Fields → Fields
 each [] fields = fields
 each (form ∷ forms) fields = one form (each forms fields)
 
--- types of which the tag alone is asked (X.680 8.4, table 1): INTEGER, BIT STRING, OCTET STRING, and a SEQUENCE, as
+-- types of which the tag alone is asked: INTEGER, BIT STRING, OCTET STRING, and a SEQUENCE, as
 -- AlgorithmIdentifier, Name and SubjectPublicKeyInfo are
 abbrev pub integer : Form
-integer = universal 2
+integer = universal INTEGER
 
 abbrev pub bit_string : Form
-bit_string = universal 3
+bit_string = universal BIT_STRING
 
 abbrev pub octet_string : Form
-octet_string = universal 4
+octet_string = universal OCTET_STRING
 
 abbrev pub some_sequence : Form
-some_sequence = universal 16
+some_sequence = universal SEQUENCE
 
 -- Time (RFC 5280, section 4.1): UTCTime or GeneralizedTime
 abbrev pub time : Form
-time = either (universal 23) (universal 24)
+time = either (universal UTC_TIME) (universal GENERALIZED_TIME)
 
 -- Validity (RFC 5280, section 4.1): notBefore and notAfter
 abbrev pub validity_fields : Fields
@@ -90,7 +91,8 @@ abbrev pub tbs_certificate : Fields
 tbs_certificate =
     optional (context 0)
     (each
-    (integer ∷ some_sequence ∷ some_sequence ∷ sequence validity_fields ∷ some_sequence ∷ some_sequence ∷ [])
+    (integer ∷ some_sequence ∷ some_sequence ∷ sequence validity_fields ∷ some_sequence
+    ∷ some_sequence ∷ [])
     and_more)
 
 -- TBSCertList (RFC 5280, section 5.1): version, signature, issuer and thisUpdate
@@ -119,7 +121,9 @@ private_key = each (integer ∷ some_sequence ∷ octet_string ∷ []) and_more
 -- exponent1, exponent2 and coefficient
 abbrev pub rsa_key : Fields
 rsa_key =
-    each (integer ∷ integer ∷ integer ∷ integer ∷ integer ∷ integer ∷ integer ∷ integer ∷ integer ∷ []) and_more
+    each
+    (integer ∷ integer ∷ integer ∷ integer ∷ integer ∷ integer ∷ integer ∷ integer ∷ integer ∷ [])
+    and_more
 
 -- ECPrivateKey (RFC 5915, section 3): version and privateKey
 abbrev pub ec_key : Fields

@@ -1,5 +1,8 @@
 // Distinguished names as RFC 4514 writes them.
 use crate::node::{IDENTIFIER, Node};
+use asn1_headers::tags::{
+    BMP_STRING, IA5_STRING, PRINTABLE_STRING, TELETEX_STRING, UNIVERSAL_STRING, UTF8_STRING,
+};
 use der_io::is_shown;
 use der_names::Names;
 use der_names::identifier::{identifier_of, number_of};
@@ -131,13 +134,13 @@ pub fn identifier_text(
 pub fn string_text(alloc: Global, value: &Node<'_, '_>) -> Result<Option<String>, AllocError> {
     let contents = value.contents();
     match value.universal_tag() {
-        Some(12 | 19 | 22) => utf8_text(alloc, contents),
-        Some(20) => match utf8_text(alloc, contents)? {
+        Some(UTF8_STRING | PRINTABLE_STRING | IA5_STRING) => utf8_text(alloc, contents),
+        Some(TELETEX_STRING) => match utf8_text(alloc, contents)? {
             Some(text) => Ok(Some(text)),
             None => text_in_form(alloc, Characters::Latin1, contents),
         },
-        Some(28) => text_in_form(alloc, Characters::Utf32, contents),
-        Some(30) => text_in_form(alloc, Characters::Utf16, contents),
+        Some(UNIVERSAL_STRING) => text_in_form(alloc, Characters::Utf32, contents),
+        Some(BMP_STRING) => text_in_form(alloc, Characters::Utf16, contents),
         Some(tag) => match string_of(tag, contents) {
             Some(text) => Ok(Some(String::from_str(alloc, text)?)),
             None => Ok(None),

@@ -7,6 +7,7 @@ ghost use Rattle.der_account.specs.Kinds.{are_of, is_context as is_context_class
 ghost use Rattle.der_account.specs.Places.{AreLeft, HasTaken, IsAt, entries_around, form_of};
 
 use asn1_headers::header::ASN1Class;
+use asn1_headers::tags;
 use asn1_outline::entry::Entry;
 use asn1_outline::headers::Headers;
 use std::alloc::{AllocError, Global};
@@ -15,29 +16,29 @@ use std::alloc::{AllocError, Global};
 #[derive(Clone, Copy)]
 pub enum Tag {
     // Of class Universal, with this number.
-    Universal(u8),
+    Universal(u64),
     // Of class context-specific, with this number.
-    Context(u8),
+    Context(u64),
     // That of a UTCTime or a GeneralizedTime.
     Time,
 }
 
-// Tags of class Universal (X.680 8.4, table 1).
-pub const BOOLEAN: Tag = Tag::Universal(1);
+// Tags of class Universal.
+pub const BOOLEAN: Tag = Tag::Universal(tags::BOOLEAN);
 
-pub const INTEGER: Tag = Tag::Universal(2);
+pub const INTEGER: Tag = Tag::Universal(tags::INTEGER);
 
-pub const BIT_STRING: Tag = Tag::Universal(3);
+pub const BIT_STRING: Tag = Tag::Universal(tags::BIT_STRING);
 
-pub const OCTET_STRING: Tag = Tag::Universal(4);
+pub const OCTET_STRING: Tag = Tag::Universal(tags::OCTET_STRING);
 
-pub const IDENTIFIER: Tag = Tag::Universal(6);
+pub const IDENTIFIER: Tag = Tag::Universal(tags::OBJECT_IDENTIFIER);
 
-pub const SEQUENCE: Tag = Tag::Universal(16);
+pub const SEQUENCE: Tag = Tag::Universal(tags::SEQUENCE);
 
-pub const UTC_TIME: Tag = Tag::Universal(23);
+pub const UTC_TIME: Tag = Tag::Universal(tags::UTC_TIME);
 
-pub const GENERALIZED_TIME: Tag = Tag::Universal(24);
+pub const GENERALIZED_TIME: Tag = Tag::Universal(tags::GENERALIZED_TIME);
 
 // An encoding among those that headers list, by its index.
 #[derive(Clone, Copy)]
@@ -60,21 +61,21 @@ const NO_ENTRY: Entry = Entry {
 };
 
 // Whether an entry is of class Universal with this tag number.
-fn is_universal(entry: &Entry, number: u8) -> bool
+fn is_universal(entry: &Entry, number: u64) -> bool
     ensures { result ≡ (is_universal_class entry.now.class && entry.now.tag == number) }
 {
     match entry.class {
-        ASN1Class::Universal => entry.tag == u64::from(number),
+        ASN1Class::Universal => entry.tag == number,
         ASN1Class::Application | ASN1Class::ContextSpecific | ASN1Class::Private => false,
     }
 }
 
 // Whether it is of class context-specific with this one.
-fn is_context_specific(entry: &Entry, number: u8) -> bool
+fn is_context_specific(entry: &Entry, number: u64) -> bool
     ensures { result ≡ (is_context_class entry.now.class && entry.now.tag == number) }
 {
     match entry.class {
-        ASN1Class::ContextSpecific => entry.tag == u64::from(number),
+        ASN1Class::ContextSpecific => entry.tag == number,
         ASN1Class::Universal | ASN1Class::Application | ASN1Class::Private => false,
     }
 }
@@ -109,7 +110,9 @@ impl<'h, 'd> Node<'h, 'd> {
         match tag {
             Tag::Universal(number) => is_universal(&entry, number),
             Tag::Context(number) => is_context_specific(&entry, number),
-            Tag::Time => is_universal(&entry, 23) || is_universal(&entry, 24),
+            Tag::Time => {
+                is_universal(&entry, tags::UTC_TIME) || is_universal(&entry, tags::GENERALIZED_TIME)
+            }
         }
     }
 
