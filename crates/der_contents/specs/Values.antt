@@ -70,7 +70,8 @@ IsMomentOf class tag contents words =
 abbrev pub IsValue : ASN1Class → ℕ → List ℕ → LeafValue → Type 0
 IsValue class tag contents (Boolean is_true) = IsLeaf class tag contents (boolean is_true)
 IsValue class tag contents (Integer n) =
-    IsLeaf class tag contents (integer n) ⊎ ((class ≡ Universal) × (tag ≡ ENUMERATED) × (n ≡ signed_number contents))
+    IsLeaf class tag contents (integer n)
+    ⊎ ((class ≡ Universal) × (tag ≡ ENUMERATED) × (n ≡ signed_number contents))
 IsValue class tag contents (Bits bits) = IsLeaf class tag contents (bit_string bits.count bits.octets.items)
 IsValue class tag contents (Octets shown) = IsLeaf class tag contents (octet_string contents)
 IsValue class tag contents Null = IsLeaf class tag contents null

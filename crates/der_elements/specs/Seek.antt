@@ -26,12 +26,12 @@ pub data Holds (class : ASN1Class) (constructed : Bool) (tag : ℕ) (contents : 
       is_gone_into class constructed tag ≡ true → before ≡ 0 → inside ≡ contents →
       Holds class constructed tag contents before inside
   holds_octets :
-      class ≡ Universal → constructed ≡ false → tag ≡ OCTET_STRING → before ≡ 0 → inside ≡ contents →
-      AreEncodings inside →
+      class ≡ Universal → constructed ≡ false → tag ≡ OCTET_STRING → before ≡ 0 →
+      inside ≡ contents → AreEncodings inside →
       Holds class constructed tag contents before inside
   holds_bits :
-      class ≡ Universal → constructed ≡ false → tag ≡ BIT_STRING → before ≡ 1 → contents ≡ 0 ∷ inside →
-      AreEncodings inside →
+      class ≡ Universal → constructed ≡ false → tag ≡ BIT_STRING → before ≡ 1 →
+      contents ≡ 0 ∷ inside → AreEncodings inside →
       Holds class constructed tag contents before inside
 
 -- octets that stand inside so many contents octets of the indefinite form begin with the end of the innermost
