@@ -5,10 +5,15 @@ ghost use Rattle.der_elements.specs.Steps.{Takes};
 
 use crate::place::Place;
 use asn1_headers::front::Header;
+use asn1_headers::tags;
 use der_contents::leaf::is_right;
 use der_elements::cursor::{Cursor, Left, Step};
 use der_elements::header::{holds_encodings, size_of, step_of, universal_tag, whole_header};
 use std::alloc::{AllocError, Global};
+
+const BIT_STRING: u8 = tags::BIT_STRING as u8;
+
+const OCTET_STRING: u8 = tags::OCTET_STRING as u8;
 
 // Octets of a string which are encodings, and how many contents octets stand before them.
 #[derive(Clone, Copy)]
@@ -42,8 +47,8 @@ fn octets_inside<'a>(header: &Header, contents: &'a [u8]) -> Option<Nested<'a>>
     ensures { IfSome result (λ h. StandAt contents.now h.before h.octets.now) }
 {
     match (universal_tag(header), contents) {
-        (Some(4), octets) => Some(Nested { octets, before: 0 }),
-        (Some(3), [0, octets @ ..]) => Some(Nested { octets, before: 1 }),
+        (Some(OCTET_STRING), octets) => Some(Nested { octets, before: 0 }),
+        (Some(BIT_STRING), [0, octets @ ..]) => Some(Nested { octets, before: 1 }),
         _ => None,
     }
 }

@@ -5,11 +5,16 @@ ghost use Rattle.der_pieces.specs.Fronts.{is_too_deep};
 use crate::style::Style;
 use asn1_headers::front::Header;
 use asn1_headers::header::ASN1Class;
+use asn1_headers::tags;
 use der_elements::header::universal_tag;
 use der_elements::sum::sum_of;
 use der_shapes::Spot;
 use der_values::{Extension, Role, extension_of, role_in};
 use std::alloc::AllocError;
+
+const BOOLEAN: u8 = tags::BOOLEAN as u8;
+
+const OBJECT_IDENTIFIER: u8 = tags::OBJECT_IDENTIFIER as u8;
 
 // How many documents are shown inside one another.
 const MOST_DOCUMENTS: usize = 8;
@@ -160,8 +165,8 @@ impl Place {
     // own, of a BOOLEAN that of what came before.
     pub fn next_after(self, header: &Header, contents: &[u8]) -> Extension {
         match universal_tag(header) {
-            Some(6) => extension_of(contents),
-            Some(1) => self.next,
+            Some(OBJECT_IDENTIFIER) => extension_of(contents),
+            Some(BOOLEAN) => self.next,
             _ => Extension::Other,
         }
     }

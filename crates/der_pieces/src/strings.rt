@@ -8,6 +8,10 @@ ghost use Rattle.der_pieces.specs.Pieces.{IsJoined};
 use crate::place::Place;
 use asn1_headers::front::Header;
 use asn1_headers::header::ASN1Class;
+use asn1_headers::tags::{
+    BIT_STRING, BMP_STRING, NUMERIC_STRING, OBJECT_DESCRIPTOR, OCTET_STRING, UNIVERSAL_STRING,
+    UTF8_STRING,
+};
 use asn1_numbers::number::big_uint::BigUint;
 use der_contents::leaf::{Read, read_contents};
 use der_contents::value::LeafValue;
@@ -21,15 +25,20 @@ pub fn string_tag(header: &Header) -> Option<u8>
     ensures { IfSome result (λ tag. (header.now.class ≡ Universal) × (header.now.tag ≡ tag)) }
 {
     match universal_tag(header) {
-        Some(tag) if header.constructed => {
-            if matches!(tag, 3 | 4 | 7 | 12 | 18..=28 | 30) {
-                Some(tag)
-            } else {
-                None
-            }
-        }
+        Some(tag) if header.constructed => { if is_string(tag) { Some(tag) } else { None } }
         _ => None,
     }
+}
+
+fn is_string(tag: u8) -> bool {
+    matches!(
+        u64::from(tag),
+        BIT_STRING
+            | OCTET_STRING
+            | OBJECT_DESCRIPTOR
+            | UTF8_STRING
+            | NUMERIC_STRING..=UNIVERSAL_STRING | BMP_STRING
+    )
 }
 
 // How many encodings are around the outermost string that is open and constructed, if there is one, after an encoding
