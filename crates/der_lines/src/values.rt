@@ -4,6 +4,7 @@ ghost use Rattle.der_lines.specs.ValueText.{bits_octets, bits_text, colon_text, 
 ghost use Rattle.der_contents.specs.Scalars.{quoted};
 
 use asn1_headers::front::Header;
+use asn1_headers::tags::{CHARACTER_STRING, EMBEDDED_PDV, EXTERNAL, SEQUENCE, SET};
 use asn1_numbers::number::big_int::BigInt;
 use der_contents::scalars::{LEAST_HEX, write_after_space, write_as, write_hex, write_quoted};
 use der_contents::value::{Bits, Identifier, LeafValue, TaggedValue};
@@ -111,7 +112,10 @@ fn write_behind_colon(out: &mut String, text: &str) -> Result<(), AllocError>
 // Whether the tag, or what stands inside, tells that the encoding is constructed.
 pub fn is_known_constructed(header: &Header) -> bool {
     match universal_tag(header) {
-        Some(tag) => matches!(tag, 8 | 11 | 16 | 17 | 29),
+        Some(tag) => matches!(
+            u64::from(tag),
+            EXTERNAL | EMBEDDED_PDV | SEQUENCE | SET | CHARACTER_STRING
+        ),
         None => header.announced > 0 || header.is_indefinite,
     }
 }
