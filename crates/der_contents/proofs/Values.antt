@@ -15,10 +15,10 @@ use Rattle.der_contents.specs.Values.{IsBerTime, IsLeaf, IsValue, is_wide}
 use Rattle.der_contents.specs.declared.value.LeafValue.{LeafValue}
 use Rattle.der_contents.specs.declared.value.LeafValue.TheVariants.{BerTime, Bits, Boolean, Identifier, Integer, Moment, NoText, Notation, Null, Octets, Other, OtherText, Tagged, Text, WideText}
 
-pub primitive_of : (class : ASN1Class) (constructed : Bool) (tag : ℕ) → is_gone_into class constructed tag ≡ false →
-    constructed ≡ false
-primitive_of class true tag e = absurd (false≢true (sym e))
-primitive_of class false tag e = refl
+pub is_gone_into-primitive : (class : ASN1Class) (constructed : Bool) (tag : ℕ) →
+    is_gone_into class constructed tag ≡ false → constructed ≡ false
+is_gone_into-primitive class true tag e = absurd (false≢true (sym e))
+is_gone_into-primitive class false tag e = refl
 
 is_gone_into-group_tag : (constructed : Bool) (g : GroupKind) → is_gone_into Universal constructed (group_tag g) ≡ true
 is_gone_into-group_tag true Sequence = refl
@@ -29,8 +29,8 @@ is_gone_into-group_tag false Set = refl
 module _ (octets contents : List ℕ) (class : ASN1Class) (constructed : Bool) (tag header : ℕ)
     (e : Encoding octets class constructed tag contents header) where
   -- a leaf
-  pub leaf_encodes : (l : Leaf) → IsLeaf class tag contents l → Encodes 0 octets (leaf 0 l)
-  leaf_encodes l (u, t, means) = (
+  pub Encodes-leaf : (l : Leaf) → IsLeaf class tag contents l → Encodes 0 octets (leaf 0 l)
+  Encodes-leaf l (u, t, means) = (
     refl,
     constructed,
     contents,
@@ -41,9 +41,9 @@ module _ (octets contents : List ℕ) (class : ASN1Class) (constructed : Bool) (
   )
 
   -- what stays as it came
-  pub unknown_encodes : class ≡ Universal → is_leaf_tag tag ≡ false → is_gone_into class constructed tag ≡ false →
+  pub Encodes-unknown : class ≡ Universal → is_leaf_tag tag ≡ false → is_gone_into class constructed tag ≡ false →
       Encodes 0 octets (unknown class constructed 0 tag contents)
-  unknown_encodes u none closed = elim (TagKind-total tag) [
+  Encodes-unknown u none closed = elim (TagKind-total tag) [
     | unknown_tag t ↦ (refl, header, e, inl (u, t))
     | group_tag_of g t ↦ absurd (false≢true
         (sym closed ∙ subst (λ z. is_gone_into z constructed tag ≡ true) (sym u)
@@ -51,54 +51,56 @@ module _ (octets contents : List ℕ) (class : ASN1Class) (constructed : Bool) (
     | leaf_tag_of t ↦ absurd (false≢true (sym none ∙ t))
   ]
 
-  pub tagged_encodes : class ≢ Universal → is_gone_into class constructed tag ≡ false →
+  pub Encodes-tagged : class ≢ Universal → is_gone_into class constructed tag ≡ false →
       Encodes 0 octets (unknown class constructed 0 tag contents)
-  tagged_encodes other closed =
-      (refl, header, e, inr (other, λ z. false≢true (sym (primitive_of class constructed tag closed) ∙ z.0)))
+  Encodes-tagged other closed =
+      (refl, header, e, inr (other, λ z. false≢true (sym (is_gone_into-primitive class constructed tag closed) ∙ z.0)))
 
-  encodes : (l : Leaf) → IsLeaf class tag contents l →
+  IsValue-encodes_leaf : (l : Leaf) → IsLeaf class tag contents l →
       (is_wide class tag ≡ true) ⊎ (IsBerTime class tag contents ⊎ ((b : Tree ℕ) × Encodes 0 octets b))
-  encodes l is = inr (inr (leaf 0 l, leaf_encodes l is))
+  IsValue-encodes_leaf l is = inr (inr (leaf 0 l, Encodes-leaf l is))
 
-  stays : class ≡ Universal → is_leaf_tag tag ≡ false → is_gone_into class constructed tag ≡ false →
+  IsValue-encodes_unknown : class ≡ Universal → is_leaf_tag tag ≡ false → is_gone_into class constructed tag ≡ false →
       (is_wide class tag ≡ true) ⊎ (IsBerTime class tag contents ⊎ ((b : Tree ℕ) × Encodes 0 octets b))
-  stays u none closed = inr (inr (unknown class constructed 0 tag contents, unknown_encodes u none closed))
+  IsValue-encodes_unknown u none closed =
+      inr (inr (unknown class constructed 0 tag contents, Encodes-unknown u none closed))
 
 -- contents octets that have a value are wide characters, a time of BER, or those of a block
-pub value_encodes :
+pub IsValue-encodes :
     (octets contents : List ℕ) (class : ASN1Class) (constructed : Bool) (tag header : ℕ) (value : LeafValue) →
     is_gone_into class constructed tag ≡ false → Encoding octets class constructed tag contents header →
     IsValue class tag contents value →
     (is_wide class tag ≡ true) ⊎ (IsBerTime class tag contents ⊎ ((b : Tree ℕ) × Encodes 0 octets b))
-value_encodes octets contents class k tag h (Boolean b) o e is = encodes octets contents class k tag h e (boolean b) is
-value_encodes octets contents class k tag h (Integer n) o e (inl is) =
-    encodes octets contents class k tag h e (integer n) is
-value_encodes octets contents class k tag h (Integer n) o e (inr (u, ten, same)) =
-    stays octets contents class k tag h e u (subst (λ z. is_leaf_tag z ≡ false) (sym ten) refl) o
-value_encodes octets contents class k tag h (Bits bits) o e is =
-    encodes octets contents class k tag h e (bit_string bits.count bits.octets.items) is
-value_encodes octets contents class k tag h (Octets shown) o e is =
-    encodes octets contents class k tag h e (octet_string contents) is
-value_encodes octets contents class k tag h Null o e is = encodes octets contents class k tag h e null is
-value_encodes octets contents class k tag h (Identifier identifier) o e (components, is, same) =
-    encodes octets contents class k tag h e (object_identifier components) is
-value_encodes octets contents class k tag h (Text characters) o e (narrow, (kind, is)) =
-    encodes octets contents class k tag h e (text kind _) is
-value_encodes octets contents class k tag h (WideText form characters) o e wide = inl wide
-value_encodes octets contents class k tag h (OtherText characters) o e ((u, none, has), is, same) =
-    stays octets contents class k tag h e u none o
-value_encodes octets contents class k tag h (Notation words) o e ((u, none, has), is) =
-    stays octets contents class k tag h e u none o
-value_encodes octets contents class k tag h (Moment words) o e (inl (m, is, same)) =
-    encodes octets contents class k tag h e (utc_time m) is
-value_encodes octets contents class k tag h (Moment words) o e (inr (m, is, same)) =
-    encodes octets contents class k tag h e (generalized_time m) is
-value_encodes octets contents class k tag h (BerTime words) o e time = inr (inl time)
-value_encodes octets contents class k tag h (Other shown) o e ((u, none, has), other) =
-    stays octets contents class k tag h e u none o
-value_encodes octets contents class k tag h (Tagged value) o e other =
-    inr (inr (unknown class k 0 tag contents, tagged_encodes octets contents class k tag h e other o))
-value_encodes octets contents class k tag h (NoText shown) o e (inl (wide, (kind, characters, is))) =
-    encodes octets contents class k tag h e (text kind characters) is
-value_encodes octets contents class k tag h (NoText shown) o e (inr ((u, none, has), others)) =
-    stays octets contents class k tag h e u none o
+IsValue-encodes octets contents class k tag h (Boolean b) o e is =
+    IsValue-encodes_leaf octets contents class k tag h e (boolean b) is
+IsValue-encodes octets contents class k tag h (Integer n) o e (inl is) =
+    IsValue-encodes_leaf octets contents class k tag h e (integer n) is
+IsValue-encodes octets contents class k tag h (Integer n) o e (inr (u, ten, same)) =
+    IsValue-encodes_unknown octets contents class k tag h e u (subst (λ z. is_leaf_tag z ≡ false) (sym ten) refl) o
+IsValue-encodes octets contents class k tag h (Bits bits) o e is =
+    IsValue-encodes_leaf octets contents class k tag h e (bit_string bits.count bits.octets.items) is
+IsValue-encodes octets contents class k tag h (Octets shown) o e is =
+    IsValue-encodes_leaf octets contents class k tag h e (octet_string contents) is
+IsValue-encodes octets contents class k tag h Null o e is = IsValue-encodes_leaf octets contents class k tag h e null is
+IsValue-encodes octets contents class k tag h (Identifier identifier) o e (components, is, same) =
+    IsValue-encodes_leaf octets contents class k tag h e (object_identifier components) is
+IsValue-encodes octets contents class k tag h (Text characters) o e (narrow, (kind, is)) =
+    IsValue-encodes_leaf octets contents class k tag h e (text kind _) is
+IsValue-encodes octets contents class k tag h (WideText form characters) o e wide = inl wide
+IsValue-encodes octets contents class k tag h (OtherText characters) o e ((u, none, has), is, same) =
+    IsValue-encodes_unknown octets contents class k tag h e u none o
+IsValue-encodes octets contents class k tag h (Notation words) o e ((u, none, has), is) =
+    IsValue-encodes_unknown octets contents class k tag h e u none o
+IsValue-encodes octets contents class k tag h (Moment words) o e (inl (m, is, same)) =
+    IsValue-encodes_leaf octets contents class k tag h e (utc_time m) is
+IsValue-encodes octets contents class k tag h (Moment words) o e (inr (m, is, same)) =
+    IsValue-encodes_leaf octets contents class k tag h e (generalized_time m) is
+IsValue-encodes octets contents class k tag h (BerTime words) o e time = inr (inl time)
+IsValue-encodes octets contents class k tag h (Other shown) o e ((u, none, has), other) =
+    IsValue-encodes_unknown octets contents class k tag h e u none o
+IsValue-encodes octets contents class k tag h (Tagged value) o e other =
+    inr (inr (unknown class k 0 tag contents, Encodes-tagged octets contents class k tag h e other o))
+IsValue-encodes octets contents class k tag h (NoText shown) o e (inl (wide, (kind, characters, is))) =
+    IsValue-encodes_leaf octets contents class k tag h e (text kind characters) is
+IsValue-encodes octets contents class k tag h (NoText shown) o e (inr ((u, none, has), others)) =
+    IsValue-encodes_unknown octets contents class k tag h e u none o

@@ -23,7 +23,7 @@ use Rattle.der_pieces.specs.declared.piece.Kind.{Kind}
 use Rattle.der_pieces.specs.declared.piece.Kind.TheVariants.{Cut, EndOfContents, Leaf, Opened, Unreadable}
 use Rattle.der_pieces.specs.declared.strings.Joined.{Joined}
 use Rattle.der_contents.specs.declared.value.LeafValue.{LeafValue}
-use Rattle.der_contents.proofs.Values.{primitive_of}
+use Rattle.der_contents.proofs.Values.{is_gone_into-primitive}
 use Rattle.der_json.specs.Json.{AreShown, Departed, IsJudged, IsOpenedValue, IsRowOf, cut_short, fault_data, named_fault, of_encoding, of_end, of_none, of_segments, of_stray_form, of_unreadable, with_contents, with_encodings, with_no_value, words_fault}
 use Rattle.asn1_departures.specs.declared.rule.Rule.{Rule}
 use Rattle.der_json.specs.Rows.{IsHeaderTag, IsTagOf, joined_json, kind_json, kind_octets, kind_size, leaf_json, leaf_octets, opened_json, row_of, placed_data, value_octets, wrong_octets}
@@ -33,7 +33,7 @@ use Rattle.der_json.proofs.Values.{value_shown}
 primitive_closed : (class : ASN1Class) (constructed : Bool) (tag : ℕ) → is_gone_into class constructed tag ≡ false →
     is_gone_into class false tag ≡ false
 primitive_closed class constructed tag e =
-    subst (λ z. is_gone_into class z tag ≡ false) (primitive_of class constructed tag e) e
+    subst (λ z. is_gone_into class z tag ≡ false) (is_gone_into-primitive class constructed tag e) e
 
 -- what the fault tells
 told_named :

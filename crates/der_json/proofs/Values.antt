@@ -17,7 +17,7 @@ use Rattle.der_contents.specs.Values.{IsIdentifier, IsLeaf, IsValue, has_wide_ch
 use Rattle.der_contents.specs.declared.value.Identifier.{Identifier}
 use Rattle.der_contents.specs.declared.value.LeafValue.{LeafValue}
 use Rattle.der_contents.specs.declared.value.LeafValue.TheVariants.{BerTime, Bits, Boolean, Identifier as OfIdentifier, Integer, Moment, NoText, Notation, Null, Octets, Other, OtherText, Tagged, Text, WideText}
-use Rattle.der_contents.proofs.Values.{leaf_encodes, tagged_encodes, unknown_encodes}
+use Rattle.der_contents.proofs.Values.{Encodes-leaf, Encodes-tagged, Encodes-unknown}
 use Rattle.der_json.specs.Json.{AreShown, IsIdentifierValue, IsLeafValue, IsValueOf, as_text, as_time, in_their_form, in_words, is_text_type, of_block, of_characters, of_no_text, of_other_type, other_value, whole_json, with_value, without_characters}
 use Rattle.der_json.specs.Rows.{value_json, value_octets}
 
@@ -136,7 +136,7 @@ module _ (offset : ℕ) (class : ASN1Class) (tag : ℕ) (contents : List ℕ) wh
       AreShown offset class tag contents json None None
   leaf_shown l json (u, t, means) wide is =
       with_value (type_text class tag contents u false (subst (λ z. has_text z ≡ false) (sym t) (leaf_no_text l))) wide
-      (leaf 0 l) (λ all header e. leaf_encodes all contents class false tag header e l (u, t, means))
+      (leaf 0 l) (λ all header e. Encodes-leaf all contents class false tag header e l (u, t, means))
       (of_block
       (no_other class tag contents u (subst (λ z. (z == 10) ≡ false) (sym t) (leaf_no_enumerated l))) is)
       refl refl
@@ -154,7 +154,7 @@ module _ (offset : ℕ) (class : ASN1Class) (tag : ℕ) (contents : List ℕ) wh
   other_shown json u none closed has is =
       with_value (type_text class tag contents u false has) (narrow class tag contents u (no_leaf_narrow tag none))
       (unknown class false 0 tag contents)
-      (λ all header e. unknown_encodes all contents class false tag header e u none closed) is refl refl
+      (λ all header e. Encodes-unknown all contents class false tag header e u none closed) is refl refl
 
 -- each value
 pub value_shown :
@@ -200,7 +200,7 @@ value_shown offset class tag contents (Other shown) o ((u, none, has), other) =
 value_shown offset class tag contents (Tagged value) o other =
     with_value (no_text_tagged class tag other) (narrow_tagged class tag contents other)
     (unknown class false 0 tag contents)
-    (λ all header e. tagged_encodes all contents class false tag header e other o)
+    (λ all header e. Encodes-tagged all contents class false tag header e other o)
     (of_block (no_other_tagged class tag contents other) refl) refl refl
 value_shown offset class tag contents (NoText shown) o (inl (wide, (kind, characters, is))) =
     without_characters wide refl refl refl

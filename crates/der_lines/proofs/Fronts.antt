@@ -14,7 +14,7 @@ use Rattle.der_pieces.specs.declared.place.Place.{Place}
 use Rattle.der_pieces.specs.declared.walk.Walk.{Walk}
 use Rattle.der_lines.proofs.Dumps.{IsDump-append, IsDump-weaker, StandsInside-inside, outer-append, outer-nil, IsDump-start}
 use Rattle.der_lines.proofs.Breach.{counted-append, counted-nil, AreMarked-append, AreMarked-weaker, AreMarked-one}
-use Rattle.der_pieces.proofs.Walks.{left_stands}
+use Rattle.der_pieces.proofs.Walks.{StandAt-left}
 use Rattle.der_rows.specs.Printing.{IsPrinted}
 use Rattle.der_rows.specs.declared.printer.Printer.{Printer}
 
@@ -129,7 +129,7 @@ module _ (place : Place) (octets : List ℕ) (fronts : List Front) (old new : Wa
       let further = piece.place.base + (piece.offset + header) in
       let stands : StandAt octets piece.offset p.left =
       subst (λ z. StandAt z piece.offset p.left) same_octets p.position in
-      let within = left_stands p.left slice header (header + kind_contents piece.kind) refl in
+      let within = StandAt-left p.left slice header (header + kind_contents piece.kind) refl in
       inr (StandsInside-inside octets p.left place.base piece.offset (place.base + piece.offset) h stands refl
       (StandsInside-inside p.left slice (place.base + piece.offset) header further h within (omega (arith, base_is)) s))
 

@@ -6,11 +6,11 @@ use Rattle.der_pieces.specs.Marks.{rule_breach, breach_of}
 use Rattle.der_pieces.specs.declared.marks.BrokenRule.{BrokenRule}
 
 -- one more of the rules was described
-pub described_at :
+pub map-breach_of_more :
     (rules : List Rule) (i : ℕ) (d : Rule) (old new : List BrokenRule) (result : BrokenRule) → i < length rules →
     breach_of result ≡ rule_breach (get_or rules i d) → new ≡ old ++ result ∷ [] →
     map breach_of old ≡ map rule_breach (take i rules) → map breach_of new ≡ map rule_breach (take (i + 1) rules)
-described_at rules i d old new result within is e before =
+map-breach_of_more rules i d old new result within is e before =
     let rule = get_or rules i d in
     let more : map rule_breach (take (i + 1) rules) ≡ map rule_breach (take i rules) ++ rule_breach rule ∷ [] =
     ap (map rule_breach) (take_more rules i d within) ∙ map-append rule_breach (take i rules) (rule ∷ []) in

@@ -26,25 +26,25 @@ use Rattle.der_contents.specs.declared.faults.Fault.{Fault}
 use Rattle.der_pieces.specs.declared.piece.Piece.{Piece}
 use Rattle.der_pieces.specs.declared.place.Place.{Place}
 use Rattle.der_contents.specs.declared.value.LeafValue.{LeafValue}
-use Rattle.der_contents.proofs.Values.{value_encodes}
+use Rattle.der_contents.proofs.Values.{IsValue-encodes}
 use Rattle.der_elements.proofs.Seeking.{size-length_header}
 
-pub starts_next :
+pub StartsNext-first :
     (left : Left) (offset depth : ℕ) (front : Front) (step : Step) (faults : List ℕ) →
     (left.is_indefinite && begins_with_end left.octets.now) ≡ false → 0 < length left.octets.now →
     StartsWith left.octets.now offset depth front step faults → StartsNext left offset depth front step faults
-starts_next left offset depth front (Into header size indefinite) faults e some starts = (e, some, starts)
-starts_next left offset depth front (Past size) faults e some starts = (e, some, starts)
-starts_next left offset depth front (Out size) faults e some starts = absurd starts
+StartsNext-first left offset depth front (Into header size indefinite) faults e some starts = (e, some, starts)
+StartsNext-first left offset depth front (Past size) faults e some starts = (e, some, starts)
+StartsNext-first left offset depth front (Out size) faults e some starts = absurd starts
 
 -- an encoding, where no end-of-contents octets end what is left
-pub next_piece :
+pub IsPiece-first :
     (left : Left) (offset : ℕ) (place : Place) (piece : Piece) →
     (left.is_indefinite && begins_with_end left.octets.now) ≡ false → 0 < length left.octets.now →
     IsFirstPiece left.octets.now offset place piece → IsPiece left offset place piece
-next_piece left offset place piece e some p = record {
-  starts = λ depth. starts_next left offset depth (front_of depth piece) piece.step (fault_offset piece.fault) e some
-      (p.starts depth);
+IsPiece-first left offset place piece e some p = record {
+  starts = λ depth. StartsNext-first left offset depth (front_of depth piece) piece.step (fault_offset piece.fault)
+      e some (p.starts depth);
   kind = p.kind;
   offset_is = p.offset_is;
   place_is = p.place_is;
@@ -53,19 +53,19 @@ next_piece left offset place piece e some p = record {
 }
 
 -- where a fault stands
-fault_at :
+fault_offset-at :
     (Is : Fault → Type 0) (offset : ℕ) (fault : Option Fault) → ((f : Fault) → Is f → f.offset ≡ offset) →
     IsFault Is fault → fault_offset fault ≡ offset ∷ []
-fault_at Is offset None turn none = absurd none
-fault_at Is offset (Some fault) turn is = ap (λ z. z ∷ []) (turn fault is)
+fault_offset-at Is offset None turn none = absurd none
+fault_offset-at Is offset (Some fault) turn is = ap (λ z. z ∷ []) (turn fault is)
 
-pub named_at : (offset : ℕ) (found : DecodeFault) (fault : Option Fault) → IsFault (IsNamed offset found) fault
-    → fault_offset fault ≡ offset ∷ []
-named_at offset found fault = fault_at (IsNamed offset found) offset fault (λ f is. is.0)
+pub fault_offset-named : (offset : ℕ) (found : DecodeFault) (fault : Option Fault)
+    → IsFault (IsNamed offset found) fault → fault_offset fault ≡ offset ∷ []
+fault_offset-named offset found fault = fault_offset-at (IsNamed offset found) offset fault (λ f is. is.0)
 
-pub nameless_at : (offset : ℕ) (fault : Option Fault) → IsFault (IsNameless offset) fault →
+pub fault_offset-nameless : (offset : ℕ) (fault : Option Fault) → IsFault (IsNameless offset) fault →
     fault_offset fault ≡ offset ∷ []
-nameless_at offset fault = fault_at (IsNameless offset) offset fault (λ f is. is.0)
+fault_offset-nameless offset fault = fault_offset-at (IsNameless offset) offset fault (λ f is. is.0)
 
 -- the encoding with the header that begins the octets is judged so
 abbrev pub IsJudgedAs :
@@ -79,13 +79,13 @@ abbrev pub HasMeaningAs : List ℕ → ℕ → ℕ → List Rule → Option Mean
 HasMeaningAs left offset depth rules meaning header faults =
     HasMeaning left (header_front offset depth rules meaning header) header.class header.constructed header.tag faults
 
-begins :
+IsFirst-begins :
     (left : List ℕ) (offset depth : ℕ) (rules : List Rule) (meaning : Option Meaning) (header : Header) (opened : Bool)
     (faults : List ℕ) (h : IsAtFront left header) → opened ≡ is_gone_into header.class header.constructed header.tag →
     IsTrue header.is_indefinite ↔ HasIndefiniteForm left → IsJudgedAs left offset depth rules meaning header h faults →
     HasMeaningAs left offset depth rules meaning header faults → AreFirstRules left header rules →
     IsFirst left offset depth (header_front offset depth rules meaning header) opened faults
-begins left offset depth rules meaning header opened faults h o form judged means m = record {
+IsFirst-begins left offset depth rules meaning header opened faults h o form judged means m = record {
   class = header.class;
   constructed = header.constructed;
   tag = header.tag;
@@ -102,54 +102,55 @@ begins left offset depth rules meaning header opened faults h o form judged mean
 }
 
 -- one offset of a fault is some
-some_fault : (faults : List ℕ) (offset : ℕ) → faults ≡ offset ∷ [] → 0 < length faults
-some_fault faults offset e = subst (λ z. 0 < length z) (sym e) (omega arith)
+one_fault-not_empty : (faults : List ℕ) (offset : ℕ) → faults ≡ offset ∷ [] → 0 < length faults
+one_fault-not_empty faults offset e = subst (λ z. 0 < length z) (sym e) (omega arith)
 
-taken_cut : (indefinite : Bool) (n there : ℕ) → there < n → there ≡ taken indefinite n there
-taken_cut true n there less = refl
-taken_cut false n there less = omega (arith, less)
+taken-cut : (indefinite : Bool) (n there : ℕ) → there < n → there ≡ taken indefinite n there
+taken-cut true n there less = refl
+taken-cut false n there less = omega (arith, less)
 
 -- an encoding that is cut short
-pub cut_starts :
+pub StartsWith-cut :
     (left : List ℕ) (offset depth : ℕ) (header : Header) (step : Step) (faults : List ℕ) → IsAtFront left header →
     length left < header.size + header.announced → IsTrue header.is_indefinite ↔ HasIndefiniteForm left →
     IsTaken header (length left) step → faults ≡ offset ∷ [] →
     StartsWith left offset depth (header_front offset depth [] None header) step faults
-cut_starts left offset depth header (Into first all indefinite) faults h l form (o, p, q, i) e = (
+StartsWith-cut left offset depth header (Into first all indefinite) faults h l form (o, p, q, i) e = (
   p,
-  q ∙ taken_cut header.is_indefinite (header.size + header.announced) (length left) l,
+  q ∙ taken-cut header.is_indefinite (header.size + header.announced) (length left) l,
   i,
-  begins left offset depth [] None header true faults h (sym o) form (cut_short l e)
-      (inr (some_fault faults offset e)) (λ f. of_cut l refl),
+  IsFirst-begins left offset depth [] None header true faults h (sym o) form (cut_short l e)
+      (inr (one_fault-not_empty faults offset e)) (λ f. of_cut l refl),
 )
-cut_starts left offset depth header (Past all) faults h l form (o, q) e =
+StartsWith-cut left offset depth header (Past all) faults h l form (o, q) e =
     inl (
-      q ∙ taken_cut header.is_indefinite (header.size + header.announced) (length left) l,
-      begins left offset depth [] None header false faults h (sym o) form (cut_short l e)
-          (inr (some_fault faults offset e)) (λ f. of_cut l refl),
+      q ∙ taken-cut header.is_indefinite (header.size + header.announced) (length left) l,
+      IsFirst-begins left offset depth [] None header false faults h (sym o) form (cut_short l e)
+          (inr (one_fault-not_empty faults offset e)) (λ f. of_cut l refl),
     )
-cut_starts left offset depth header (Out all) faults h l form none e = absurd none
+StartsWith-cut left offset depth header (Out all) faults h l form none e = absurd none
 
 -- one that is whole
-pub whole_starts :
+pub StartsWith-whole :
     (left : List ℕ) (offset depth : ℕ) (rules : List Rule) (meaning : Option Meaning) (header : Header) (size : ℕ)
     (step : Step) (faults : List ℕ) (h : IsAtFront left header) →
     IsTrue header.is_indefinite ↔ HasIndefiniteForm left → IsJudgedAs left offset depth rules meaning header h faults →
     HasMeaningAs left offset depth rules meaning header faults → AreFirstRules left header rules →
     IsTaken header size step → size ≡ taken header.is_indefinite (header.size + header.announced) (length left) →
     StartsWith left offset depth (header_front offset depth rules meaning header) step faults
-whole_starts left offset depth rules meaning header size (Into first all indefinite) faults h form judged means m
+StartsWith-whole left offset depth rules meaning header size (Into first all indefinite) faults h form judged means m
     (o, p, q, i) is =
-    (p, q ∙ is, i, begins left offset depth rules meaning header true faults h (sym o) form judged means m)
-whole_starts left offset depth rules meaning header size (Past all) faults h form judged means m (o, q) is =
-    inl (q ∙ is, begins left offset depth rules meaning header false faults h (sym o) form judged means m)
-whole_starts left offset depth rules meaning header size (Out all) faults h form judged means m none is = absurd none
+    (p, q ∙ is, i, IsFirst-begins left offset depth rules meaning header true faults h (sym o) form judged means m)
+StartsWith-whole left offset depth rules meaning header size (Past all) faults h form judged means m (o, q) is =
+    inl (q ∙ is, IsFirst-begins left offset depth rules meaning header false faults h (sym o) form judged means m)
+StartsWith-whole left offset depth rules meaning header size (Out all) faults h form judged means m none is =
+    absurd none
 
 -- the octets of a whole encoding
-pub front_encoding :
+pub Encoding-front :
     (left contents : List ℕ) (s n : ℕ) (c : ASN1Class) (k : Bool) (t : ℕ) → BeginsWithHeader left s n c k t →
     s + n ≤ length left → contents ≡ slice_range left s (s + n) → Encoding (take (s + n) left) c k t contents s
-front_encoding left contents s n c k t h l e =
+Encoding-front left contents s n c k t h l e =
     let m : s + n - s ≡ n = omega arith in
     let cut : contents ≡ take n (drop s left) = e ∙ ap (λ z. take z (drop s left)) m in
     let d : length (drop s left) ≡ length left - s = length-drop s left in
@@ -167,18 +168,18 @@ front_encoding left contents s n c k t h l e =
     }
 
 -- what is wrong with an encoding that is gone into
-pub opened_judged :
+pub IsJudgedAs-opened :
     (left : List ℕ) (offset depth : ℕ) (rules : List Rule) (header : Header) (fault : Option Fault)
     (h : IsAtFront left header) → header.size + header.announced ≤ length left →
     is_gone_into header.class header.constructed header.tag ≡ true →
     IsOpenedFault (is_stray_form header.constructed (drop (length h.identifier) left)) offset fault →
     IsJudgedAs left offset depth rules None header h (fault_offset fault)
-opened_judged left offset depth rules header fault h l o (inl (stray, is)) =
-    of_stray_form stray (nameless_at offset fault is)
-opened_judged left offset depth rules header fault h l o (inr (stray, none)) =
+IsJudgedAs-opened left offset depth rules header fault h l o (inl (stray, is)) =
+    of_stray_form stray (fault_offset-nameless offset fault is)
+IsJudgedAs-opened left offset depth rules header fault h l o (inr (stray, none)) =
     with_encodings l o stray (ap fault_offset none)
 
-meaning_judged :
+IsJudgedAs-meaning :
     (left : List ℕ) (offset depth : ℕ) (rules : List Rule) (meaning : Option Meaning) (header : Header)
     (value : Option LeafValue) (fault : Option Fault) (h : IsAtFront left header) →
     header.size + header.announced ≤ length left →
@@ -187,50 +188,50 @@ meaning_judged :
     IsMeaning header.class header.tag (slice_range left header.size (header.size + header.announced)) offset value
     fault →
     IsJudgedAs left offset depth rules meaning header h (fault_offset fault)
-meaning_judged left offset depth rules meaning header None fault h l o stray (u, (found, wrong, is)) =
-    with_no_value l o u found wrong (named_at offset found fault is)
-meaning_judged left offset depth rules meaning header (Some value) fault h l o stray (is, none) =
+IsJudgedAs-meaning left offset depth rules meaning header None fault h l o stray (u, (found, wrong, is)) =
+    with_no_value l o u found wrong (fault_offset-named offset found fault is)
+IsJudgedAs-meaning left offset depth rules meaning header (Some value) fault h l o stray (is, none) =
     let contents = slice_range left header.size (header.size + header.announced) in
     with_value l o stray
-    (value_encodes (take (header.size + header.announced) left) contents header.class header.constructed header.tag
+    (IsValue-encodes (take (header.size + header.announced) left) contents header.class header.constructed header.tag
     header.size value o
-    (front_encoding left contents header.size header.announced header.class header.constructed header.tag h l refl) is)
+    (Encoding-front left contents header.size header.announced header.class header.constructed header.tag h l refl) is)
     (ap fault_offset none)
 
 -- and with one that is not
-pub leaf_judged :
+pub IsJudgedAs-leaf :
     (left : List ℕ) (offset depth : ℕ) (rules : List Rule) (meaning : Option Meaning) (header : Header)
     (value : Option LeafValue) (fault : Option Fault) (h : IsAtFront left header) →
     header.size + header.announced ≤ length left →
     is_gone_into header.class header.constructed header.tag ≡ false →
     IsLeafMeaning left header (drop (length h.identifier) left) offset value fault →
     IsJudgedAs left offset depth rules meaning header h (fault_offset fault)
-leaf_judged left offset depth rules meaning header value fault h l o (inl (stray, none, is)) =
-    of_stray_form stray (nameless_at offset fault is)
-leaf_judged left offset depth rules meaning header value fault h l o (inr (stray, is)) =
-    meaning_judged left offset depth rules meaning header value fault h l o stray is
+IsJudgedAs-leaf left offset depth rules meaning header value fault h l o (inl (stray, none, is)) =
+    of_stray_form stray (fault_offset-nameless offset fault is)
+IsJudgedAs-leaf left offset depth rules meaning header value fault h l o (inr (stray, is)) =
+    IsJudgedAs-meaning left offset depth rules meaning header value fault h l o stray is
 
 -- and its meaning
-pub leaf_means :
+pub HasMeaningAs-leaf :
     (left : List ℕ) (offset depth : ℕ) (rules : List Rule) (header : Header) (value : Option LeafValue)
     (fault : Option Fault) (behind : List ℕ) → IsLeafMeaning left header behind offset value fault →
     HasMeaningAs left offset depth rules
     (meaning_of (slice_range left header.size (header.size + header.announced)) value) header (fault_offset fault)
-leaf_means left offset depth rules header None fault behind (inl (stray, none, is)) =
-    inr (some_fault (fault_offset fault) offset (nameless_at offset fault is))
-leaf_means left offset depth rules header None fault behind (inr (stray, (u, (found, wrong, is)))) =
-    inr (some_fault (fault_offset fault) offset (named_at offset found fault is))
-leaf_means left offset depth rules header (Some value) fault behind (inl (stray, none, is)) = absurd (cc none)
-leaf_means left offset depth rules header (Some value) fault behind (inr (stray, (is, none))) = (refl, is)
+HasMeaningAs-leaf left offset depth rules header None fault behind (inl (stray, none, is)) =
+    inr (one_fault-not_empty (fault_offset fault) offset (fault_offset-nameless offset fault is))
+HasMeaningAs-leaf left offset depth rules header None fault behind (inr (stray, (u, (found, wrong, is)))) =
+    inr (one_fault-not_empty (fault_offset fault) offset (fault_offset-named offset found fault is))
+HasMeaningAs-leaf left offset depth rules header (Some value) fault behind (inl (stray, none, is)) = absurd (cc none)
+HasMeaningAs-leaf left offset depth rules header (Some value) fault behind (inr (stray, (is, none))) = (refl, is)
 
 -- the rules of a whole encoding
-pub whole_rules :
+pub AreFirstRules-whole :
     (left : List ℕ) (header : Header) (rules : List Rule) → header.size + header.announced ≤ length left →
     AreRulesFound left header rules → AreFirstRules left header rules
-whole_rules left header rules whole found front = of_whole whole (found front)
+AreFirstRules-whole left header rules whole found front = of_whole whole (found front)
 
 -- the value of segments joined
-pub joined_is :
+pub IsValue-joined :
     (header whole : Header) (contents joined : List ℕ) (value : Option LeafValue) (v : LeafValue)
     (fault : Option Fault) → header.class ≡ Universal → whole.class ≡ Universal → whole.tag ≡ header.tag →
     whole.constructed ≡ false → is_gone_into whole.class whole.constructed whole.tag ≡ false →
@@ -238,7 +239,7 @@ pub joined_is :
     IsMeaning whole.class whole.tag joined 0 value fault →
     (header.class ≡ Universal) × AreSegmentsOf header.tag contents header.is_indefinite joined
     × (is_gone_into header.class false header.tag ≡ false) × IsValue header.class header.tag joined v
-joined_is header whole contents joined value v fault u w t primitive closed segments e is =
+IsValue-joined header whole contents joined value v fault u w t primitive closed segments e is =
     let class : whole.class ≡ header.class = w ∙ sym u in
     let meaning = subst (λ z. IsMeaning whole.class whole.tag joined 0 z fault) e is in (
       u,

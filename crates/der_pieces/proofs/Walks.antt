@@ -14,101 +14,102 @@ use Rattle.der_elements.proofs.Seeking.{BeginsWithHeader-some}
 use Rattle.der_elements.proofs.Cursors.{drop-ends_of, taken-some}
 use Rattle.std.proofs.lemmas.List.{take-append-drop}
 
-pub ahead_is :
+pub AreFronts-ahead :
     (n : Cursor) (octets : List ℕ) (offset : ℕ) (ends : List End) (fronts : List Front) (faults : List ℕ) →
     n.octets.now ≡ octets → n.offset ≡ offset → ends_of n ≡ ends → IsAhead n fronts faults →
     AreFronts octets offset ends fronts faults
-ahead_is n octets offset ends fronts faults p q r h =
+AreFronts-ahead n octets offset ends fronts faults p q r h =
     subst (λ z. AreFronts z offset ends fronts faults) p
     (subst (λ z. AreFronts n.octets.now z ends fronts faults) q
     (subst (λ z. AreFronts n.octets.now n.offset z fronts faults) r h))
 
-inside_is :
+cons-end_at :
     (a b : ℕ) (i j : Bool) (ends : List End) → a ≡ b → i ≡ j → end_at a i ∷ ends ≡ end_at b j ∷ ends
-inside_is a b i j ends e f = ap (λ z. end_at z i ∷ ends) e ∙ ap (λ z. end_at b z ∷ ends) f
+cons-end_at a b i j ends e f = ap (λ z. end_at z i ∷ ends) e ∙ ap (λ z. end_at b z ∷ ends) f
 
 -- what begins what is left is the first of what is ahead
-pub step_goes :
+pub IsAhead-step :
     (m n : Cursor) (left : Left) (f : Front) (step : Step) (own : List ℕ) (later : List Front) (more : List ℕ)
     (at : IsLeftOf m left) → StartsNext left m.offset (length at.around) f step own → Goes step m n →
     IsAhead n later more → IsAhead m (f ∷ later) (own ++ more)
-step_goes m n left f (Into header size indefinite) own later more at (e, some, (p, q, i, first)) (o, g, ends) ahead =
+IsAhead-step m n left f (Into header size indefinite) own later more at (e, some, (p, q, i, first)) (o, g, ends) ahead =
     let x : n.offset ≡ m.offset + f.header = g ∙ ap (λ z. m.offset + z) p in
     let inside = end_at (m.offset + size_in left.octets.now f) f.indefinite ∷ ends_of m in
-    let y : ends_of n ≡ inside = ends ∙ inside_is _ _ _ _ (ends_of m) (ap (λ z. m.offset + z) q) i in
+    let y : ends_of n ≡ inside = ends ∙ cons-end_at _ _ _ _ (ends_of m) (ap (λ z. m.offset + z) q) i in
     let none = subst (λ z. (z && begins_with_end left.octets.now) ≡ false) at.form e in
     gone_into left.octets.now at.end at.around f own later more at.ends_are at.octets_are none first
-    (ahead_is n m.octets.now (m.offset + f.header) inside later more o x y ahead) refl refl
-step_goes m n left f (Past size) own later more at (e, some, inl (q, first)) (o, g, ends) ahead =
+    (AreFronts-ahead n m.octets.now (m.offset + f.header) inside later more o x y ahead) refl refl
+IsAhead-step m n left f (Past size) own later more at (e, some, inl (q, first)) (o, g, ends) ahead =
     let x : n.offset ≡ m.offset + size_in left.octets.now f = g ∙ ap (λ z. m.offset + z) q in
     let none = subst (λ z. (z && begins_with_end left.octets.now) ≡ false) at.form e in
     passed_over left.octets.now at.end at.around f own later more at.ends_are at.octets_are none first
-    (ahead_is n m.octets.now (m.offset + size_in left.octets.now f) (ends_of m) later more o x ends ahead) refl refl
-step_goes m n left f (Past size) own later more at (e, some, inr (q, none, is, faults)) (o, g, ends) ahead =
+    (AreFronts-ahead n m.octets.now (m.offset + size_in left.octets.now f) (ends_of m) later more o x ends ahead)
+    refl refl
+IsAhead-step m n left f (Past size) own later more at (e, some, inr (q, none, is, faults)) (o, g, ends) ahead =
     let x : n.offset ≡ m.offset + length left.octets.now = g ∙ ap (λ z. m.offset + z) q in
     no_header left.octets.now at.end at.around later more at.ends_are at.octets_are some none
-    (ahead_is n m.octets.now (m.offset + length left.octets.now) (ends_of m) later more o x ends ahead)
+    (AreFronts-ahead n m.octets.now (m.offset + length left.octets.now) (ends_of m) later more o x ends ahead)
     (ap (λ z. z ∷ later) is) (ap (λ z. z ++ more) faults)
-step_goes m n left f (Out size) own later more at (within, is, inl (two, begins, none)) (o, g, ends) ahead =
+IsAhead-step m n left f (Out size) own later more at (within, is, inl (two, begins, none)) (o, g, ends) ahead =
     let x : n.offset ≡ m.offset + 2 = g ∙ ap (λ z. m.offset + z) two in
     subst (λ z. IsAhead m (f ∷ later) (z ++ more)) (sym none)
     (ended_by_octets at.end at.around later at.ends_are (sym at.form ∙ within)
     (subst (λ z. begins_with_end z ≡ true) at.octets_are begins)
-    (ahead_is n m.octets.now (m.offset + 2) at.around later more o x (ends ∙ drop-ends_of m left at) ahead)
+    (AreFronts-ahead n m.octets.now (m.offset + 2) at.around later more o x (ends ∙ drop-ends_of m left at) ahead)
     (ap (λ z. z ∷ later) (is ∙ ap (λ z. end_of_contents m.offset z (length at.around)) two)))
-step_goes m n left f (Out size) own later more at (within, is, inr (zero, none, faults)) (o, g, ends) ahead =
+IsAhead-step m n left f (Out size) own later more at (within, is, inr (zero, none, faults)) (o, g, ends) ahead =
     let x : n.offset ≡ m.offset = omega (arith, g, zero) in
     end_missing at.end at.around later more at.ends_are (sym at.form ∙ within) (sym at.octets_are ∙ none)
-    (ahead_is n m.octets.now m.offset at.around later more o x (ends ∙ drop-ends_of m left at) ahead)
+    (AreFronts-ahead n m.octets.now m.offset at.around later more o x (ends ∙ drop-ends_of m left at) ahead)
     (ap (λ z. z ∷ later) (is ∙ ap (λ z. end_of_contents m.offset z (length at.around)) zero))
     (ap (λ z. z ++ more) faults)
 
 -- contents octets that have ended were left
-left_ahead :
+AreFronts-left :
     (octets : List ℕ) (offset : ℕ) (old new : List End) (fronts : List Front) (faults : List ℕ) →
     HasLeft octets offset old new → AreFronts octets offset new fronts faults →
     AreFronts octets offset old fronts faults
-left_ahead octets offset old new fronts faults (none_left e) h =
+AreFronts-left octets offset old new fronts faults (none_left e) h =
     subst (λ z. AreFronts octets offset z fronts faults) (sym e) h
-left_ahead octets offset old new fronts faults (one_left end around e form none left) h =
-    one_ended end around e form none (left_ahead octets offset around new fronts faults left h)
+AreFronts-left octets offset old new fronts faults (one_left end around e form none left) h =
+    one_ended end around e form none (AreFronts-left octets offset around new fronts faults left h)
 
-pub ahead_back :
+pub IsAhead-back :
     (k m : Cursor) (fronts : List Front) (faults : List ℕ) → m.octets.now ≡ k.octets.now → m.offset ≡ k.offset →
     HasLeft m.octets.now m.offset (ends_of k) (ends_of m) → IsAhead m fronts faults → IsAhead k fronts faults
-ahead_back k m fronts faults o g left h =
+IsAhead-back k m fronts faults o g left h =
     subst (λ z. AreFronts z k.offset (ends_of k) fronts faults) o
     (subst (λ z. AreFronts m.octets.now z (ends_of k) fronts faults) g
-    (left_ahead m.octets.now m.offset (ends_of k) (ends_of m) fronts faults left h))
+    (AreFronts-left m.octets.now m.offset (ends_of k) (ends_of m) fronts faults left h))
 
-pub ahead_none :
+pub IsAhead-none :
     (k m : Cursor) → m.octets.now ≡ k.octets.now → m.offset ≡ k.offset →
     HasLeft m.octets.now m.offset (ends_of k) (ends_of m) → ends_of m ≡ [] → IsAhead k [] []
-ahead_none k m o g left none = ahead_back k m [] [] o g left (all_ended none refl refl)
+IsAhead-none k m o g left none = IsAhead-back k m [] [] o g left (all_ended none refl refl)
 
-first_some :
+IsFirst-header_some :
     (left : List ℕ) (offset depth : ℕ) (f : Front) (opened : Bool) (own : List ℕ) →
     IsFirst left offset depth f opened own → 0 < f.header
-first_some left offset depth f opened own h =
+IsFirst-header_some left offset depth f opened own h =
     BeginsWithHeader-some left f.header f.contents h.class h.constructed h.tag h.header
 
-pub next_takes :
+pub Takes-next :
     (offset depth : ℕ) (left : Left) (f : Front) (step : Step) (own : List ℕ) →
     StartsNext left offset depth f step own → Takes step left
-next_takes offset depth left f (Into header size indefinite) own (e, some, (p, q, i, first)) =
-    (omega (arith, p, first_some left.octets.now offset depth f true own first), some)
-next_takes offset depth left f (Past size) own (e, some, inl (q, first)) =
-    let h = first_some left.octets.now offset depth f false own first in
+Takes-next offset depth left f (Into header size indefinite) own (e, some, (p, q, i, first)) =
+    (omega (arith, p, IsFirst-header_some left.octets.now offset depth f true own first), some)
+Takes-next offset depth left f (Past size) own (e, some, inl (q, first)) =
+    let h = IsFirst-header_some left.octets.now offset depth f false own first in
     let t : 0 < size_in left.octets.now f =
     taken-some f.indefinite (f.header + f.contents) (length left.octets.now) (omega (arith, h)) some in
     (omega (arith, q, t), some)
-next_takes offset depth left f (Past size) own (e, some, inr (q, none, is, faults)) = (omega (arith, q, some), some)
-next_takes offset depth left f (Out size) own is = tt
+Takes-next offset depth left f (Past size) own (e, some, inr (q, none, is, faults)) = (omega (arith, q, some), some)
+Takes-next offset depth left f (Out size) own is = tt
 
 -- what is left stands at the offset
-pub left_stands : (octets left : List ℕ) (offset end : ℕ) → left ≡ slice_range octets offset end →
+pub StandAt-left : (octets left : List ℕ) (offset end : ℕ) → left ≡ slice_range octets offset end →
     StandAt octets offset left
-left_stands octets left offset end e =
+StandAt-left octets left offset end e =
     let rest = drop offset octets in (
       drop (end - offset) rest,
       sym (take-append-drop (end - offset) rest) ∙ ap (λ z. z ++ drop (end - offset) rest) (sym e),

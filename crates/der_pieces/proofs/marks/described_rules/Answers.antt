@@ -2,7 +2,7 @@
 use Rattle.std.proofs.Common.{◌≡◌, ap, arith, map, subst}
 use Rattle.std.proofs.lemmas.List.{take_all}
 use Rattle.der_pieces.specs.Marks.{rule_breach, breach_of}
-use Rattle.der_pieces.proofs.Breach.{described_at}
+use Rattle.der_pieces.proofs.Breach.{map-breach_of_more}
 use Rattle.der_pieces.proofs.marks.described_rules.Goals as goal
 
 pub loop-rule-init : goal.loop-rule-init
@@ -10,7 +10,7 @@ loop-rule-init c = ap (map breach_of) c.new-broken.ensures.items
 
 pub loop-rule-preserved : goal.loop-rule-preserved
 loop-rule-preserved c =
-    described_at c.args.rules.now c.loop-rule.rule-index _ c.loop-rule.broken.items _ c.rule_breach.result
+    map-breach_of_more c.args.rules.now c.loop-rule.rule-index _ c.loop-rule.broken.items _ c.rule_breach.result
     c.loop-rule-test.true c.rule_breach.ensures c.in_ok-push.ensures.items c.loop-rule.invariant
 
 pub returns : goal.returns

@@ -4,7 +4,7 @@ use Rattle.std.specs.Prelude.{None, Some}
 use Rattle.asn1_headers.specs.Fault.{incomplete}
 use Rattle.der_pieces.specs.Pieces.{fault_offset}
 use Rattle.der_pieces.specs.Steps.{StartsWith, header_front}
-use Rattle.der_pieces.proofs.Pieces.{cut_starts, named_at}
+use Rattle.der_pieces.proofs.Pieces.{StartsWith-cut, fault_offset-named}
 use Rattle.der_pieces.proofs.piece.cut.Goals as goal
 
 pub returns : goal.returns
@@ -17,8 +17,9 @@ returns c =
           subst (λ z. StartsWith c.args.left.now c.args.offset depth
           (header_front c.args.offset depth z None c.args.header) c.step_of-step.result faults)
           (sym c.none.ensures.rules)
-          (cut_starts c.args.left.now c.args.offset depth c.args.header c.step_of-step.result faults r.front r.cut
-          r.form c.step_of-step.ensures (named_at c.args.offset incomplete (Some c.in_ok-fault_at.field-0) named));
+          (StartsWith-cut c.args.left.now c.args.offset depth c.args.header c.step_of-step.result faults r.front r.cut
+          r.form c.step_of-step.ensures (fault_offset-named c.args.offset incomplete (Some c.in_ok-fault_at.field-0)
+          named));
       kind = (r.front, r.cut, c.split_at.ensures.back, named);
       offset_is = refl;
       place_is = refl;

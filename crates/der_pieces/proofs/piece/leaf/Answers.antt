@@ -1,7 +1,7 @@
 -- For `piece::leaf`: what it returns is right.
 use Rattle.std.proofs.Common.{◌+◌, drop, length, refl, slice_range}
 use Rattle.der_pieces.specs.Pieces.{meaning_of}
-use Rattle.der_pieces.proofs.Pieces.{leaf_judged, leaf_means, whole_rules, whole_starts}
+use Rattle.der_pieces.proofs.Pieces.{IsJudgedAs-leaf, HasMeaningAs-leaf, AreFirstRules-whole, StartsWith-whole}
 use Rattle.der_pieces.proofs.piece.leaf.Goals as goal
 
 pub returns : goal.returns
@@ -11,15 +11,15 @@ returns c =
     let offset = c.args.offset in
     let header = c.args.header in
     let rules = c.in_ok-breaches.breaches.rules.items in
-    let first = whole_rules left header rules r.whole c.in_ok-breaches.ensures.rules in
+    let first = AreFirstRules-whole left header rules r.whole c.in_ok-breaches.ensures.rules in
     let read = c.in_ok-value.ensures r.front in
     let value = c.in_ok-value.field-0.value in
     let meaning = meaning_of (slice_range left header.size (header.size + header.announced)) value in
     record {
-      starts = λ depth. whole_starts left offset depth rules meaning header c.size_of.result c.step_of-step.result _
+      starts = λ depth. StartsWith-whole left offset depth rules meaning header c.size_of.result c.step_of-step.result _
           r.front r.form
-          (leaf_judged left offset depth rules meaning header value _ r.front r.whole r.closed read)
-          (leaf_means left offset depth rules header value _ (drop (length r.front.identifier) left) read)
+          (IsJudgedAs-leaf left offset depth rules meaning header value _ r.front r.whole r.closed read)
+          (HasMeaningAs-leaf left offset depth rules header value _ (drop (length r.front.identifier) left) read)
           first c.step_of-step.ensures c.size_of.ensures;
       kind = (r.front, r.whole, r.closed, refl, read);
       offset_is = refl;

@@ -1,7 +1,7 @@
 -- For `piece::opened`: what it returns is right.
 use Rattle.std.proofs.Common.{ap, inl, refl, slice_range}
 use Rattle.std.specs.Prelude.{None}
-use Rattle.der_pieces.proofs.Pieces.{opened_judged, whole_rules, whole_starts}
+use Rattle.der_pieces.proofs.Pieces.{IsJudgedAs-opened, AreFirstRules-whole, StartsWith-whole}
 use Rattle.der_pieces.proofs.piece.opened.Goals as goal
 
 pub returns : goal.returns
@@ -11,12 +11,12 @@ returns c =
     let offset = c.args.offset in
     let header = c.args.header in
     let rules = c.in_ok-breaches.breaches.rules.items in
-    let first = whole_rules left header rules r.whole c.in_ok-breaches.ensures.rules in
+    let first = AreFirstRules-whole left header rules r.whole c.in_ok-breaches.ensures.rules in
     let fault = c.in_ok-fault.ensures r.front in
     record {
-      starts = λ depth. whole_starts left offset depth rules None header c.size_of-size.result
+      starts = λ depth. StartsWith-whole left offset depth rules None header c.size_of-size.result
           c.step_of-step.result _ r.front r.form
-          (opened_judged left offset depth rules header _ r.front r.whole r.opened fault) (inl r.opened) first
+          (IsJudgedAs-opened left offset depth rules header _ r.front r.whole r.opened fault) (inl r.opened) first
           c.step_of-step.ensures c.size_of-size.ensures;
       kind = (
         r.front,

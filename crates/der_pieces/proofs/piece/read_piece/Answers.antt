@@ -4,7 +4,7 @@ use Rattle.std.proofs.lemmas.Result.{IfOk-weaker}
 use Rattle.std.proofs.lemmas.Grind.{common_steps}
 use Rattle.std.specs.Prelude.{◌&&◌}
 use Rattle.der_elements.specs.Ends.{begins_with_end}
-use Rattle.der_pieces.proofs.Pieces.{next_piece}
+use Rattle.der_pieces.proofs.Pieces.{IsPiece-first}
 use Rattle.der_pieces.proofs.piece.read_piece.Goals as goal
 
 pub returns : goal.returns
@@ -13,5 +13,5 @@ returns c =
     let none : (left.is_indefinite && begins_with_end left.octets.now) ≡ false =
     sym c.begins_with_end.ensures ∙ c.if-begins_with_end.false in
     let some : 0 < length left.octets.now = grind (arith, common_steps) in
-    IfOk-weaker c.first_piece.result _ _ (λ piece. next_piece left c.args.offset c.args.place piece none some)
+    IfOk-weaker c.first_piece.result _ _ (λ piece. IsPiece-first left c.args.offset c.args.place piece none some)
     c.first_piece.ensures

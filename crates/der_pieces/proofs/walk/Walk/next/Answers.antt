@@ -4,14 +4,14 @@ use Rattle.der_pieces.specs.Fronts.{StandAt}
 use Rattle.der_pieces.specs.PieceFields.{IsSpotIn}
 use Rattle.der_pieces.specs.Pieces.{IsHolding, IsKind, fault_offset, front_of}
 use Rattle.der_elements.specs.Steps.{to_go}
-use Rattle.der_pieces.proofs.Walks.{ahead_back, ahead_none, next_takes, step_goes}
+use Rattle.der_pieces.proofs.Walks.{IsAhead-back, IsAhead-none, Takes-next, IsAhead-step}
 use Rattle.der_elements.proofs.Cursors.{length-ends, octets-step, to_go-left_le, to_go-step_lt}
-use Rattle.der_pieces.proofs.Walks.{left_stands}
+use Rattle.der_pieces.proofs.Walks.{StandAt-left}
 use Rattle.der_pieces.proofs.walk.Walk.next.Goals as goal
 
 pub returns-in_default-clause-passes : goal.returns-in_default-clause-passes
 returns-in_default-clause-passes c =
-    ahead_none c.args.self.now.cursor c.next.new.self c.next.ensures.octets c.next.ensures.offset c.next.ensures.ended
+    IsAhead-none c.args.self.now.cursor c.next.new.self c.next.ensures.octets c.next.ensures.offset c.next.ensures.ended
     c.in_default.ensures.none
 
 pub returns-clause-passes : goal.returns-clause-passes
@@ -31,14 +31,14 @@ returns-clause-passes c =
     let own = fault_offset piece.fault in
     let starts = p.starts levels in
     let less : to_go n < to_go m =
-    to_go-step_lt m n left piece.step at (next_takes m.offset levels left f piece.step own starts) goes in
+    to_go-step_lt m n left piece.step at (Takes-next m.offset levels left f piece.step own starts) goes in
     let no_more : to_go m ≤ to_go k = to_go-left_le k m e.octets e.offset e.ended in
-    let position = left_stands m.octets.now left.octets.now m.offset at.end.offset at.octets_are in
+    let position = StandAt-left m.octets.now left.octets.now m.offset at.end.offset at.octets_are in
     record {
       levels = levels;
       left = left.octets.now;
-      ahead = λ later more ahead. ahead_back k m _ _ e.octets e.offset e.ended
-          (step_goes m n left f piece.step own later more at starts goes ahead);
+      ahead = λ later more ahead. IsAhead-back k m _ _ e.octets e.offset e.ended
+          (IsAhead-step m n left f piece.step own later more at starts goes ahead);
       position = subst (λ z. StandAt k.octets.now z left.octets.now) (sym p.offset_is)
           (subst (λ z. StandAt z m.offset left.octets.now) e.octets position);
       kind = subst (λ z. IsKind left.octets.now z piece.kind piece.fault) (sym p.offset_is) p.kind;
