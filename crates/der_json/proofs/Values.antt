@@ -6,6 +6,7 @@ use Rattle.std.specs.Str.{chars}
 use Rattle.asn1_numbers.specs.TwosComplement.{signed_number}
 use Rattle.asn1_headers.specs.declared.header.ASN1Class.{ASN1Class}
 use Rattle.asn1_headers.specs.declared.header.ASN1Class.TheVariants.{Application, ContextSpecific, Private, Universal}
+use Rattle.asn1_headers.specs.declared.tags.TheConstants.{ENUMERATED, UNIVERSAL_STRING, BMP_STRING}
 use Rattle.asn1_leaves.specs.DottedDecimal.{dotted_decimal}
 use Rattle.asn1_leaves.specs.StringKind.{bmp, ia5, printable, teletex, universal, utf8}
 use Rattle.asn1_blocks.specs.Contents.{is_leaf_tag, is_string_tag, leaf_tag}
@@ -42,7 +43,7 @@ leaf_no_text (text bmp cs) = refl
 leaf_no_text (utc_time m) = refl
 leaf_no_text (generalized_time m) = refl
 
-leaf_no_enumerated : (l : Leaf) → (leaf_tag l == 10) ≡ false
+leaf_no_enumerated : (l : Leaf) → (leaf_tag l == ENUMERATED) ≡ false
 leaf_no_enumerated (boolean b) = refl
 leaf_no_enumerated (integer n) = refl
 leaf_no_enumerated (bit_string n v) = refl
@@ -70,14 +71,14 @@ both_false false b e f = f
 no_leaf_narrow : (tag : ℕ) → is_leaf_tag tag ≡ false → is_wide_tag tag ≡ false
 no_leaf_narrow tag none =
     let strings = (or_false _ (is_string_tag tag) none).1 in
-    let (others, bmp_no) = or_false _ (tag == 30) strings in
-    both_false (tag == 28) (tag == 30) (or_false _ (tag == 28) others).1 bmp_no
+    let (others, bmp_no) = or_false _ (tag == BMP_STRING) strings in
+    both_false (tag == UNIVERSAL_STRING) (tag == BMP_STRING) (or_false _ (tag == UNIVERSAL_STRING) others).1 bmp_no
 
 module _ (class : ASN1Class) (tag : ℕ) (contents : List ℕ) (u : class ≡ Universal) where
   type_text : (b : Bool) → has_text tag ≡ b → is_text_type class tag ≡ b
   type_text b e = subst (λ z. is_text_type z tag ≡ b) (sym u) e
 
-  no_other : (tag == 10) ≡ false → other_value class tag contents ≡ None
+  no_other : (tag == ENUMERATED) ≡ false → other_value class tag contents ≡ None
   no_other e =
       subst (λ z. other_value z tag contents ≡ None) (sym u)
       (ap (λ z. if z then Some (whole_json (signed_number contents)) else None) e)
@@ -138,7 +139,7 @@ module _ (offset : ℕ) (class : ASN1Class) (tag : ℕ) (contents : List ℕ) wh
       with_value (type_text class tag contents u false (subst (λ z. has_text z ≡ false) (sym t) (leaf_no_text l))) wide
       (leaf 0 l) (λ all header e. Encodes-leaf all contents class false tag header e l (u, t, means))
       (of_block
-      (no_other class tag contents u (subst (λ z. (z == 10) ≡ false) (sym t) (leaf_no_enumerated l))) is)
+      (no_other class tag contents u (subst (λ z. (z == ENUMERATED) ≡ false) (sym t) (leaf_no_enumerated l))) is)
       refl refl
 
   plain_shown : (l : Leaf) (json : Data) → is_wide_tag (leaf_tag l) ≡ false → IsLeaf class tag contents l →

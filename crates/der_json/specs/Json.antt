@@ -19,6 +19,7 @@ use Rattle.asn1_headers.specs.Header.{Encoding}
 use Rattle.asn1_headers.specs.declared.header.ASN1Class.{ASN1Class}
 use Rattle.asn1_headers.specs.Names.{class_name, fault_name, type_name}
 use Rattle.asn1_headers.specs.declared.header.ASN1Class.TheVariants.{Universal}
+use Rattle.asn1_headers.specs.declared.tags.TheConstants.{ENUMERATED}
 use Rattle.asn1_leaves.specs.DottedDecimal.{dotted_decimal}
 use Rattle.asn1_blocks.specs.Contents.{LeafFault}
 use Rattle.asn1_blocks.specs.Grammar.{Encodes}
@@ -104,7 +105,7 @@ IsValue contents (unknown class constructed offset tag octets) value = value ≡
 
 -- the number of an ENUMERATED, which the library does not read (X.690 8.4)
 abbrev pub other_value : ASN1Class → ℕ → List ℕ → Option Data
-other_value Universal tag contents = if tag == 10 then Some (whole_json (signed_number contents)) else None
+other_value Universal tag contents = if tag == ENUMERATED then Some (whole_json (signed_number contents)) else None
 other_value class tag contents = None
 
 -- values of the type are text, which the library does not read
