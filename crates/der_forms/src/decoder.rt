@@ -10,7 +10,7 @@ use crate::base64_text::decode;
 use base64::DecodeError;
 use std::alloc::{AllocError, Global};
 
-// Fewer symbols are not decoded by themselves.
+// How many symbols are decoded at once, at least.
 const LEAST_SYMBOLS: usize = 4096;
 
 // What the first symbols spell, and those behind them.
@@ -23,7 +23,7 @@ pub struct Decoder {
 }
 
 impl Decoder {
-    // One that has read no symbols.
+    // A decoder that has read no symbols.
     pub fn new(alloc: Global, is_early: bool) -> Decoder
         ensures none { symbols_read result ≡ [] }
         ensures whole { IsWhole result }

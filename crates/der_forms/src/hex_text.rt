@@ -1,5 +1,5 @@
 // Text in hex digits.
-ghost use Rattle.std.specs.Prelude.{◌≡◌, ◌++◌, ◌==◌, IfOk, MatchOption, None, Ok, OnOk, drop};
+ghost use Rattle.std.specs.Prelude.{◌≡◌, ◌++◌, ◌==◌, ◌∷◌, ◌<◌, [], length, IfOk, MatchOption, None, Ok, OnOk, drop};
 ghost use Rattle.std.specs.Char.{is_ascii_hexdigit};
 ghost use Rattle.std.specs.List.{list_all};
 ghost use Rattle.std.specs.Result.{result_ok};
@@ -163,18 +163,32 @@ pub fn push_digits(text: &[u8], digits: &mut Vec<u8>) -> Result<(), AllocError>
     ensures { OnOk result (digits.new.items ≡ digits.old.items ++ without_separators text.now) }
 {
     let mut rest = text;
+    while let Some((symbol, after)) = next_symbol(rest) {
+        digits.push(symbol)?;
+        rest = after;
+    }
+    Ok(())
+}
+
+// The first symbol of a text without its separators, and the text behind it.
+pub fn next_symbol(text: &[u8]) -> Option<(u8, &[u8])>
+    ensures { MatchOption result (without_separators text.now ≡ [])
+        (λ next. (without_separators text.now ≡ next.0 ∷ without_separators next.1.now)
+        × (length next.1.now < length text.now)) }
+{
+    let mut rest = text;
     while !rest.is_empty() {
         if begins_prefix(rest) {
             rest = &rest[2..];
         } else {
             let symbol = rest[0];
-            if !may_separate(symbol) {
-                digits.push(symbol)?;
-            }
             rest = &rest[1..];
+            if !may_separate(symbol) {
+                return Some((symbol, rest));
+            }
         }
     }
-    Ok(())
+    None
 }
 
 // Whether the text begins with what may stand before two digits.

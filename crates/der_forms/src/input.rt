@@ -15,7 +15,7 @@ use crate::lines::{Lines, is_pem, without_mark};
 use crate::objects::{PemFault, fault_of_end, next_object};
 use crate::text::text_of;
 use crate::unknown::{form_left_out, form_unknown};
-use crate::{base64_text, decoder, hex_text, left_out, source_text};
+use crate::{base64_text, decoder, hex_decoder, hex_text, left_out, source_text};
 use std::alloc::{AllocError, Global};
 use thiserror::Error;
 
@@ -73,6 +73,16 @@ fn text_form(alloc: Global, text: &[u8]) -> Result<Form, AllocError>
 
 // The form of text without lines left out.
 fn symbols_form(alloc: Global, text: &[u8]) -> Result<Form, AllocError>
+    ensures { IfOk result (λ form. shown form ≡ of_symbols text.now) }
+{
+    match hex_decoder::octets_in(alloc, text)? {
+        Some(octets) if !octets.is_empty() => Ok(Form::Spelled(octets)),
+        _ => symbols_form_late(alloc, text),
+    }
+}
+
+// The form of text whose digits are decoded when all are read.
+fn symbols_form_late(alloc: Global, text: &[u8]) -> Result<Form, AllocError>
     ensures { IfOk result (λ form. shown form ≡ of_symbols text.now) }
 {
     let digits = hex_text::digits_in(alloc, text)?;

@@ -34,7 +34,7 @@ fn is_blank(text: &[u8]) -> bool
     true
 }
 
-// Whether one of the lines says so.
+// Whether a line of the text says that lines like the one before it are left out.
 pub fn are_some_left_out(text: &[u8]) -> bool
     ensures { result ≡ some_left_out (lines_of text.now) }
 {

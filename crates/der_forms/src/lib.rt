@@ -8,6 +8,7 @@
 mod base64_text;
 mod breaks;
 mod decoder;
+mod hex_decoder;
 mod hex_text;
 mod input;
 mod left_out;

@@ -47,7 +47,7 @@ pub enum Ending {
 pub struct PemObject<'a> {
     /// The text between `-----BEGIN ` and `-----` in its first line: ASCII by RFC 7468, or any octets.
     pub label: &'a [u8],
-    /// The number of that line, the first being 1.
+    /// The number of the line that begins it, the first being 1.
     pub line: usize,
     /// What the symbols of the object spell.
     pub octets: Result<Vec<u8>, PemFault>,
