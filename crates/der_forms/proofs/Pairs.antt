@@ -1,5 +1,5 @@
 -- Hex digits that are decoded in parts, for `hex_decoder`.
-use Rattle.std.proofs.Common.{◌≡◌, ◌∙◌, ◌+◌, ◌*◌, ◌%◌, ℕ, suc, Bool, true, false, List, [], ◌∷◌, ◌++◌, ap, append_assoc, append-nil, arith, inl, inr, length, refl, sym}
+use Rattle.std.proofs.Common.{◌≡◌, ◌∙◌, ◌+◌, ◌*◌, ◌%◌, ℕ, Bool, true, List, [], ◌∷◌, ◌++◌, ap, append_assoc, append-nil, arith, inl, inr, length, refl, sym}
 use Rattle.std.specs.Prelude.{Err, IfSome, None, Ok, Option, Result, Some, unwrap_or}
 use Rattle.std.specs.Option.{option_and_then, option_map}
 use Rattle.std.specs.Result.{result_ok}

@@ -1,5 +1,5 @@
 // Hex digits that are decoded while they are read, so that not all are held.
-ghost use Rattle.std.specs.Prelude.{◌≡◌, ◌++◌, ◌∷◌, ◌<◌, ℕ, List, [], true, length, IfOk, IfSome, MatchOption, Ok, Some};
+ghost use Rattle.std.specs.Prelude.{◌≡◌, ◌++◌, ◌∷◌, ◌<◌, ℕ, List, [], true, IfOk, IfSome, Ok, Some};
 ghost use Rattle.hex.specs.Hex.{decode_of};
 ghost use Rattle.der_forms.specs.Decoded.{octets_with};
 ghost use Rattle.der_forms.specs.Forms.{digits_of, has_columns, without_separators};
@@ -90,14 +90,12 @@ pub fn octets_in(alloc: Global, text: &[u8]) -> Result<Option<Vec<u8>>, AllocErr
     let mut rest = text;
     while !rest.is_empty() {
         let (line, after) = split_line(rest);
-        if !decoder.read(
-            alloc,
-            if in_columns {
-                digits_column(line)
-            } else {
-                line
-            },
-        )? {
+        let digits = if in_columns {
+            digits_column(line)
+        } else {
+            line
+        };
+        if !decoder.read(alloc, digits)? {
             return Ok(None);
         }
         rest = after;
