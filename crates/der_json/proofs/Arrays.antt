@@ -68,18 +68,18 @@ joined out x y z a b c d e f =
 
 -- one more was put of those at an index
 pub one_read :
-    {A B : Type 0} (json : B → Data) (told : A → B) (xs : List A) (i : ℕ) (d : A) (later : Bool)
-    (before middle comma after : List ℕ) → i < length xs → later ≡ are_some (map told (take i xs)) →
-    middle ≡ before ++ texts json false (map told (take i xs)) → comma ≡ middle ++ comma_if later →
-    after ≡ comma ++ compact_text (json (told (get_or xs i d))) →
-    (true ≡ are_some (map told (take (i + 1) xs)))
-    × (after ≡ before ++ texts json false (map told (take (i + 1) xs)))
-one_read json told xs i d later before middle comma after within some m c e =
-    let told_before = map told (take i xs) in
+    {A B : Type 0} (json : B → Data) (meaning : A → B) (xs : List A) (i : ℕ) (d : A) (later : Bool)
+    (before middle comma after : List ℕ) → i < length xs → later ≡ are_some (map meaning (take i xs)) →
+    middle ≡ before ++ texts json false (map meaning (take i xs)) → comma ≡ middle ++ comma_if later →
+    after ≡ comma ++ compact_text (json (meaning (get_or xs i d))) →
+    (true ≡ are_some (map meaning (take (i + 1) xs)))
+    × (after ≡ before ++ texts json false (map meaning (take (i + 1) xs)))
+one_read json meaning xs i d later before middle comma after within some m c e =
+    let meanings = map meaning (take i xs) in
     let x = get_or xs i d in
-    let more : map told (take (i + 1) xs) ≡ told_before ++ told x ∷ [] =
-    ap (map told) (take_more xs i d within) ∙ map-append told (take i xs) (x ∷ []) in (
-      some_more told_before (told x) ∙ ap are_some (sym more),
-      one_text json told_before (told x) later before middle comma after some m c e
+    let more : map meaning (take (i + 1) xs) ≡ meanings ++ meaning x ∷ [] =
+    ap (map meaning) (take_more xs i d within) ∙ map-append meaning (take i xs) (x ∷ []) in (
+      some_more meanings (meaning x) ∙ ap are_some (sym more),
+      one_text json meanings (meaning x) later before middle comma after some m c e
           ∙ ap (λ z. before ++ texts json false z) (sym more),
     )

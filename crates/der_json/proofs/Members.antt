@@ -49,8 +49,8 @@ fault_end None others rest e = e
 fault_end (Some f) others rest e = ap (λ z. fault_text (Some f) ++ z) e
 
 not_der_end :
-    (told : List Breach) (others : Members) (rest : List ℕ) → rest ≡ members_text true others →
-    rules_text told ++ rest ≡ members_text true (rules_if told others)
+    (broken : List Breach) (others : Members) (rest : List ℕ) → rest ≡ members_text true others →
+    rules_text broken ++ rest ≡ members_text true (rules_if broken others)
 unfolding serde_json_on_literals
 not_der_end [] others rest e = e
 not_der_end (t ∷ more) others rest e = ap (λ z. rules_text (t ∷ more) ++ z) e
@@ -92,23 +92,23 @@ type_end (Some t) others rest e = ap (λ z. (codes ",\"of\":" ++ compact_text (s
 
 -- the members that not every object has behind its names, and the closing bracket
 others_end :
-    (name shown octets : Option (List ℕ)) (told : List Breach) (fault : Option FaultData) (inside : Option Items) →
+    (name shown octets : Option (List ℕ)) (broken : List Breach) (fault : Option FaultData) (inside : Option Items) →
     (text_member (codes ",\"name\":") name ++ (text_member (codes ",\"shown\":") shown
     ++ (text_member (codes ",\"octets\":") octets
-    ++ (rules_text told ++ fault_text fault)))) ++ (blocks_text inside ++ 125 ∷ [])
+    ++ (rules_text broken ++ fault_text fault)))) ++ (blocks_text inside ++ 125 ∷ [])
     ≡ members_text true (member_if (codes "name") name (member_if (codes "shown") shown
-    (member_if (codes "octets") octets (rules_if told (fault_if fault (blocks_if inside))))))
-others_end name shown octets told fault inside =
+    (member_if (codes "octets") octets (rules_if broken (fault_if fault (blocks_if inside))))))
+others_end name shown octets broken fault inside =
     let end = blocks_text inside ++ 125 ∷ [] in
     let last = fault_end fault (blocks_if inside) end (blocks_end inside) in
-    let rules = rules_if told (fault_if fault (blocks_if inside)) in
-    let marked = not_der_end told (fault_if fault (blocks_if inside)) _ last in
+    let rules = rules_if broken (fault_if fault (blocks_if inside)) in
+    let marked = not_der_end broken (fault_if fault (blocks_if inside)) _ last in
     let digits = octets_end octets rules _ marked in
     let beside = shown_end shown (member_if (codes "octets") octets rules) _ digits in
     let n = text_member (codes ",\"name\":") name in
     let s = text_member (codes ",\"shown\":") shown in
     let o = text_member (codes ",\"octets\":") octets in
-    let d = rules_text told in
+    let d = rules_text broken in
     let f = fault_text fault in
     joined_front n (s ++ (o ++ (d ++ f))) end (s ++ (o ++ (d ++ (f ++ end))))
     (joined_front s (o ++ (d ++ f)) end (o ++ (d ++ (f ++ end)))
@@ -117,28 +117,28 @@ others_end name shown octets told fault inside =
 
 -- so with the names of its field
 named_end :
-    (field of name shown octets : Option (List ℕ)) (told : List Breach) (fault : Option FaultData)
+    (field of name shown octets : Option (List ℕ)) (broken : List Breach) (fault : Option FaultData)
     (inside : Option Items) →
     (text_member (codes ",\"field\":") field ++ (text_member (codes ",\"of\":") of
     ++ (text_member (codes ",\"name\":") name ++ (text_member (codes ",\"shown\":") shown
     ++ (text_member (codes ",\"octets\":") octets
-    ++ (rules_text told ++ fault_text fault)))))) ++ (blocks_text inside ++ 125 ∷ [])
+    ++ (rules_text broken ++ fault_text fault)))))) ++ (blocks_text inside ++ 125 ∷ [])
     ≡ members_text true (member_if (codes "field") field (member_if (codes "of") of
     (member_if (codes "name") name (member_if (codes "shown") shown
-    (member_if (codes "octets") octets (rules_if told (fault_if fault (blocks_if inside))))))))
-named_end field of name shown octets told fault inside =
+    (member_if (codes "octets") octets (rules_if broken (fault_if fault (blocks_if inside))))))))
+named_end field of name shown octets broken fault inside =
     let end = blocks_text inside ++ 125 ∷ [] in
     let f = text_member (codes ",\"field\":") field in
     let t = text_member (codes ",\"of\":") of in
     let o =
     text_member (codes ",\"name\":") name ++ (text_member (codes ",\"shown\":") shown
-    ++ (text_member (codes ",\"octets\":") octets ++ (rules_text told ++ fault_text fault))) in
+    ++ (text_member (codes ",\"octets\":") octets ++ (rules_text broken ++ fault_text fault))) in
     let others =
     member_if (codes "name") name (member_if (codes "shown") shown
-    (member_if (codes "octets") octets (rules_if told (fault_if fault (blocks_if inside))))) in
+    (member_if (codes "octets") octets (rules_if broken (fault_if fault (blocks_if inside))))) in
     joined_front f (t ++ o) end (t ++ (o ++ end)) (append_assoc t o end)
     ∙ field_end field (member_if (codes "of") of others) (t ++ (o ++ end))
-    (type_end of others (o ++ end) (others_end name shown octets told fault inside))
+    (type_end of others (o ++ end) (others_end name shown octets broken fault inside))
 
 nine_front :
     (m0 m1 m2 m3 m4 m5 m6 m7 m8 rest : List ℕ) →
@@ -178,13 +178,13 @@ blocks_put out a b items d e = put_after out (codes ",\"blocks\":[") (items_text
 
 -- the member of the rules that are broken
 pub rules_put :
-    (out a b : List ℕ) (told : List Breach) → 0 < length told → a ≡ out ++ codes ",\"not_der\":[" →
-    b ≡ a ++ items_text false (items_of rule_json told) → b ≡ out ++ rules_text told
+    (out a b : List ℕ) (broken : List Breach) → 0 < length broken → a ≡ out ++ codes ",\"not_der\":[" →
+    b ≡ a ++ items_text false (items_of rule_json broken) → b ≡ out ++ rules_text broken
 unfolding serde_json_on_literals
 rules_put out a b [] some d e = absurd (omega (arith, some))
 rules_put out a b (t ∷ more) some d e =
     put_after out (codes ",\"not_der\":[") (items_text false (items_of rule_json (t ∷ more))) a b d e
 
-pub no_rules : (told : List Breach) → length told ≡ 0 → rules_text told ≡ []
+pub no_rules : (broken : List Breach) → length broken ≡ 0 → rules_text broken ≡ []
 no_rules [] e = refl
-no_rules (x ∷ told) e = absurd (omega (arith, e))
+no_rules (x ∷ broken) e = absurd (omega (arith, e))

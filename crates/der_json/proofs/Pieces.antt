@@ -36,20 +36,20 @@ primitive_closed class constructed tag e =
     subst (λ z. is_gone_into class z tag ≡ false) (is_gone_into-primitive class constructed tag e) e
 
 -- what the fault tells
-told_named :
+fault_data-named :
     (offset at : ℕ) (found : DecodeFault) (fault : Option PieceFault) → IsFault (IsNamed offset found) fault →
     (words : List ℕ) × (option_map (placed_data at) fault ≡ Some (named_fault at found words))
-told_named offset at found None none = absurd none
-told_named offset at found (Some f) (o, code) = (
+fault_data-named offset at found None none = absurd none
+fault_data-named offset at found (Some f) (o, code) = (
   string_bytes f.message,
   ap (λ z. Some (record { code = z; offset = Some at; message = string_bytes f.message })) code,
 )
 
-told_nameless :
+fault_data-nameless :
     (offset at : ℕ) (fault : Option PieceFault) → IsFault (IsNameless offset) fault →
     (words : List ℕ) × (option_map (placed_data at) fault ≡ Some (words_fault at words))
-told_nameless offset at None none = absurd none
-told_nameless offset at (Some f) (o, code) = (
+fault_data-nameless offset at None none = absurd none
+fault_data-nameless offset at (Some f) (o, code) = (
   string_bytes f.message,
   ap (λ z. Some (record { code = option_map (λ t. t.now) z; offset = Some at; message = string_bytes f.message })) code,
 )
@@ -139,7 +139,7 @@ slice_size left a b l m =
 module _ (left : List ℕ) (offset depth : ℕ) (rules : List Rule) (object : Object) (inside : Option Items)
     (marks : List Departed)
     (fault : Option PieceFault)
-    (told_is : option_map fault_data object.fault ≡ option_map (placed_data object.offset) fault) where
+    (fault_is : option_map fault_data object.fault ≡ option_map (placed_data object.offset) fault) where
   -- an encoding with the header
   encoding_row :
       {meaning : Option Meaning} (header : Header) (h : IsAtFront left header) →
@@ -164,16 +164,17 @@ module _ (left : List ℕ) (offset depth : ℕ) (rules : List Rule) (object : Ob
   })
 
   no_fault : fault ≡ None → option_map fault_data object.fault ≡ None
-  no_fault none = told_is ∙ ap (option_map (placed_data object.offset)) none
+  no_fault none = fault_is ∙ ap (option_map (placed_data object.offset)) none
 
   end_fault :
       (size : ℕ) → ((size ≡ 2) × (fault ≡ None)) ⊎ ((size ≡ 0) × IsFault (IsNamed offset incomplete) fault) →
       ((size ≡ 2) × (option_map fault_data object.fault ≡ None))
       ⊎ ((size ≡ 0)
-      × ((told : List ℕ) × (option_map fault_data object.fault ≡ Some (named_fault object.offset incomplete told))))
+      × ((text : List ℕ) × (option_map fault_data object.fault ≡ Some (named_fault object.offset incomplete text))))
   end_fault size (inl (two, none)) = inl (two, no_fault none)
   end_fault size (inr (zero, is)) =
-      let (words, told) = told_named offset object.offset incomplete fault is in inr (zero, (words, told_is ∙ told))
+      let (words, named) = fault_data-named offset object.offset incomplete fault is in
+      inr (zero, (words, fault_is ∙ named))
 
   opened_judged :
       {meaning : Option Meaning} (header : Header) (stray : Bool) (contents : List ℕ) (joined : Option Joined) →
@@ -185,8 +186,8 @@ module _ (left : List ℕ) (offset depth : ℕ) (rules : List Rule) (object : Ob
       IsJudged left (header_front offset depth rules meaning header) object.offset header.class header.constructed
       header.tag stray (view object.value) (option_map string_bytes object.octets) (option_map fault_data object.fault)
   opened_judged header stray contents joined o e j (inl (is, there)) v d =
-      let (words, told) = told_nameless offset object.offset fault there in
-      of_stray_form is (v ∙ null_there (IsNameless offset) fault joined there) d words (told_is ∙ told)
+      let (words, named) = fault_data-nameless offset object.offset fault there in
+      of_stray_form is (v ∙ null_there (IsNameless offset) fault joined there) d words (fault_is ∙ named)
   opened_judged header stray contents joined o e j (inr (is, none)) v d =
       with_encodings o
       (subst (λ z. IsOpenedValue header.class header.tag z header.is_indefinite (view object.value)) e
@@ -203,8 +204,8 @@ module _ (left : List ℕ) (offset depth : ℕ) (rules : List Rule) (object : Ob
       AreShown object.offset header.class header.tag contents (view object.value)
       (option_map string_bytes object.octets) (option_map fault_data object.fault)
   meaning_shown header contents None o (u, (found, wrong, is)) v d =
-      let (words, told) = told_named offset object.offset found fault is in
-      with_no_value u found words wrong v (d ∙ wrong_named offset found fault contents is) (told_is ∙ told)
+      let (words, named) = fault_data-named offset object.offset found fault is in
+      with_no_value u found words wrong v (d ∙ wrong_named offset found fault contents is) (fault_is ∙ named)
   meaning_shown header contents (Some value) o (is, none) v d =
       subst (AreShown object.offset header.class header.tag contents (view object.value)
       (option_map string_bytes object.octets)) (sym (no_fault none))
@@ -225,9 +226,9 @@ module _ (left : List ℕ) (offset depth : ℕ) (rules : List Rule) (object : Ob
       header.tag (is_stray_form header.constructed (drop (length h.identifier) left)) (view object.value)
       (option_map string_bytes object.octets) (option_map fault_data object.fault)
   leaf_judged header h contents value o e (inl (stray, none, there)) v d =
-      let (words, told) = told_nameless offset object.offset fault there in
+      let (words, named) = fault_data-nameless offset object.offset fault there in
       of_stray_form stray (v ∙ ap (leaf_json contents) none)
-      (d ∙ (ap (leaf_octets fault contents) none ∙ wrong_nameless offset fault contents there)) words (told_is ∙ told)
+      (d ∙ (ap (leaf_octets fault contents) none ∙ wrong_nameless offset fault contents there)) words (fault_is ∙ named)
   leaf_judged header h contents value o e (inr (stray, is)) v d =
       let all = slice_range left header.size (header.size + header.announced) in
       with_contents o
@@ -252,7 +253,7 @@ module _ (left : List ℕ) (offset depth : ℕ) (rules : List Rule) (object : Ob
     fault = end_fault size k;
   })
   row_is (Unreadable octets) s t v d (same, (found, is)) =
-      let (words, told) = told_named offset object.offset found fault is in
+      let (words, named) = fault_data-named offset object.offset found fault is in
       of_unreadable (record {
         words = refl;
         size = s ∙ ap (λ z. Some (length z)) same;
@@ -263,11 +264,11 @@ module _ (left : List ℕ) (offset depth : ℕ) (rules : List Rule) (object : Ob
         value = v ∙ ap (λ z. string (encode_lower z)) same;
         no_octets = d;
         found = found;
-        told = words;
-        fault = told_is ∙ told;
+        text = words;
+        fault = fault_is ∙ named;
       })
   row_is (Cut header contents) s t v d (h, l, e, is) =
-      let (words, told) = told_named offset object.offset incomplete fault is in
+      let (words, named) = fault_data-named offset object.offset incomplete fault is in
       let n : length (drop header.size left) ≡ length left - header.size = length-drop header.size left in
       let there : length contents.now ≡ length (drop header.size left) = ap length e in
       encoding_row header h
@@ -277,7 +278,7 @@ module _ (left : List ℕ) (offset depth : ℕ) (rules : List Rule) (object : Ob
       (cut_short l
       (v ∙ ap (λ z. if is_gone_into header.class header.constructed header.tag then null else string (encode_lower z))
       e)
-      d words (told_is ∙ told))
+      d words (fault_is ∙ named))
   row_is (Opened header contents joined) s t v d (h, whole, o, e, j, is) =
       let all = header.size + header.announced in
       encoding_row header h

@@ -39,13 +39,13 @@ inside_by documents here contents offset deep None inside marks d e holding (is,
     subst (λ z. IsInside (AreInside documents) contents offset deep z marks) (sym is) none
 inside_by zero here contents offset deep (Some n) inside marks d e (more, stand) is = absurd (omega (arith, more, d))
 inside_by (suc k) here contents offset deep (Some n) inside marks d e (more, stand)
-    (items, is, (rows, are, json, told)) =
+    (items, is, (rows, are, json, marked)) =
     let fewer : here.documents - 1 ≡ k = omega (arith, d) in
     let moved : AreRows (AreInside k) true n.octets.now (offset + n.before) deep rows =
     subst (λ z. AreRows (AreInside k) true n.octets.now (offset + n.before) z rows) (sym e)
     (subst (λ z. AreRows (AreInside z) true n.octets.now (offset + n.before) (suc here.depth) rows) fewer are) in
     subst (λ z. IsInside (AreInside (suc k)) contents offset deep z marks) (sym is)
-    (n.before, n.octets.now, stand, (rows, moved, json, told))
+    (n.before, n.octets.now, stand, (rows, moved, json, marked))
 
 abbrev IsRowAt : Place → List ℕ → Front → Row → Type 0
 IsRowAt place octets = IsRow (AreInside place.documents) place.is_inside octets place.base place.depth
@@ -60,7 +60,7 @@ pub record RowsTo (strict : Bool) (place : Place) (octets : List ℕ) (walk : Wa
   pub same_place : walk.place ≡ place
   pub goes_on : (more : List Front) (others : List ℕ) → IsAhead walk.cursor more others
       → AreFrontsOf octets (fronts ++ more) (faults ++ others)
-  pub told : AllZip (IsRowAt place octets) fronts rows
+  pub each : AllZip (IsRowAt place octets) fronts rows
   pub faults_are : fault_offsets rows ≡ map (λ z. place.base + z) faults
   pub some : later ≡ are_some rows
   pub marks_are : AreListed strict (found_departures found) (marks_of rows)
@@ -81,7 +81,7 @@ rows_none strict place octets walk found a o p ahead none no_fault = record {
   same_octets = o;
   same_place = p;
   goes_on = ahead;
-  told = tt;
+  each = tt;
   faults_are = refl;
   some = refl;
   marks_are = λ _. none;
@@ -112,13 +112,13 @@ first_more : (rs : List Row) (r : Row) → earlier_of (first_fault rs) r.fault �
 first_more [] r = earlier_none r.fault
 first_more (x ∷ xs) r = earlier_after x.fault (first_fault xs) r.fault ∙ ap (earlier_of x.fault) (first_more xs r)
 
-told_offsets :
-    (base offset at : ℕ) (fault : Option PieceFault) (told : Option FaultData) →
-    told ≡ option_map (placed_data at) fault →
+data_offset-placed :
+    (base offset at : ℕ) (fault : Option PieceFault) (shown : Option FaultData) →
+    shown ≡ option_map (placed_data at) fault →
     at ≡ base + offset → IfSome fault (λ f. f.offset ≡ offset) →
-    data_offset told ≡ map (λ z. base + z) (fault_offset fault)
-told_offsets base offset at None told e o there = ap data_offset e
-told_offsets base offset at (Some f) told e o there =
+    data_offset shown ≡ map (λ z. base + z) (fault_offset fault)
+data_offset-placed base offset at None shown e o there = ap data_offset e
+data_offset-placed base offset at (Some f) shown e o there =
     ap data_offset e ∙ ap (λ z. z ∷ []) (o ∙ ap (λ z. base + z) (sym there))
 
 -- one more
@@ -154,7 +154,7 @@ rows_more strict place octets old new piece object inside listed marks later fou
       header = o.header_is;
       depth = o.depth_is ∙ (p.depth ∙ ap (λ z. z.depth + p.levels) s.same_place);
       has_spare_bits = piece.breaches.has_spare_bits;
-      told = o.told;
+      rules = o.rules;
       no_list = λ out. p.no_list ((p.inside ∙ ap (λ z. z.is_inside) s.same_place) ∙ out);
       inside = inside_by place.documents piece.place
           (slice_range p.left (kind_header piece.kind) (kind_header piece.kind + kind_contents piece.kind))
@@ -171,11 +171,11 @@ rows_more strict place octets old new piece object inside listed marks later fou
           subst (λ x. AreFrontsOf octets x ((s.faults ++ own) ++ others)) (sym (append_assoc s.fronts (g ∷ []) more))
           (subst (AreFrontsOf octets (s.fronts ++ g ∷ more)) (sym (append_assoc s.faults own others))
           (s.goes_on (g ∷ more) (own ++ others) (p.ahead more others ahead)));
-      told = all_zipped_more (IsRowAt place octets) s.fronts s.rows g row s.told is;
+      each = all_zipped_more (IsRowAt place octets) s.fronts s.rows g row s.each is;
       faults_are = offsets_more s.rows row
           ∙ (ap (λ z. z ++ data_offset row.fault) s.faults_are
           ∙ (ap (λ z. map (λ y. place.base + y) s.faults ++ z)
-          (told_offsets place.base piece.offset object.offset piece.fault row.fault o.fault_is offset
+          (data_offset-placed place.base piece.offset object.offset piece.fault row.fault o.fault_is offset
           (fault_there p.left piece.offset piece.kind piece.fault p.kind))
           ∙ sym (map-append (λ y. place.base + y) s.faults own)));
       some = some_more s.rows row;
@@ -204,7 +204,7 @@ rows_all strict place octets walk later found a b c s ended e =
     (subst (AreFrontsOf octets (s.fronts ++ [])) (append-nil s.faults) (s.goes_on [] [] ended)) in
     let before = texts row_json false s.rows in
     let are : AreRowsAt place octets s.rows =
-    record { fronts = s.fronts; faults = s.faults; read = all; told = s.told; faults_are = s.faults_are } in (
+    record { fronts = s.fronts; faults = s.faults; read = all; each = s.each; faults_are = s.faults_are } in (
       shown_text (items_text false (items_of row_json s.rows)),
       subst (Appends a c)
           (sym (shown_text-append before (93 ∷ []) refl)

@@ -223,7 +223,7 @@ pub data IsJudged (octets : List ℕ) (front : Front) (offset : ℕ) (class : AS
 -- a rule that is broken, by an encoding at the offset
 pub record Departed : Type 0 where
   pub offset : ℕ
-  pub told : Breach
+  pub rule : Breach
 
 -- what the object of a block tells: how many octets stand before it, how many its identifier and length octets are, how
 -- many it has as far as they are there, and how many blocks are around it; its class, its constructed bit, its tag and
@@ -263,7 +263,7 @@ pub record IsEndRow (front : Front) (row : Row) : Type 0 where
   pub fault :
       ((front.header ≡ 2) × (row.fault ≡ None))
       ⊎ ((front.header ≡ 0)
-      × ((told : List ℕ) × (row.fault ≡ Some (named_fault row.offset incomplete told))))
+      × ((text : List ℕ) × (row.fault ≡ Some (named_fault row.offset incomplete text))))
 
 -- octets that begin with no header
 pub record IsUnreadableRow (octets : List ℕ) (front : Front) (row : Row) : Type 0 where
@@ -276,10 +276,10 @@ pub record IsUnreadableRow (octets : List ℕ) (front : Front) (row : Row) : Typ
   pub value : row.value ≡ string (encode_lower octets)
   pub no_octets : row.octets ≡ None
   pub found : DecodeFault
-  pub told : List ℕ
-  pub fault : row.fault ≡ Some (named_fault row.offset found told)
+  pub text : List ℕ
+  pub fault : row.fault ≡ Some (named_fault row.offset found text)
 
--- an encoding; how many octets it has is told where its length is of the definite form
+-- an encoding; how many octets it has is said where its length is of the definite form
 pub record IsEncodingRow (octets : List ℕ) (front : Front) (row : Row) : Type 0 where
   pub class : ASN1Class
   pub constructed : Bool
@@ -322,18 +322,18 @@ fault_if (Some fault) others = member (codes "fault") (fault_json fault) others
 
 -- the object of a rule that is broken
 abbrev pub rule_members : Breach → Members
-rule_members told =
-    member (codes "rule") (string told.name)
-    (member (codes "section") (string told.section)
-    (member (codes "text") (string told.words) no_members))
+rule_members rule =
+    member (codes "rule") (string rule.name)
+    (member (codes "section") (string rule.section)
+    (member (codes "text") (string rule.words) no_members))
 
 abbrev pub rule_json : Breach → Data
-rule_json told = object (rule_members told)
+rule_json rule = object (rule_members rule)
 
 -- the object of a rule that is broken, with the offset of the encoding
 abbrev pub departed_json : Departed → Data
 departed_json departed =
-    object (member (codes "offset") (number (unsigned departed.offset)) (rule_members departed.told))
+    object (member (codes "offset") (number (unsigned departed.offset)) (rule_members departed.rule))
 
 abbrev pub blocks_if : Option Items → Members
 blocks_if None = no_members
@@ -346,7 +346,7 @@ items_of json (x ∷ xs) = item (json x) (items_of json xs)
 
 abbrev pub rules_if : List Breach → Members → Members
 rules_if [] others = others
-rules_if (told ∷ more) others = member (codes "not_der") (array (items_of rule_json (told ∷ more))) others
+rules_if (rule ∷ more) others = member (codes "not_der") (array (items_of rule_json (rule ∷ more))) others
 
 -- the members that not every object has
 abbrev pub rest_members : Row → Members
@@ -390,7 +390,7 @@ pub record IsRow (Inside : List ℕ → ℕ → ℕ → Items → List Departed 
   pub header : row.header ≡ front.header
   pub depth : row.depth ≡ deep + front.depth
   pub has_spare_bits : Bool
-  pub told : row.not_der ≡ breaches_of front.rules has_spare_bits
+  pub rules : row.not_der ≡ breaches_of front.rules has_spare_bits
   pub no_list : in_string ≡ false → has_spare_bits ≡ false
   pub inside :
       IsInside Inside (slice_range left front.header (front.header + front.contents)) (row.offset + row.header)
@@ -420,12 +420,12 @@ pub record AreRows (Inside : List ℕ → ℕ → ℕ → Items → List Departe
   pub fronts : List Front
   pub faults : List ℕ
   pub read : AreFrontsOf octets fronts faults
-  pub told : AllZip (IsRow Inside in_string octets base deep) fronts rows
+  pub each : AllZip (IsRow Inside in_string octets base deep) fronts rows
   pub faults_are : fault_offsets rows ≡ map (λ offset. base + offset) faults
 
 -- the rules that are broken, by a block at the offset, and by those of rows and inside them
 abbrev pub marks_at : ℕ → List Breach → List Departed
-marks_at offset told = map (λ t. record { offset = offset; told = t }) told
+marks_at offset rules = map (λ rule. record { offset = offset; rule = rule }) rules
 
 abbrev pub mark_of : Row → List Departed
 mark_of row = marks_at row.offset row.not_der ++ row.marks_inside

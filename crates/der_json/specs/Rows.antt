@@ -106,10 +106,10 @@ kind_size (Cut header contents) = encoding_size header contents.now
 kind_size (Opened header contents joined) = encoding_size header contents.now
 kind_size (Leaf header contents value) = encoding_size header contents.now
 
--- what is told of a tag
+-- what is said of a tag
 abbrev pub IsTagWith : Option (List ℕ) → Option Bool → Data → Option (List ℕ) → Tag → Type 0
-IsTagWith class constructed told kind tag =
-    (option_map (λ t. t.now) tag.class ≡ class) × (tag.constructed ≡ constructed) × (view tag.number ≡ told)
+IsTagWith class constructed number kind tag =
+    (option_map (λ t. t.now) tag.class ≡ class) × (tag.constructed ≡ constructed) × (view tag.number ≡ number)
     × (option_map (λ t. t.now) tag.kind ≡ kind)
 
 abbrev pub IsHeaderTag : Header → Tag → Type 0
@@ -125,7 +125,7 @@ IsTagOf (Cut header contents) = IsHeaderTag header
 IsTagOf (Opened header contents joined) = IsHeaderTag header
 IsTagOf (Leaf header contents value) = IsHeaderTag header
 
--- contents octets that mean nothing are told, if they could be read
+-- contents octets that mean nothing are at fault, if they could be read
 abbrev pub wrong_octets : Option PieceFault → List ℕ → Option (List ℕ)
 wrong_octets None contents = None
 wrong_octets (Some fault) contents = if is_some fault.code then Some (encode_lower contents) else None
@@ -173,7 +173,7 @@ pub record IsObject (left : List ℕ) (piece : Piece) (object : Object) : Type 0
   pub depth_is : object.depth ≡ piece.place.depth
   pub row : (depth : ℕ) (inside : Option Items) (marks : List Departed)
       → IsRowOf left (front_of depth piece) (row_of object inside marks)
-  pub told : map breach_of object.not_der.items ≡ breaches_of piece.breaches.rules.items piece.breaches.has_spare_bits
+  pub rules : map breach_of object.not_der.items ≡ breaches_of piece.breaches.rules.items piece.breaches.has_spare_bits
   pub fault_is : option_map fault_data object.fault ≡ option_map (placed_data object.offset) piece.fault
   pub exact : IsExact object
 
@@ -193,7 +193,7 @@ first_members object =
 -- a text behind its name, where there is one
 abbrev pub text_member : List ℕ → Option (List ℕ) → List ℕ
 text_member name None = []
-text_member name (Some told) = name ++ compact_text (string told)
+text_member name (Some text) = name ++ compact_text (string text)
 
 -- the member of a fault, behind others, where there is one
 abbrev pub fault_text : Option FaultData → List ℕ
@@ -203,7 +203,7 @@ fault_text (Some fault) = codes ",\"fault\":" ++ compact_text (fault_json fault)
 -- the member of the rules that are broken, where some are
 abbrev pub rules_text : List Breach → List ℕ
 rules_text [] = []
-rules_text (told ∷ more) = codes ",\"not_der\":" ++ compact_text (array (items_of rule_json (told ∷ more)))
+rules_text (rule ∷ more) = codes ",\"not_der\":" ++ compact_text (array (items_of rule_json (rule ∷ more)))
 
 -- those that not every object has, but for blocks
 abbrev pub last_members : Object → List ℕ
@@ -228,7 +228,7 @@ texts json later (x ∷ xs) = comma_if later ++ (compact_text (json x) ++ texts 
 
 -- what was found in encodings
 abbrev pub departed_of : Departure → Departed
-departed_of departure = record { offset = departure.offset; told = breach_of departure.told }
+departed_of departure = record { offset = departure.offset; rule = breach_of departure.rule }
 
 abbrev pub departures_of : List Departure → List Departed
 departures_of marks = map departed_of marks

@@ -43,14 +43,14 @@ pub fn push_text(
 pub fn push_text_if(
     alloc: Global,
     name: &[u8],
-    told: Option<&str>,
+    text: Option<&str>,
     out: &mut Vec<u8>,
 ) -> Result<(), AllocError>
     ensures { OnOk result (out.new.items
-        ≡ out.old.items ++ text_member name.now (option_map (λ t. t.now) told.entry)) }
+        ≡ out.old.items ++ text_member name.now (option_map (λ t. t.now) text.entry)) }
 {
-    match told {
-        Some(told) => push_text(alloc, name, told, out),
+    match text {
+        Some(text) => push_text(alloc, name, text, out),
         None => Ok(()),
     }
 }

@@ -91,7 +91,7 @@ impl Object {
 }
 
 fn number_or_null(number: Option<usize>) -> Value
-    ensures told { view result ≡ number_or_null_is number }
+    ensures value { view result ≡ number_or_null_is number }
     ensures exact { has_float (view result) ≡ false }
 {
     match number {
@@ -101,7 +101,7 @@ fn number_or_null(number: Option<usize>) -> Value
 }
 
 fn boolean_or_null(boolean: Option<bool>) -> Value
-    ensures told { view result ≡ boolean_or_null_is boolean }
+    ensures value { view result ≡ boolean_or_null_is boolean }
     ensures exact { has_float (view result) ≡ false }
 {
     match boolean {
@@ -111,7 +111,7 @@ fn boolean_or_null(boolean: Option<bool>) -> Value
 }
 
 fn text_or_null(alloc: Global, text: Option<&str>) -> Result<Value, AllocError>
-    ensures told { IfOk result (λ v. view v ≡ text_or_null_is (option_map (λ t. t.now) text.entry)) }
+    ensures value { IfOk result (λ v. view v ≡ text_or_null_is (option_map (λ t. t.now) text.entry)) }
     ensures exact { IfOk result (λ v. has_float (view v) ≡ false) }
 {
     match text {
@@ -137,24 +137,24 @@ fn push_words(
 }
 
 // Puts the member of the rules that are broken, if some are.
-fn push_rules(alloc: Global, told: &[BrokenRule], out: &mut Vec<u8>) -> Result<(), AllocError>
-    ensures { OnOk result (out.new.items ≡ out.old.items ++ rules_text (map breach_of told.now)) }
+fn push_rules(alloc: Global, rules: &[BrokenRule], out: &mut Vec<u8>) -> Result<(), AllocError>
+    ensures { OnOk result (out.new.items ≡ out.old.items ++ rules_text (map breach_of rules.now)) }
 {
-    if told.is_empty() {
+    if rules.is_empty() {
         return Ok(());
     }
     out.extend_from_slice(b",\"not_der\":[")?;
-    push_list(alloc, told, out)?;
+    push_list(alloc, rules, out)?;
     Ok(())
 }
 
 // Puts the objects of these, and the end of an array.
-fn push_list(alloc: Global, told: &[BrokenRule], out: &mut Vec<u8>) -> Result<(), AllocError>
+fn push_list(alloc: Global, rules: &[BrokenRule], out: &mut Vec<u8>) -> Result<(), AllocError>
     ensures { OnOk result (out.new.items
-        ≡ out.old.items ++ items_text false (items_of rule_json (map breach_of told.now))) }
+        ≡ out.old.items ++ items_text false (items_of rule_json (map breach_of rules.now))) }
 {
     let mut is_later = false;
-    for rule in told {
+    for rule in rules {
         push_comma(is_later, out)?;
         let object = rule_value(alloc, rule)?;
         push_member(alloc, b"", &object, out)?;

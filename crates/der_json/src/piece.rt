@@ -97,7 +97,7 @@ fn encoding_size(header: &Header, contents: &[u8]) -> Result<Option<usize>, Allo
 
 // The tag of a piece. End-of-contents octets have 0, of class Universal (X.690 8.1.5).
 fn tag_of(alloc: Global, kind: &Kind<'_>) -> Result<Tag, AllocError>
-    ensures told { IfOk result (IsTagOf kind.now) }
+    ensures value { IfOk result (IsTagOf kind.now) }
     ensures exact { IfOk result (λ tag. has_float (view tag.number) ≡ false) }
 {
     match kind {

@@ -27,7 +27,7 @@ use std::io::Write;
 #[derive(Drop)]
 pub struct Departure {
     pub offset: usize,
-    pub told: BrokenRule,
+    pub rule: BrokenRule,
 }
 
 // What was found in a document: the rules that are broken, also inside octets of strings, if they are listed, and the
@@ -71,16 +71,16 @@ impl Problems {
 // Keeps the rules that an encoding at the offset breaks.
 fn push_marks(
     offset: usize,
-    told: &[BrokenRule],
+    rules: &[BrokenRule],
     marks: &mut Vec<Departure>,
 ) -> Result<(), AllocError>
     ensures { OnOk result (departures_of marks.new.items
-        ≡ departures_of marks.old.items ++ marks_at offset (map breach_of told.now)) }
+        ≡ departures_of marks.old.items ++ marks_at offset (map breach_of rules.now)) }
 {
-    for rule in told {
+    for rule in rules {
         marks.push(Departure {
             offset,
-            told: *rule,
+            rule: *rule,
         })?;
     }
     Ok(())

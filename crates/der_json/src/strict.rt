@@ -99,8 +99,8 @@ fn push_list(alloc: Global, marks: &[Departure], out: &mut Vec<u8>) -> Result<()
 fn departure_value(alloc: Global, departure: &Departure) -> Result<Value, AllocError>
     ensures { IfOk result (λ v. view v ≡ departed_json (departed_of departure.now)) }
 {
-    let told = departure.told;
+    let rule = departure.rule;
     json!(in alloc; {
-        "offset": departure.offset, "rule": told.name, "section": told.section, "text": told.text
+        "offset": departure.offset, "rule": rule.name, "section": rule.section, "text": rule.text
     })
 }

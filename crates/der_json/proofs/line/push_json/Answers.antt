@@ -24,10 +24,10 @@ returns g c =
     let after = g.W.Write.contents c.write_part-2.new.w in
     let (text, put, (rows, are, marks, first, is)) = c.in_ok-found.ensures in
     let last = first_text (first_fault rows) origin in
-    let told = put_alone _ (first_text _ origin) _ c.new-line.ensures.items c.in_ok-is_right.ensures.text
+    let first_put = put_alone _ (first_text _ origin) _ c.new-line.ensures.items c.in_ok-is_right.ensures.text
     ∙ ap (λ z. first_text z origin) first in
     let ended : Appends middle after last =
-    subst (Appends middle after) (c.deref-2.ensures.value ∙ told) c.in_ok-write_part-2.ensures.written in (
+    subst (Appends middle after) (c.deref-2.ensures.value ∙ first_put) c.in_ok-write_part-2.ensures.written in (
       text ++ last,
       Appends-trans before middle after text last put ended,
       inl (rows, are, c.in_ok-is_right.ensures.right ∙ ap is_none first, ap (λ z. z ++ last) is),

@@ -14,7 +14,7 @@ loop-rule-init c = record { some = refl; put = sym (append-nil c.args.out.now.it
 pub loop-rule-preserved : goal.loop-rule-preserved
 loop-rule-preserved c =
     let (some, put) =
-    one_read rule_json breach_of c.args.told.now c.loop-rule.rule-index _ c.loop-rule.is_later c.args.out.now.items
+    one_read rule_json breach_of c.args.rules.now c.loop-rule.rule-index _ c.loop-rule.is_later c.args.out.now.items
     c.loop-rule.out.items c.push_comma.new.out.items c.push_member.new.out.items c.loop-rule-test.true
     c.loop-rule.invariant.some c.loop-rule.invariant.put c.in_ok-push_comma.ensures
     (put_same _ [] _ _ _ c.in_ok-push_member.ensures c.in_ok-object.ensures) in
@@ -22,9 +22,9 @@ loop-rule-preserved c =
 
 pub returns : goal.returns
 returns c =
-    let told = c.args.told.now in
+    let rules = c.args.rules.now in
     let out = c.args.out.now.items in
     let put = subst (λ z. c.loop-rule.out.items ≡ out ++ texts rule_json false (map breach_of z))
-    (take_all c.loop-rule.rule-index told (omega arith)) c.loop-rule.invariant.put in
-    all_texts rule_json (map breach_of told) out c.loop-rule.out.items c.push.new.self.items put
+    (take_all c.loop-rule.rule-index rules (omega arith)) c.loop-rule.invariant.put in
+    all_texts rule_json (map breach_of rules) out c.loop-rule.out.items c.push.new.self.items put
     c.in_ok-push.ensures.items

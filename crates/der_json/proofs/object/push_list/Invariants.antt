@@ -8,6 +8,6 @@ use Rattle.der_json.proofs.object.push_list.Given as goal
 -- the objects of those before this one are put
 abbrev pub invariant-loop-rule : goal.invariant-loop-rule
 invariant-loop-rule l = record {
-  some : l.is_later ≡ are_some (map breach_of (take l.rule-index l.told));
-  put : l.out.items ≡ l.fn.out.items ++ texts rule_json false (map breach_of (take l.rule-index l.told));
+  some : l.is_later ≡ are_some (map breach_of (take l.rule-index l.rules));
+  put : l.out.items ≡ l.fn.out.items ++ texts rule_json false (map breach_of (take l.rule-index l.rules));
 }

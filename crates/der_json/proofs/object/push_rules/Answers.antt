@@ -9,13 +9,13 @@ use Rattle.der_json.proofs.object.push_rules.Goals as goal
 pub returns-then-is_empty : goal.returns-then-is_empty
 returns-then-is_empty c =
     let out = c.args.out.now.items in
-    let told = c.args.told.now in
-    let none : length told ≡ 0 = grind (arith, common_steps) in
-    sym (ap (λ z. out ++ z) (no_rules (map breach_of told) (length-map told breach_of ∙ none)) ∙ append-nil out)
+    let rules = c.args.rules.now in
+    let none : length rules ≡ 0 = grind (arith, common_steps) in
+    sym (ap (λ z. out ++ z) (no_rules (map breach_of rules) (length-map rules breach_of ∙ none)) ∙ append-nil out)
 
 pub returns : goal.returns
 returns c =
-    let told = c.args.told.now in
-    let some : 0 < length told = grind (arith, common_steps) in
-    rules_put c.args.out.now.items _ _ (map breach_of told) (omega (arith, some, length-map told breach_of))
+    let rules = c.args.rules.now in
+    let some : 0 < length rules = grind (arith, common_steps) in
+    rules_put c.args.out.now.items _ _ (map breach_of rules) (omega (arith, some, length-map rules breach_of))
     c.in_ok-extend_from_slice.ensures.items c.in_ok-push_list.ensures

@@ -13,17 +13,17 @@ loop-rule-init c = sym (append-nil (departures_of c.args.marks.now.items))
 
 -- one more was kept, of those at an index
 kept_at :
-    (told : List BrokenRule) (i : ℕ) (d : BrokenRule) (offset : ℕ) (first old new : List Departure) (one : Departure) →
-    i < length told → departed_of one ≡ record { offset = offset; told = breach_of (get_or told i d) } →
-    new ≡ old ++ one ∷ [] → departures_of old ≡ departures_of first ++ marks_at offset (map breach_of (take i told)) →
-    departures_of new ≡ departures_of first ++ marks_at offset (map breach_of (take (i + 1) told))
-kept_at told i d offset first old new one within is e before =
-    let rule = get_or told i d in
-    let marks = marks_at offset (map breach_of (take i told)) in
-    let more : marks_at offset (map breach_of (take (i + 1) told)) ≡ marks ++ marks_at offset (breach_of rule ∷ []) =
-    ap (λ z. marks_at offset (map breach_of z)) (take_more told i d within)
-    ∙ (ap (marks_at offset) (map-append breach_of (take i told) (rule ∷ []))
-    ∙ map-append (λ t. record { offset = offset; told = t }) (map breach_of (take i told)) (breach_of rule ∷ [])) in
+    (rules : List BrokenRule) (i : ℕ) (d : BrokenRule) (offset : ℕ) (first old new : List Departure) (one : Departure) →
+    i < length rules → departed_of one ≡ record { offset = offset; rule = breach_of (get_or rules i d) } →
+    new ≡ old ++ one ∷ [] → departures_of old ≡ departures_of first ++ marks_at offset (map breach_of (take i rules)) →
+    departures_of new ≡ departures_of first ++ marks_at offset (map breach_of (take (i + 1) rules))
+kept_at rules i d offset first old new one within is e before =
+    let rule = get_or rules i d in
+    let marks = marks_at offset (map breach_of (take i rules)) in
+    let more : marks_at offset (map breach_of (take (i + 1) rules)) ≡ marks ++ marks_at offset (breach_of rule ∷ []) =
+    ap (λ z. marks_at offset (map breach_of z)) (take_more rules i d within)
+    ∙ (ap (marks_at offset) (map-append breach_of (take i rules) (rule ∷ []))
+    ∙ map-append (λ t. record { offset = offset; rule = t }) (map breach_of (take i rules)) (breach_of rule ∷ [])) in
     ap departures_of e
     ∙ (map-append departed_of old (one ∷ [])
     ∙ (ap (λ z. z ++ departed_of one ∷ []) before
@@ -32,12 +32,12 @@ kept_at told i d offset first old new one within is e before =
 
 pub loop-rule-preserved : goal.loop-rule-preserved
 loop-rule-preserved c =
-    kept_at c.args.told.now c.loop-rule.rule-index _ c.args.offset c.args.marks.now.items c.loop-rule.marks.items _ _
+    kept_at c.args.rules.now c.loop-rule.rule-index _ c.args.offset c.args.marks.now.items c.loop-rule.marks.items _ _
     c.loop-rule-test.true refl c.in_ok-push.ensures.items c.loop-rule.invariant
 
 pub returns : goal.returns
 returns c =
-    let told = c.args.told.now in
+    let rules = c.args.rules.now in
     subst (λ z. departures_of c.loop-rule.marks.items ≡ departures_of c.args.marks.now.items
     ++ marks_at c.args.offset (map breach_of z))
-    (take_all c.loop-rule.rule-index told (omega arith)) c.loop-rule.invariant
+    (take_all c.loop-rule.rule-index rules (omega arith)) c.loop-rule.invariant

@@ -9,4 +9,4 @@ use Rattle.der_json.proofs.rows.push_marks.Given as goal
 abbrev pub invariant-loop-rule : goal.invariant-loop-rule
 invariant-loop-rule l =
     departures_of l.marks.items
-    ≡ departures_of l.fn.marks.items ++ marks_at l.offset (map breach_of (take l.rule-index l.told))
+    ≡ departures_of l.fn.marks.items ++ marks_at l.offset (map breach_of (take l.rule-index l.rules))

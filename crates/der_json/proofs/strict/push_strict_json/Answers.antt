@@ -34,9 +34,9 @@ returns g c =
     let right = c.both.ensures
     ∙ (ap (λ z. z && c.in_ok-is_right.is_right) (c.in_ok-is_der.ensures.right ∙ ap is_der all)
     ∙ ap (λ z. is_der (marks_of rows) && z) (c.in_ok-is_right.ensures.right ∙ ap is_none first)) in
-    let told = c.in_ok-is_right.ensures.text ∙ ap (λ z. c.push_marks.new.out.items ++ first_text z origin) first in
+    let first_put = c.in_ok-is_right.ensures.text ∙ ap (λ z. c.push_marks.new.out.items ++ first_text z origin) first in
     let lines = put_alone none (list ++ last) _ c.new-lines.ensures.items
-    (put_after none list last c.push_marks.new.out.items _ listed told) in
+    (put_after none list last c.push_marks.new.out.items _ listed first_put) in
     let ended : Appends middle after (list ++ last) =
     subst (Appends middle after) (c.deref-3.ensures.value ∙ lines) c.in_ok-write_part-2.ensures.written in (
       text ++ (list ++ last),

@@ -8,11 +8,11 @@ returns c =
     nine_put c.args.out.now.items _ _ _ _ _ _ _ _ _ _ _ _ _ _ _ _ _ _
     (put_same _ (codes "{\"offset\":") _ _ _ c.in_ok-push_member.ensures c.from.ensures)
     (put_same _ (codes ",\"header\":") _ _ _ c.in_ok-push_member-2.ensures c.from-2.ensures)
-    (put_same _ (codes ",\"size\":") _ _ _ c.in_ok-push_member-3.ensures c.number_or_null.ensures.told)
+    (put_same _ (codes ",\"size\":") _ _ _ c.in_ok-push_member-3.ensures c.number_or_null.ensures.value)
     (put_same _ (codes ",\"depth\":") _ _ _ c.in_ok-push_member-4.ensures c.from-3.ensures)
-    (put_same _ (codes ",\"class\":") _ _ _ c.in_ok-push_member-5.ensures c.in_ok-class.ensures.told)
+    (put_same _ (codes ",\"class\":") _ _ _ c.in_ok-push_member-5.ensures c.in_ok-class.ensures.value)
     (put_same _ (codes ",\"constructed\":") _ _ _ c.in_ok-push_member-6.ensures
-    c.boolean_or_null-constructed.ensures.told)
+    c.boolean_or_null-constructed.ensures.value)
     c.in_ok-push_member-7.ensures
-    (put_same _ (codes ",\"type\":") _ _ _ c.in_ok-push_member-8.ensures c.in_ok-kind.ensures.told)
+    (put_same _ (codes ",\"type\":") _ _ _ c.in_ok-push_member-8.ensures c.in_ok-kind.ensures.value)
     c.in_ok-push_member-9.ensures
