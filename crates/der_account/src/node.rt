@@ -16,29 +16,29 @@ use std::alloc::{AllocError, Global};
 #[derive(Clone, Copy)]
 pub enum Tag {
     // Of class Universal, with this number.
-    Universal(u64),
+    Universal(u8),
     // Of class context-specific, with this number.
-    Context(u64),
+    Context(u8),
     // That of a UTCTime or a GeneralizedTime.
     Time,
 }
 
 // Tags of class Universal.
-pub const BOOLEAN: Tag = Tag::Universal(tags::BOOLEAN);
+pub const BOOLEAN: Tag = Tag::Universal(tags::BOOLEAN as u8);
 
-pub const INTEGER: Tag = Tag::Universal(tags::INTEGER);
+pub const INTEGER: Tag = Tag::Universal(tags::INTEGER as u8);
 
-pub const BIT_STRING: Tag = Tag::Universal(tags::BIT_STRING);
+pub const BIT_STRING: Tag = Tag::Universal(tags::BIT_STRING as u8);
 
-pub const OCTET_STRING: Tag = Tag::Universal(tags::OCTET_STRING);
+pub const OCTET_STRING: Tag = Tag::Universal(tags::OCTET_STRING as u8);
 
-pub const IDENTIFIER: Tag = Tag::Universal(tags::OBJECT_IDENTIFIER);
+pub const IDENTIFIER: Tag = Tag::Universal(tags::OBJECT_IDENTIFIER as u8);
 
-pub const SEQUENCE: Tag = Tag::Universal(tags::SEQUENCE);
+pub const SEQUENCE: Tag = Tag::Universal(tags::SEQUENCE as u8);
 
-pub const UTC_TIME: Tag = Tag::Universal(tags::UTC_TIME);
+pub const UTC_TIME: Tag = Tag::Universal(tags::UTC_TIME as u8);
 
-pub const GENERALIZED_TIME: Tag = Tag::Universal(tags::GENERALIZED_TIME);
+pub const GENERALIZED_TIME: Tag = Tag::Universal(tags::GENERALIZED_TIME as u8);
 
 // An encoding among those that headers list, by its index.
 #[derive(Clone, Copy)]
@@ -61,21 +61,21 @@ const NO_ENTRY: Entry = Entry {
 };
 
 // Whether an entry is of class Universal with this tag number.
-fn is_universal(entry: &Entry, number: u64) -> bool
+fn is_universal(entry: &Entry, number: u8) -> bool
     ensures { result ≡ (is_universal_class entry.now.class && entry.now.tag == number) }
 {
     match entry.class {
-        ASN1Class::Universal => entry.tag == number,
+        ASN1Class::Universal => entry.tag == u64::from(number),
         ASN1Class::Application | ASN1Class::ContextSpecific | ASN1Class::Private => false,
     }
 }
 
 // Whether it is of class context-specific with this one.
-fn is_context_specific(entry: &Entry, number: u64) -> bool
+fn is_context_specific(entry: &Entry, number: u8) -> bool
     ensures { result ≡ (is_context_class entry.now.class && entry.now.tag == number) }
 {
     match entry.class {
-        ASN1Class::ContextSpecific => entry.tag == number,
+        ASN1Class::ContextSpecific => entry.tag == u64::from(number),
         ASN1Class::Universal | ASN1Class::Application | ASN1Class::Private => false,
     }
 }
@@ -111,7 +111,8 @@ impl<'h, 'd> Node<'h, 'd> {
             Tag::Universal(number) => is_universal(&entry, number),
             Tag::Context(number) => is_context_specific(&entry, number),
             Tag::Time => {
-                is_universal(&entry, tags::UTC_TIME) || is_universal(&entry, tags::GENERALIZED_TIME)
+                is_universal(&entry, tags::UTC_TIME as u8)
+                    || is_universal(&entry, tags::GENERALIZED_TIME as u8)
             }
         }
     }
