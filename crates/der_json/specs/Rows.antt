@@ -108,8 +108,8 @@ kind_size (Leaf header contents value) = encoding_size header contents.now
 
 -- what is said of a tag
 abbrev pub IsTagWith : Option (List ℕ) → Option Bool → Data → Option (List ℕ) → Tag → Type 0
-IsTagWith class constructed number kind tag =
-    (option_map (λ t. t.now) tag.class ≡ class) × (tag.constructed ≡ constructed) × (view tag.number ≡ number)
+IsTagWith class constructed numbered kind tag =
+    (option_map (λ t. t.now) tag.class ≡ class) × (tag.constructed ≡ constructed) × (view tag.number ≡ numbered)
     × (option_map (λ t. t.now) tag.kind ≡ kind)
 
 abbrev pub IsHeaderTag : Header → Tag → Type 0
