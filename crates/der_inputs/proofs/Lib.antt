@@ -1,4 +1,5 @@
 mod Blocks
+mod Findings
 mod Growing
 mod Lower
 mod Readers

@@ -1,21 +1,15 @@
--- Texts that are pushed one after another, for `show::Show::push_all`, `documents::objects_of` and `sources`.
-use Rattle.std.proofs.Common.{◌≡◌, ℕ, ◌+◌, ◌<◌, List, [], ◌∷◌, ◌++◌, get_or, length, map, take, refl, sym, ap, ◌∙◌}
+-- Texts that are written one after another, for `sources`, and the findings of objects, for `objects`.
+use Rattle.std.proofs.Common.{◌≡◌, ℕ, List, [], ◌∷◌, ◌++◌, refl, sym, ap, ◌∙◌}
 use Rattle.std.proofs.Common.{append_assoc, append-nil}
-use Rattle.std.proofs.lemmas.List.{map-append, take_more}
 use Rattle.std.proofs.lemmas.List.Concat.{flat_map-cons}
-use Rattle.std.proofs.lemmas.List.Sums.{fold-append}
 use Rattle.std.specs.List.{flat_map}
 use Rattle.std.specs.Prelude.{Option}
 use Rattle.der_io.specs.Output.{IsWritten}
-use Rattle.der_inputs.specs.Findings.{Finding}
 use Rattle.der_inputs.specs.Forms.{IsFrameOf, IsFramed}
 use Rattle.der_inputs.specs.declared.show.Form.{Form}
 use Rattle.der_inputs.specs.declared.show.Form.TheVariants.{Accounts, Json, Lines, Page}
-use Rattle.der_inputs.specs.Outcomes.{all_read, both_read}
 use Rattle.der_inputs.specs.Texts.{AreTexts}
 use Rattle.der_io.proofs.Written.{IsWritten-append}
-use Rattle.der_lines.specs.declared.document.Verdict.{Verdict}
-use Rattle.der_lines.specs.declared.document.Verdict.TheVariants.{AllRead}
 
 module _ {A B : Type 0} (Is : A → B → List ℕ → Type 0) where
   -- the text of one more
@@ -39,24 +33,6 @@ module _ {A B : Type 0} (Is : A → B → List ℕ → Type 0) where
       IsWritten (AreTexts Is xs results) a b →
       IsWritten (Is x last) b c → IsWritten (AreTexts Is (xs ++ x ∷ []) (results ++ last ∷ [])) a c
   IsWritten-append_last xs results x last a b c = IsWritten-append _ _ _ a b c (AreTexts-append_last xs results x last)
-
--- the text of one more finding
-pub IsWritten-next_finding :
-    {F : Type 0} (Is : Finding → Verdict → List ℕ → Type 0) (f : F → Finding) (all : List F) (i : ℕ) (x : F)
-    (read one both : Verdict) (a b c : Option (List ℕ)) → i < length all → x ≡ get_or all i x → both ≡ both_read read
-    one →
-    ((verdicts : List Verdict) × (read ≡ all_read verdicts)
-    × IsWritten (AreTexts Is (map f (take i all)) verdicts) a b) →
-    IsWritten (Is (f x) one) b c →
-    (verdicts : List Verdict) × (both ≡ all_read verdicts)
-    × IsWritten (AreTexts Is (map f (take (i + 1) all)) verdicts) a c
-IsWritten-next_finding Is f all i x read one both a b c l at is (verdicts, e, earlier) last =
-    let more = map-append f (take i all) (x ∷ []) in (
-      verdicts ++ one ∷ [],
-      is ∙ (ap (λ z. both_read z one) e ∙ sym (fold-append both_read AllRead verdicts (one ∷ []))),
-      rw (take_more all i x l, ← at, more) (IsWritten-append_last Is (map f (take i all)) verdicts
-          (f x) one a b c earlier last),
-    )
 
 -- findings so far, and those of the objects that are left
 module _ {X Y : Type 0} (h : X → List Y) (old all : List Y) (left : List X) (earlier : old ++ flat_map h left ≡ all)

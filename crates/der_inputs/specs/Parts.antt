@@ -1,12 +1,19 @@
 -- Documents as findings, and what a `Show` wants. Private contracts alone name these.
-use Rattle.std.specs.Prelude.{ℕ, List, Option, Result, Vec}
+use Rattle.std.specs.Prelude.{◌≡◌, ℕ, List, [], ◌∷◌, Option, Result, Vec}
 use Rattle.std.specs.Global.{Global}
+use Rattle.std.specs.List.{flat_map}
 use Rattle.std.specs.Option.{option_map}
 use Rattle.std.specs.Result.{result_ok}
-use Rattle.der_inputs.specs.Findings.{Finding}
-use Rattle.der_inputs.specs.Inputs.{Wanted}
+use Rattle.der_forms.specs.Objects.{objects_of}
+use Rattle.der_inputs.specs.Findings.{Finding, of_object}
+use Rattle.der_inputs.specs.Inputs.{IsFindingText, Wanted}
+use Rattle.der_inputs.specs.Outcomes.{all_read}
+use Rattle.der_inputs.specs.Texts.{AreTexts}
 use Rattle.der_inputs.specs.declared.documents.Document.{Document}
+use Rattle.der_inputs.specs.declared.documents.Documents.{Documents}
+use Rattle.der_inputs.specs.declared.documents.Documents.TheVariants.{Objects, One}
 use Rattle.der_inputs.specs.declared.show.Show.{Show}
+use Rattle.der_lines.specs.declared.document.Verdict.{Verdict}
 
 -- the octets, where there are some
 abbrev pub octets_in : {E : Type 0} → Result (Vec ℕ Global) E → Option (List ℕ)
@@ -15,6 +22,17 @@ octets_in octets = option_map (λ v. v.items) (result_ok octets)
 -- the finding that a document is
 abbrev pub finding_in : Document → Finding
 finding_in document = record { label = option_map (λ v. v.items) document.label; octets = octets_in document.octets }
+
+-- the findings that an input has
+abbrev pub findings_are : Documents → List Finding
+findings_are (Objects text) = flat_map of_object (objects_of text.items)
+findings_are (One document) = finding_in document ∷ []
+
+-- the texts of findings, one after another; all was read where all of each was
+abbrev pub AreFindingTexts : Wanted → Option (List ℕ) → List Finding → Verdict → List ℕ → Type 0
+AreFindingTexts wanted file findings verdict text =
+    (verdicts : List Verdict) × (verdict ≡ all_read verdicts)
+    × AreTexts (IsFindingText wanted file) findings verdicts text
 
 abbrev pub wanted_of : Show → Wanted
 wanted_of show = record {

@@ -1,19 +1,13 @@
 // The documents of an input, and the block that begins at an offset.
-ghost use Rattle.std.specs.Prelude.{◌≡◌, ◌++◌, ◌∷◌, [], if◌then◌else◌, is_some, IfOk, MatchOption, OnOk, None, map};
-ghost use Rattle.std.specs.List.{flat_map};
-ghost use Rattle.der_forms.specs.Objects.{objects_of as objects_are};
-ghost use Rattle.der_forms.specs.Shown.{shown_object};
-ghost use Rattle.der_inputs.specs.Findings.{IsBlockAt, IsContentsAt, IsValueAt, findings_in, findings_of, of_object};
+ghost use Rattle.std.specs.Prelude.{◌≡◌, ◌∷◌, [], IfOk, MatchOption, None, Some};
+ghost use Rattle.der_inputs.specs.Findings.{IsBlockAt, IsContentsAt, IsValueAt, findings_in, findings_of};
 ghost use Rattle.der_inputs.specs.Findings.{unlabelled};
-ghost use Rattle.der_inputs.specs.Parts.{finding_in, octets_in};
+ghost use Rattle.der_inputs.specs.Parts.{finding_in, findings_are, octets_in};
 ghost use Rattle.der_elements.specs.Elements.{HasContents, IsElement};
 ghost use Rattle.der_elements.specs.StringOctets.{HoldsNoOctets, HoldsOctets};
 
 use der_elements::{NoBlock, NoString, behind_header, block_at, string_octets};
-use der_forms::{
-    Form, FormFault, Lines, PemFault, PemObject, document_of, fault_of_end, form_of, next_object,
-    text_of,
-};
+use der_forms::{Form, FormFault, PemFault, PemObject, document_of, form_of, text_of};
 use std::alloc::{AllocError, Global};
 
 // A document of an input: its octets, or why they cannot be read, under its label, if it has one.
@@ -23,105 +17,79 @@ pub struct Document {
     pub octets: Result<Vec<u8>, String>,
 }
 
-// Each document of an input and what is wrong with its form, in order.
-pub fn documents_of(alloc: Global, input: Vec<u8>) -> Result<Vec<Document>, AllocError>
-    ensures { IfOk result (λ documents. map finding_in documents.items ≡ findings_of input.items) }
+// What an input has: objects of PEM in this text, or one document.
+#[derive(Drop)]
+pub enum Documents {
+    Objects(Vec<u8>),
+    One(Document),
+}
+
+// The documents of an input. Objects are not yet decoded.
+pub fn documents_of(alloc: Global, input: Vec<u8>) -> Result<Documents, AllocError>
+    ensures { IfOk result (λ documents. findings_are documents ≡ findings_of input.items) }
 {
     let text = text_of(alloc, input)?;
     documents_in(alloc, text)
 }
 
-// Each document of a text, or of octets, and what is wrong with its form.
-fn documents_in(alloc: Global, text: Vec<u8>) -> Result<Vec<Document>, AllocError>
-    ensures { IfOk result (λ documents. map finding_in documents.items ≡ findings_in text.items) }
+// The documents of a text, or of octets.
+fn documents_in(alloc: Global, text: Vec<u8>) -> Result<Documents, AllocError>
+    ensures { IfOk result (λ documents. findings_are documents ≡ findings_in text.items) }
 {
     match form_of(alloc, &text)? {
-        Form::Pem => objects_of(alloc, &text),
-        Form::Spelled(octets) => one_document(alloc, Ok(octets)),
-        Form::OddDigits => one_fault(alloc, &FormFault::OddDigits),
-        Form::OtherColumns => one_fault(alloc, &FormFault::OtherColumns),
-        Form::LeftOut(line) => one_fault(alloc, &FormFault::LeftOut(line)),
-        Form::Text(line) => one_fault(alloc, &FormFault::Text(line)),
-        Form::Der => one_document(alloc, Ok(text)),
+        Form::Pem => Ok(Documents::Objects(text)),
+        Form::Spelled(octets) => Ok(Documents::One(unlabelled(Ok(octets)))),
+        Form::OddDigits => fault_document(alloc, &FormFault::OddDigits),
+        Form::OtherColumns => fault_document(alloc, &FormFault::OtherColumns),
+        Form::LeftOut(line) => fault_document(alloc, &FormFault::LeftOut(line)),
+        Form::Text(line) => fault_document(alloc, &FormFault::Text(line)),
+        Form::Der => Ok(Documents::One(unlabelled(Ok(text)))),
     }
 }
 
-// One document, without a label.
-pub fn one_document(
-    alloc: Global,
-    octets: Result<Vec<u8>, String>,
-) -> Result<Vec<Document>, AllocError>
-    ensures { IfOk result (λ documents. map finding_in documents.items ≡ unlabelled (octets_in octets) ∷ []) }
+// A document without a label.
+pub fn unlabelled(octets: Result<Vec<u8>, String>) -> Document
+    ensures { finding_in result ≡ unlabelled (octets_in octets) }
 {
-    let mut documents = Vec::new(alloc);
-    documents.push(Document {
+    Document {
         label: None,
         octets,
-    })?;
-    Ok(documents)
+    }
 }
 
 // One document that cannot be read: why the input has none.
-fn one_fault(alloc: Global, fault: &FormFault) -> Result<Vec<Document>, AllocError>
-    ensures { IfOk result (λ documents. map finding_in documents.items ≡ unlabelled None ∷ []) }
+fn fault_document(alloc: Global, fault: &FormFault) -> Result<Documents, AllocError>
+    ensures { IfOk result (λ documents. findings_are documents ≡ unlabelled None ∷ []) }
 {
     let why = fault_text(alloc, fault)?;
-    one_document(alloc, Err(why))
+    Ok(Documents::One(unlabelled(Err(why))))
 }
 
 fn fault_text(alloc: Global, fault: &FormFault) -> Result<String, AllocError> {
     format!(in alloc; "{fault}")
 }
 
-fn objects_of(alloc: Global, input: &[u8]) -> Result<Vec<Document>, AllocError>
-    ensures { IfOk result (λ documents. map finding_in documents.items
-        ≡ flat_map of_object (objects_are input.now)) }
+// An object, under its label.
+pub fn object_document(alloc: Global, object: PemObject<'_>) -> Result<Document, AllocError>
+    ensures { IfOk result (λ document. finding_in document ≡ record {
+      label = Some object.entry.label.now;
+      octets = octets_in object.entry.octets;
+    }) }
 {
-    let mut documents = Vec::new(alloc);
-    let mut lines = Lines::of(input);
-    while let Some((object, after)) = next_object(alloc, lines)? {
-        push_object(alloc, object, after.before, &mut documents)?;
-        lines = after;
-    }
-    Ok(documents)
-}
-
-// Pushes an object, and what is wrong with its end, up to which so many lines were read.
-fn push_object(
-    alloc: Global,
-    object: PemObject<'_>,
-    last: usize,
-    documents: &mut Vec<Document>,
-) -> Result<(), AllocError>
-    ensures { OnOk result (map finding_in documents.new.items
-        ≡ map finding_in documents.old.items ++ of_object (shown_object object.entry)) }
-{
-    let bad_end = fault_of_end(&object, last);
     let label = copy_of(alloc, object.label)?;
     let octets = octets_of(alloc, object.octets)?;
-    documents.push(Document {
+    Ok(Document {
         label: Some(label),
         octets,
-    })?;
-    push_end(alloc, bad_end, documents)
+    })
 }
 
-// Pushes what is wrong with the end of an object, and in which line, if anything is.
-fn push_end(
-    alloc: Global,
-    bad_end: Option<(usize, &str)>,
-    documents: &mut Vec<Document>,
-) -> Result<(), AllocError>
-    ensures { OnOk result (map finding_in documents.new.items ≡ map finding_in documents.old.items
-        ++ (if is_some bad_end.entry then unlabelled None ∷ [] else [])) }
+// What is wrong with the end of an object, in this line.
+pub fn bad_end_document(alloc: Global, line: usize, what: &str) -> Result<Document, AllocError>
+    ensures { IfOk result (λ document. finding_in document ≡ unlabelled None) }
 {
-    if let Some((line, what)) = bad_end {
-        documents.push(Document {
-            label: None,
-            octets: Err(format!(in alloc; "line {line}: {what}")?),
-        })?;
-    }
-    Ok(())
+    let why = format!(in alloc; "line {line}: {what}")?;
+    Ok(unlabelled(Err(why)))
 }
 
 // The octets of an object, or why there are none.

@@ -6,7 +6,8 @@
 //! and a page that of `der_html`. An [`Outcome`] says what was done with an input, and [`status`] is the exit status
 //! after a run.
 //!
-//! Two steps do it: `documents` lists the documents of an input, and `show` pushes the text of each.
+//! Two steps do it: `documents` says what documents an input has, and `show` writes the text of one. `objects` decodes
+//! one object of PEM after another, and writes the text of each before it decodes the next.
 //!
 //! It opens nothing by itself: `der_dump` gives it files and standard input, and tests give it octets.
 #![tactic(auto)]
@@ -16,6 +17,7 @@ mod appended;
 mod before;
 mod documents;
 mod json;
+mod objects;
 mod outcome;
 mod show;
 mod sources;

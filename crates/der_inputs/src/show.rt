@@ -1,19 +1,18 @@
 // How documents are shown.
-ghost use Rattle.std.specs.Prelude.{◌≡◌, [], IfOk, OnOk, false, map, unwrap_or};
+ghost use Rattle.std.specs.Prelude.{◌≡◌, [], IfOk, OnOk, false, unwrap_or};
 ghost use Rattle.std.specs.Option.{option_map};
 ghost use Rattle.der_inputs.specs.Forms.{IsDump, IsDumpOrRefusal, IsFrameOf, IsLabel, IsLines, IsName, IsSection, IsTitle};
 ghost use Rattle.der_inputs.specs.Forms.{IsTitleLine, IsTitleSection, form_by, look_by};
 ghost use Rattle.der_io.specs.Output.{IsWritten};
 ghost use Rattle.der_lines.specs.Dump.{IsDumpOf};
 ghost use Rattle.der_rows.specs.Printing.{IsPrinted};
-ghost use Rattle.der_inputs.specs.Inputs.{AreShown, IsFindingText, are_colors_shown as colors_shown, names_shown};
+ghost use Rattle.der_inputs.specs.Inputs.{IsFindingText, are_colors_shown as colors_shown, names_shown};
 ghost use Rattle.der_inputs.specs.Inputs.{wanted_by};
 ghost use Rattle.der_inputs.specs.Outcomes.{both_read};
 ghost use Rattle.der_inputs.specs.Parts.{finding_in, octets_in, wanted_of};
 ghost use Rattle.der_inputs.specs.declared.show.Form.TheVariants.{Page as page_form};
 
 use crate::documents::Document;
-use crate::outcome::Outcome;
 use der_html::{push_foot, push_head};
 use der_io::{StreamFault, write_part};
 use der_lines::{Style, Verdict, push_document, push_label, push_refusal, push_strict_document};
@@ -87,26 +86,8 @@ impl Show {
         })
     }
 
-    // Writes the text of each document, one after another. JSON has the name of the file.
-    pub fn push_all<W: Write>(
-        &self,
-        file: Option<&str>,
-        documents: &[Document],
-        printer: &mut Printer<W>,
-    ) -> Result<Outcome, StreamFault>
-        ensures { IfOk result (λ outcome. IsWritten (AreShown (wanted_of self.now)
-            (option_map (λ name. name.now) file.entry) (map finding_in documents.now) outcome)
-            (W.contents printer.old.out) (W.contents printer.new.out)) }
-    {
-        let mut verdict = Verdict::AllRead;
-        for document in documents {
-            let read = self.push(file, document, printer)?;
-            verdict = both_verdicts(verdict, read);
-        }
-        Ok(Outcome::Written(verdict))
-    }
-
-    fn push<W: Write>(
+    // Writes the text of a document, and returns whether all of it was read. JSON has the name of the file.
+    pub fn push<W: Write>(
         &self,
         file: Option<&str>,
         document: &Document,
@@ -343,7 +324,7 @@ fn octets_or_empty(document: &Document) -> &[u8]
     }
 }
 
-fn both_verdicts(a: Verdict, b: Verdict) -> Verdict
+pub fn both_verdicts(a: Verdict, b: Verdict) -> Verdict
     ensures { result ≡ both_read a b }
 {
     match a {

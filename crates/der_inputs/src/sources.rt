@@ -14,7 +14,7 @@ ghost use Rattle.der_io.specs.declared.StreamFault.TheVariants.{Memory as memory
 
 use crate::appended::Appended;
 use crate::before::Before;
-use crate::documents::{block_of, contents_of, documents_of, one_document, value_of};
+use crate::documents::{block_of, contents_of, unlabelled, value_of};
 use crate::outcome::{Outcome, greatest};
 use crate::show::Show;
 use der_io::{StreamFault, flush, read_all, write_part};
@@ -202,14 +202,10 @@ fn push_input<W: Write>(
         (W.contents printer.old.out) (W.contents printer.new.out)) }
 {
     match show.task {
-        Task::Dump => {
-            let documents = documents_of(show.alloc, input)?;
-            show.push_all(file, &documents, printer)
-        }
+        Task::Dump => show.push_documents(file, input, printer),
         Task::At(offset) => {
             let block = block_of(show.alloc, input, offset)?;
-            let documents = one_document(show.alloc, block)?;
-            show.push_all(file, &documents, printer)
+            show.push_document(file, &unlabelled(block), printer)
         }
         Task::Extract(offset) => {
             let part = block_of(show.alloc, input, offset)?;
