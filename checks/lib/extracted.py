@@ -7,8 +7,10 @@ MOST_ROWS = 40
 
 
 def is_end(row, around):
-    """Whether a row is of end-of-contents octets, by the row of the encoding that it stands in."""
-    return row["type"] == "end-of-contents" and around is not None and around["size"] is None
+    """Whether a row is of end-of-contents octets, by the row of the encoding that it stands in: they have no value. Other
+    encodings with the tag 0 have one, or are constructed."""
+    inside_indefinite = around is not None and around["size"] is None
+    return row["type"] == "end-of-contents" and inside_indefinite and not row["constructed"] and row["value"] is None
 
 
 def blocks_of(octets, rows):
