@@ -445,6 +445,14 @@ class Building(unittest.TestCase):
         time, text, oid, bits = simple_asn1.read_strict(made)
         self.assertEqual((time.moment, text.text, oid.oid, bits.bits), (moment, "ä😀", "2.175.128", (b"", 0)))
 
+    def test_long_values_are_octets_and_text_as_short_ones_are(self):
+        text, components, zeros = "ä" * 100_000, "2.5." + ".".join(["300"] * 30_000), bytes(100_000)
+        made = Builder().add_text(12, text).add_oid(components).add_bits(zeros, 800_000).finish()
+        for octets in made, simple_asn1.rewrite(made), simple_asn1.write(made, simple_asn1.read(made).records):
+            self.assertEqual((type(octets), octets), (bytes, made))
+        texts, oid, bits = simple_asn1.read(made)
+        self.assertEqual((texts.text, oid.oid, bits.bits), (text, components, (zeros, 800_000)))
+
     def test_blocks_are_in_those_that_are_open(self):
         key = only("31 81 06 A1 04 02 02 00 07")
         builder = Builder()

@@ -250,8 +250,8 @@ def _spare() -> Tuple[memoryview, int]:
         return _memory(_FIRST_SIZE)
 
 
-def _written(call: Callable[..., Any], *arguments: Any, size: int = 1, room: int = 0) -> Union[bytes, memoryview]:
-    """The octets, or the records of this size, that a call with these arguments writes.
+def _items(call: Callable[..., Any], *arguments: Any, size: int, room: int = 0) -> Union[bytes, memoryview]:
+    """The items of this size that a call with these arguments writes.
 
     It has room for so many at least. Where that is too little the first call only counts them, and the second gets
     just the room that they need. Memory that was made for a call is handed out as it is.
@@ -274,8 +274,13 @@ def _written(call: Callable[..., Any], *arguments: Any, size: int = 1, room: int
     return written
 
 
+def _written(call: Callable[..., Any], *arguments: Any, room: int = 0) -> bytes:
+    """The octets that a call with these arguments writes."""
+    return bytes(_items(call, *arguments, size=1, room=room))
+
+
 def _read(call: Callable[..., Any], octets: bytes) -> Records:
-    return Records(_written(call, octets, len(octets), size=_SIZE))
+    return Records(_items(call, octets, len(octets), size=_SIZE))
 
 
 def read(octets: bytes) -> Records:
@@ -293,7 +298,7 @@ def outline(octets: bytes) -> Records:
 def departures(octets: bytes) -> Iterable[Any]:
     """The offset of each departure from DER, and the number of its rule."""
     call, size = _LIBRARY.simple_asn1_departures, _DEPARTURE.size
-    return _DEPARTURE.iter_unpack(_written(call, octets, len(octets), size=size))
+    return _DEPARTURE.iter_unpack(_items(call, octets, len(octets), size=size))
 
 
 class Places:
@@ -318,7 +323,7 @@ class Places:
 def values(octets: bytes, places: Places) -> Iterable[Any]:
     """The fields of what each path leads to."""
     call, size, room = _LIBRARY.simple_asn1_values, _FOUND.size, places.count
-    return _FOUND.iter_unpack(_written(call, octets, len(octets), *places.arguments, size=size, room=room))
+    return _FOUND.iter_unpack(_items(call, octets, len(octets), *places.arguments, size=size, room=room))
 
 
 def check(octets: bytes) -> None:
@@ -328,7 +333,7 @@ def check(octets: bytes) -> None:
 
 
 def rewrite(octets: bytes) -> bytes:
-    return bytes(_written(_LIBRARY.simple_asn1_rewrite, octets, len(octets), room=len(octets)))
+    return _written(_LIBRARY.simple_asn1_rewrite, octets, len(octets), room=len(octets))
 
 
 def write(octets: bytes, records: Sequence[Record]) -> bytes:
