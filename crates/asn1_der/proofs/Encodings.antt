@@ -4,7 +4,7 @@ use Rattle.std.proofs.lemmas.Bool.{cases_lt}
 use Rattle.asn1_headers.specs.Header.{Encoding, shortest_identifier, shortest_length}
 use Rattle.asn1_headers.specs.declared.header.ASN1Class.{ASN1Class}
 use Rattle.asn1_headers.specs.declared.header.ASN1Class.TheVariants.{Universal, Application, ContextSpecific, Private}
-use Rattle.asn1_headers.proofs.Prefixes.{Encoding-unique, IsIdentifier-not_empty}
+use Rattle.asn1_headers.proofs.Prefixes.{Encoding-unique, Encoding-not_empty}
 use Rattle.asn1_headers.proofs.Shortest.{IsIdentifier-shortest, IsLength-shortest}
 use Rattle.asn1_blocks.specs.Places.{IsEncoding}
 use Rattle.asn1_der.specs.Der.{AreDerEncodings, IsDerEncoding, IsInOrder, IsRightAlone, IsShortest, more_encodings, no_encodings, of_other_constructed, of_other_primitive, of_primitive_type, of_sequence, of_set}
@@ -85,17 +85,6 @@ length_shortest x small d =
       shortest = refl;
     }
 
--- an encoding has octets
-pub encoding_some : (x : List ℕ) (c : ASN1Class) (k : Bool) (n : ℕ) (v : List ℕ) (h : ℕ) → Encoding x c k n v h
-    → 0 < length x
-encoding_some x c k n v h e =
-    omega (
-      arith,
-      ap length e.whole,
-      length-append e.identifier (e.len ++ v),
-      IsIdentifier-not_empty e.identifier c k n e.identifier_octets,
-    )
-
 -- octets have one list of items
 pub items_alone : (x y : List ℕ) (is js : List (List ℕ)) → length x < 2 ^ 64 → x ≡ y → AreDerEncodings x is
     → AreDerEncodings y js → is ≡ js
@@ -104,12 +93,12 @@ items_alone x y is js small e no_encodings (more_encodings {first = f} {rest = r
     let zero : length (f ++ r) ≡ 0 = ap length (sym w) ∙ ap length (sym e) in
     let z : length f ≡ 0 = omega (arith, zero, length-append f r) in
     let (c, k, n, v, h, p) = der_encoding f (omega (arith, z)) d in
-    absurd (omega (arith, z, encoding_some f c k n v h p))
+    absurd (omega (arith, z, Encoding-not_empty f c k n v h p))
 items_alone x y is js small e (more_encodings {first = f} {rest = r} w d ds) no_encodings =
     let zero : length (f ++ r) ≡ 0 = ap length (sym w) ∙ ap length e in
     let z : length f ≡ 0 = omega (arith, zero, length-append f r) in
     let (c, k, n, v, h, p) = der_encoding f (omega (arith, z)) d in
-    absurd (omega (arith, z, encoding_some f c k n v h p))
+    absurd (omega (arith, z, Encoding-not_empty f c k n v h p))
 items_alone x y is js small e (more_encodings {first = f} {rest = r} {items = fs} w d ds)
     (more_encodings {first = g} {rest = q} {items = gs} u b bs) =
     let long : length x ≡ length f + length r = ap length w ∙ length-append f r in
@@ -175,16 +164,18 @@ der_whole x c k n v h small e d =
 -- octets with the properties that an encoding of DER has are one
 pub whole_der : (x : List ℕ) (c : ASN1Class) (k : Bool) (n : ℕ) (v : List ℕ) → IsWhole x c k n v
     → IsDerEncoding x
-whole_der x Universal false n v w = of_primitive_type w.alone.0 w.alone.1.0 w.alone.1.1 w.alone.1.2
+whole_der x Universal false n v w =
+    let (shortest, (right, kind, contents)) = w.alone in of_primitive_type shortest right kind contents
 whole_der x Universal true n v w =
     let (items, d) = w.items refl in
-    let sequence : n ≢ 17 → IsDerEncoding x = λ other. of_sequence w.alone.0 w.alone.1.0 other items d in
+    let (shortest, (group, in_order)) = w.alone in
+    let sequence : n ≢ 17 → IsDerEncoding x = λ other. of_sequence shortest group other items d in
     elim (cases_lt n 17) [
       | inl lt ↦ sequence (λ e. omega (arith, lt, e))
       | inr ge ↦ elim (cases_lt 17 n) [
         | inl gt ↦ sequence (λ e. omega (arith, gt, e))
         | inr le ↦ let e : n ≡ 17 = omega (arith, ge, le) in
-            of_set (subst (λ z. IsShortest x Universal true z v) e w.alone.0) items d (w.alone.1.1 e items d)
+            of_set (subst (λ z. IsShortest x Universal true z v) e shortest) items d (in_order e items d)
       ]
     ]
 whole_der x Application true n v w = let (items, d) =

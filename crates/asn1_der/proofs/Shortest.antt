@@ -19,11 +19,11 @@ use Rattle.asn1_der.specs.Steps.{IsHeaderOf, is_short}
 pub compared_whole :
     (a c : Comparison) (xs : List ℕ) → compared a xs c → IsTrue a.same → length a.rest.now ≡ length xs →
     IsTrue c.same ↔ (a.rest.now ≡ xs)
-compared_whole a c xs p same size =
+compared_whole a c xs (first, starts, length_is, (equal, meant)) same size =
     let none : c.rest.now ≡ [] =
-    nil_from_length c.rest.now (omega (arith, ap length p.1, length-append p.0 c.rest.now, p.2, size)) in
-    let all : a.rest.now ≡ p.0 = p.1 ∙ (ap (λ z. p.0 ++ z) none ∙ append-nil p.0) in
-    (λ t. all ∙ (p.3.0 t).1, λ e. p.3.1 (same, sym all ∙ e))
+    nil_from_length c.rest.now (omega (arith, ap length starts, length-append first c.rest.now, length_is, size)) in
+    let all : a.rest.now ≡ first = starts ∙ (ap (λ z. first ++ z) none ∙ append-nil first) in
+    (λ t. all ∙ (equal t).1, λ e. meant (same, sym all ∙ e))
 
 -- the octets before the contents are the shortest exactly if the encoding has its shortest form
 pub shortest_front :

@@ -110,12 +110,12 @@ pub opened :
     AreDerUpTo x i (e ∷ es) ↔ AreDerUpTo x h.start (h.end ∷ e ∷ es)
 opened x i e es h small within f constructed alone = (
   λ p. let a = ahead x small i e within h f p.0 in (a.whole.items constructed, (a.behind, p.1)),
-  λ q. (
+  λ (inside, (behind, more)). (
     from_ahead x small i e within h f (record {
-      whole = record { alone = alone; items = λ t. q.0 };
-      behind = q.1.0;
+      whole = record { alone = alone; items = λ t. inside };
+      behind = behind;
     }),
-    q.1.1,
+    more,
   ),
 )
 

@@ -30,8 +30,8 @@ LeafContents-plain (text ia5 cs) contents all p der plain = sym p
 LeafContents-plain (text universal cs) contents all p der plain = sym p.1
 LeafContents-plain (text bmp cs) contents all p der plain = sym p.1
 LeafContents-plain (utc_time m) contents all p der plain = p.1
-LeafContents-plain (generalized_time m) contents all p der plain =
-    GeneralizedTimeContents-der m contents p der.1.1 plain
+LeafContents-plain (generalized_time m) contents all p (_, (_, shortest)) plain =
+    GeneralizedTimeContents-der m contents p shortest plain
 
 -- a leaf that stands as it is written is not among those that are written otherwise
 pub is_written_otherwise-leaf_contents :

@@ -85,7 +85,8 @@ IsFaultOfDer-leaf n contents e d (of_object_identifier t f) =
 IsFaultOfDer-leaf n contents e d (of_utc_time t f) = let (m, means) = (subst (λ z. HasDerContents z contents) t d).1 in
     absurd (f.0 m means)
 IsFaultOfDer-leaf n contents e d (of_generalized_time t f) =
-    absurd (IsMoment-contents ⊥ contents (subst (λ z. HasDerContents z contents) t d).1.0 f.0)
+    let (_, (moment, _)) = subst (λ z. HasDerContents z contents) t d in
+    absurd (IsMoment-contents ⊥ contents moment f.0)
 IsFaultOfDer-leaf n contents e d (of_text kind t f) =
     IsFaultOfDer-text kind contents e (subst (λ z. HasDerContents z contents) t d) f
 

@@ -101,7 +101,8 @@ mutual
       AreDerTrees-all_canonical bs
       (omega (arith, small, length-le_shortest_encoding Universal true 17 (all_canonical bs))) f
       (w.items refl) in
-      (t, w.alone.1.1 refl (each_canonical bs) (AreDerEncodings-all_canonical bs f t))
+      let (_, (_, in_order)) = w.alone in
+      (t, in_order refl (each_canonical bs) (AreDerEncodings-all_canonical bs f t))
   IsDerTree-canonical (explicit c o n b) small f d =
       let w = IsWhole-shortest_encoding c true n (canonical b) small d in
       let inner : length (canonical b) < 2 ^ 64 =

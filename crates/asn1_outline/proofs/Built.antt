@@ -66,7 +66,7 @@ module _ (x : List ℕ) (o : ℕ) (y : List ℕ) (n : ℕ) (v : List ℕ) (h : �
   Encodes-group k g (unknown c j p m w) e (_, _, F, stays) q =
       let z = SameEncoding-octets y _ _ _ _ _ _ _ _ _ _ F e in
       absurd (elim stays [
-        | inl known ↦ known.1.1 g z.tag
+        | inl (_, (_, no_group)) ↦ no_group g z.tag
         | inr other ↦ other.0 z.class
       ])
 

@@ -117,7 +117,7 @@ tree_integer-encoding o y (explicit c p n b) k w h (_, other, contents, header, 
 tree_integer-encoding o y (unknown c j p n v) k w h (_, header, F, stays) e =
     let z = SameEncoding-octets y c Universal j k n 2 v w header h F e in
     elim stays [
-      | inl known ↦ absurd (known.1.0 (integer (pos 0)) z.tag)
+      | inl (_, (no_leaf, _)) ↦ absurd (no_leaf (integer (pos 0)) z.tag)
       | inr other ↦ absurd (other.0 z.class)
     ]
 

@@ -107,7 +107,8 @@ pub AnswersReadStrict-read :
 AnswersReadStrict-read octets bs es found before after o e d are put =
     let ns = are.nodes in
     let own : IsCanonicalStructure octets ns = (subst (CanonicalDocument octets) (sym are.trees) d, are.structure) in
-    elim (HasPutRecords-entries octets ns es found before after o e (own.0.0, own.1) are.entries put) [
+    let ((document, _), structure) = own in
+    elim (HasPutRecords-entries octets ns es found before after o e (document, structure) are.entries put) [
       | records_put s z n records behind ↦ was_read_strict s z ns own n records behind
       | no_room_for_records s z n more same ↦ had_no_room_strict s z ns own n more same
     ]

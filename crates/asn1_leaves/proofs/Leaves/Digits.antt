@@ -29,10 +29,6 @@ IsPair-two_digits n h = record { small = h; tens = refl; units = refl }
 pub IsPair-digits : (a b : ℕ) → 48 ≤ a → a < 58 → 48 ≤ b → b < 58 → IsPair a b (pair_number a b)
 IsPair-digits a b f g h i = record { small = omega arith; tens = omega arith; units = omega arith }
 
--- a month has a number of days of two digits
-pub days_in_month-le : (y : ℤ) (m : ℕ) → days_in_month y m ≤ 31
-days_in_month-le y m = grind (arith, nat_tests)
-
 -- fields of two digits with a day that each month has are those of a moment of each year
 pub IsSpelled-day_of_each_month :
     (year : ℕ) (octets : List ℕ) (month day hour minute second : ℕ) → year ≤ 9999 →
@@ -182,7 +178,7 @@ unit_of_next_place (suc (suc j)) unit h e =
 
 -- the number of the two digits at a place
 abbrev pub number_at : List ℕ → ℕ → ℕ
-number_at octets place = (slice_index octets place - 48) * 10 + (slice_index octets (place + 1) - 48)
+number_at octets place = pair_number (slice_index octets place) (slice_index octets (place + 1))
 
 pub mul-add-two_digits : (n : ℕ) → n < 100 → (48 + n / 10 - 48) * 10 + (48 + n % 10 - 48) ≡ n
 mul-add-two_digits n h = omega arith
@@ -266,12 +262,13 @@ IsEnd-known end = elim (list_with_last end) [
     | inr n ↦ inr (λ d. IsEnd-ends_in_Z front d.0 z (λ h. false≢true (sym n ∙ ap (λ y. y == 90) h))
         (subst (IsEnd d.0) e d.1))
     | inl y ↦
-        let p = FollowsPoint-some front in
+        let (digits, follow) = FollowsPoint-some front in
         let e' : end ≡ front ++ 90 ∷ [] = e ∙ ap (λ x. front ++ x ∷ []) (eqb-true z 90 y) in
-        elim (cases_Bool (list_all is_ascii_digit p.0)) [
-          | inl a ↦ inl (p.0, IsEnd-after_point end front p.0 a e' p.1)
-          | inr n ↦ inr (λ d. false≢true
-              (sym n ∙ (ap (list_all is_ascii_digit) (IsEnd-digits end front p.0 d.0 e' p.1 d.1) ∙ d.1.0)))
+        elim (cases_Bool (list_all is_ascii_digit digits)) [
+          | inl a ↦ inl (digits, IsEnd-after_point end front digits a e' follow)
+          | inr n ↦ inr (λ d. let (others, is_end) = d in
+              let same : digits ≡ others = IsEnd-digits end front digits others e' follow is_end in
+              false≢true (sym n ∙ (ap (list_all is_ascii_digit) same ∙ is_end.0)))
         ]
   ]
 ]

@@ -10,12 +10,13 @@ use Rattle.std.proofs.lemmas.Int.{ints}
 use Rattle.std.proofs.lemmas.List.{take-append-drop}
 use Rattle.std.proofs.lemmas.Str.{IsAscii-append, IsAscii-take, IsAscii-drop, IsUtf8-from_ascii, IsUtf8-from_is_utf8, is_utf8-from_IsUtf8}
 use Rattle.std.proofs.lemmas.Str.Ascii.{IsAscii-nil, IsAscii-cons}
+use Rattle.jiff_core.proofs.CalendarLemmas.{days_in_month_bounds}
 use Rattle.asn1_leaves.specs.Inner.DigitFields.{IsSpelled, PairAt}
 use Rattle.asn1_leaves.specs.Contents.Moment.{Moment, IsValid, moment_write_fault}
 use Rattle.asn1_leaves.specs.Contents.GeneralizedTime.{GeneralizedTimeContents, GeneralizedTimeFault, IsEnd, IsFaithfulGeneralizedTime, fraction_digits, fraction_number, generalized_time_contents, generalized_time_fault, tenth, to_second, with_point, with_zeros, written_fraction}
 use Rattle.asn1_headers.specs.Fault.{DecodeFault, IsOfReading, invalid_date_value, utf8_fault}
 use Rattle.asn1_leaves.proofs.Leaves.Known.{Known-octets}
-use Rattle.asn1_leaves.proofs.Leaves.Digits.{days_in_month-le, IsEnd-unique, IsEnd-known, fraction_number-fraction_digits, Moment-same_fields, number_at, mul-add-two_digits, IsPair-two_digits, IsValid-known, moment_write_fault-valid}
+use Rattle.asn1_leaves.proofs.Leaves.Digits.{IsEnd-unique, IsEnd-known, fraction_number-fraction_digits, Moment-same_fields, number_at, mul-add-two_digits, IsPair-two_digits, IsValid-known, moment_write_fault-valid}
 
 -- fourteen octets by place are those of the moment
 pub to_second-spelled :
@@ -52,7 +53,7 @@ IsSpelled-to_second second high low n m v f e hi lo =
       valid = v;
       year_is = omega (arith, ints, v, y3);
       month_at = IsPair-two_digits m.month (omega (arith, v));
-      day_at = IsPair-two_digits m.day (omega (arith, v, days_in_month-le m.year m.month));
+      day_at = IsPair-two_digits m.day (omega (arith, v, days_in_month_bounds m.year m.month));
       hour_at = IsPair-two_digits m.hour (omega (arith, v));
       minute_at = IsPair-two_digits m.minute (omega (arith, v));
       second_at = IsPair-two_digits m.second (omega (arith, v));
@@ -134,7 +135,7 @@ second_moment-to_second m v =
     Moment-same_fields m (second_moment (to_second m) m.nanosecond)
     (p ∙ ap pos sum)
     (sym (mul-add-two_digits m.month (omega (arith, v.month))))
-    (sym (mul-add-two_digits m.day (omega (arith, v.day, days_in_month-le m.year m.month))))
+    (sym (mul-add-two_digits m.day (omega (arith, v.day, days_in_month_bounds m.year m.month))))
     (sym (mul-add-two_digits m.hour (omega (arith, v.hour))))
     (sym (mul-add-two_digits m.minute (omega (arith, v.minute))))
     (sym (mul-add-two_digits m.second (omega (arith, v.second))))

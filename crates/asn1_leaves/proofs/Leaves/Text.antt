@@ -36,7 +36,7 @@ TextContents-no_fault Octets cs contents e p f = f
 pub TextContents-or_fault : (form : TextForm) (contents : List ℕ)
     → ((cs : List ℕ) × TextContents form cs contents) ⊎ ((e : DecodeFault) × TextFault form contents e)
 TextContents-or_fault Utf8 contents = elim (cases_Bool (is_utf8 contents)) [
-  | inl are ↦ let u = IsUtf8-from_is_utf8 contents are in inl (u.0, (u.1.0, u.1.1))
+  | inl are ↦ inl (IsUtf8-from_is_utf8 contents are)
   | inr fails ↦ inr (utf8_fault contents, ((λ u. false≢true (sym fails ∙ is_utf8-from_IsUtf8 contents u)), refl))
 ]
 TextContents-or_fault Printable contents = elim (cases_Bool (list_all is_printable contents)) [

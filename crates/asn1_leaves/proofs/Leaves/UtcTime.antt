@@ -4,12 +4,13 @@ use Rattle.std.specs.Prelude.{if◌then◌else◌, nat_lt, pos, ◌≤ℤ◌, un
 use Rattle.std.specs.List.{slice_range}
 use Rattle.std.proofs.lemmas.Bool.Decides.{nat_tests}
 use Rattle.std.proofs.lemmas.Int.{ints}
+use Rattle.jiff_core.proofs.CalendarLemmas.{days_in_month_bounds}
 use Rattle.asn1_leaves.specs.Inner.DigitFields.{IsSpelled, PairAt}
 use Rattle.asn1_leaves.specs.Contents.Moment.{Moment, moment_write_fault}
 use Rattle.asn1_leaves.specs.Contents.UtcTime.{IsFaithfulUtcTime, UtcTimeContents, UtcTimeFault, utc_time_contents, utc_time_fault}
 use Rattle.asn1_headers.specs.Fault.{DecodeFault, IsOfReading}
 use Rattle.asn1_leaves.proofs.Leaves.Known.{Known, Known-within, Known-lt, Known-octets}
-use Rattle.asn1_leaves.proofs.Leaves.Digits.{days_in_month-le, Moment-same_fields, number_at, mul-add-two_digits, IsValid-known, moment_write_fault-valid}
+use Rattle.asn1_leaves.proofs.Leaves.Digits.{Moment-same_fields, number_at, mul-add-two_digits, IsValid-known, moment_write_fault-valid}
 
 -- octets by place are those that are written
 pub utc_time_contents-spelled :
@@ -90,7 +91,7 @@ utc_moment-utc_time_contents m f =
     Moment-same_fields m (utc_moment (utc_time_contents m))
     (p ∙ ap pos g)
     (sym (mul-add-two_digits m.month (omega (arith, f.valid.month))))
-    (sym (mul-add-two_digits m.day (omega (arith, f.valid.day, days_in_month-le m.year m.month))))
+    (sym (mul-add-two_digits m.day (omega (arith, f.valid.day, days_in_month_bounds m.year m.month))))
     (sym (mul-add-two_digits m.hour (omega (arith, f.valid.hour))))
     (sym (mul-add-two_digits m.minute (omega (arith, f.valid.minute))))
     (sym (mul-add-two_digits m.second (omega (arith, f.valid.second))))

@@ -28,14 +28,16 @@ compared_none a = ([], refl, refl, (λ h. (h, refl), λ p. p.0))
 
 pub compared_more : (a b c : Comparison) (xs ys : List ℕ)
     → compared a xs b → compared b ys c → compared a (xs ++ ys) c
-compared_more a b c xs ys p q = (
-  p.0 ++ q.0,
-  p.1 ∙ ap (λ z. p.0 ++ z) q.1 ∙ sym (append_assoc p.0 q.0 c.rest.now),
-  omega (arith, p.2, q.2, length-append p.0 q.0, length-append xs ys),
+compared_more a b c xs ys (first, starts, size, (equal, meant)) (second, goes_on, size', (equal', meant')) = (
+  first ++ second,
+  starts ∙ ap (λ z. first ++ z) goes_on ∙ sym (append_assoc first second c.rest.now),
+  omega (arith, size, size', length-append first second, length-append xs ys),
   (
-    λ h. let s = q.3.0 h in
-        let r = p.3.0 s.0 in (r.0, ap (λ z. z ++ q.0) r.1 ∙ ap (λ z. xs ++ z) s.1),
-    λ h. let s = same_split p.0 xs q.0 ys p.2 h.1 in q.3.1 (p.3.1 (h.0, s.0), s.1),
+    λ same. let (same_first, seconds) = equal' same in
+        let (same_before, firsts) = equal same_first in
+        (same_before, ap (λ z. z ++ second) firsts ∙ ap (λ z. xs ++ z) seconds),
+    λ (same_before, all). let (firsts, seconds) = same_split first xs second ys size all in
+        meant' (meant (same_before, firsts), seconds),
   ),
 )
 

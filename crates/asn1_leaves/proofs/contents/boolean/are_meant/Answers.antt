@@ -6,5 +6,5 @@ use Rattle.asn1_leaves.proofs.contents.boolean.are_meant.Goals as goal
 pub returns : goal.returns
 returns c said = elim (BooleanContents-or_fault c.args.contents.now) [
   | inl meant ↦ meant
-  | inr fault ↦ let one : length c.args.contents.now ≡ 1 = grind (arith, said) in absurd (fault.1.0 one)
+  | inr (_, fault) ↦ let one : length c.args.contents.now ≡ 1 = grind (arith, said) in absurd (fault.0 one)
 ]

@@ -9,8 +9,9 @@ use Rattle.asn1_leaves.proofs.contents.text.are_meant.Goals as goal
 pub returns-in-Utf8 : goal.returns-in-Utf8
 returns-in-Utf8 c said =
     let octets = c.args.contents.now in
-    let u : IsUtf8 octets = grind (arith, common_steps, said) in
-    (u.0, subst (λ z. TextContents z u.0 octets) (sym c.in-Utf8.is) (u.1.0, u.1.1))
+    let are : IsUtf8 octets = grind (arith, common_steps, said) in
+    let (characters, means) = are in
+    (characters, subst (λ z. TextContents z characters octets) (sym c.in-Utf8.is) means)
 
 pub returns-in-Printable : goal.returns-in-Printable
 returns-in-Printable c said =

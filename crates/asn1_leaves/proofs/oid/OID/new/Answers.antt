@@ -17,4 +17,5 @@ returns-in-Some c =
     let short : HaveShortContents c.args.x.items ×
     (c.in-Some.octets.items ≡ object_identifier_contents c.args.x.items) =
     rw (← c.as_slice.ensures.value) c.in-Some.ensures.short in
-    ap components_of short.1 ∙ components_of-object_identifier_contents c.args.x.items short.0.0
+    let (are_short, written) = short in
+    ap components_of written ∙ components_of-object_identifier_contents c.args.x.items are_short.0
