@@ -1,3 +1,3 @@
 mod Standing
-mod Forms
+mod Types
 mod Taking

@@ -1,21 +1,21 @@
 -- What is left where an encoding was taken, and where none was. For `node::Items::take` and for `kind`.
 use Rattle.std.proofs.Common.{◌≡◌, ◌&&◌, ◌∙◌, Bool, true, false, ap, if◌then◌else◌, subst, sym}
 use Rattle.asn1_outline.specs.Shapes.{Shapes}
-use Rattle.der_account.specs.Kinds.{Fields, Form, are_of, one, optional}
+use Rattle.der_account.specs.Kinds.{Fields, ElementType, are_of, one, optional}
 use Rattle.der_account.specs.Places.{AreLeft, HasTaken, begin_with, behind_first}
 use Rattle.der_account.specs.declared.node.Items.{Items}
-use Rattle.der_account.proofs.Forms.{are_of-one, are_of-optional}
+use Rattle.der_account.proofs.Types.{are_of-one, are_of-optional}
 
-pub HasTaken-none : (form : Form) (shapes : Shapes) (items : Items) → begin_with form shapes ≡ false →
-    AreLeft items shapes → HasTaken form shapes false items
-HasTaken-none form shapes items other left = record {
+pub HasTaken-none : (wanted : ElementType) (shapes : Shapes) (items : Items) → begin_with wanted shapes ≡ false →
+    AreLeft items shapes → HasTaken wanted shapes false items
+HasTaken-none wanted shapes items other left = record {
   first = sym other;
   left = subst (λ z. AreLeft items (if z then behind_first shapes else shapes)) (sym other) left;
 }
 
-pub HasTaken-first : (form : Form) (shapes : Shapes) (items : Items) → begin_with form shapes ≡ true →
-    AreLeft items (behind_first shapes) → HasTaken form shapes true items
-HasTaken-first form shapes items same left = record {
+pub HasTaken-first : (wanted : ElementType) (shapes : Shapes) (items : Items) → begin_with wanted shapes ≡ true →
+    AreLeft items (behind_first shapes) → HasTaken wanted shapes true items
+HasTaken-first wanted shapes items same left = record {
   first = sym same;
   left = subst (λ z. AreLeft items (if z then behind_first shapes else shapes)) (sym same) left;
 }
@@ -25,24 +25,24 @@ abbrev pub IsReached : Items → Bool → Fields → Type 0
 IsReached items all fields = (now : Shapes) × AreLeft items now × (all ≡ are_of fields now)
 
 -- what is left where the next field was taken
-module _ (form : Form) (fields : Fields) (old new : Items) (all taken : Bool)
-    (take : (shapes : Shapes) → AreLeft old shapes → HasTaken form shapes taken new) where
-  pub IsReached-one : taken ≡ true → IsReached old all (one form fields) → IsReached new all fields
+module _ (wanted : ElementType) (fields : Fields) (old new : Items) (all taken : Bool)
+    (take : (shapes : Shapes) → AreLeft old shapes → HasTaken wanted shapes taken new) where
+  pub IsReached-one : taken ≡ true → IsReached old all (one wanted fields) → IsReached new all fields
   IsReached-one same (now, left, is) =
-      let found : begin_with form now ≡ true = sym (take now left).first ∙ same in (
+      let found : begin_with wanted now ≡ true = sym (take now left).first ∙ same in (
         behind_first now,
         subst (λ z. AreLeft new (if z then behind_first now else now)) found (take now left).left,
-        is ∙ (are_of-one form fields now ∙ ap (λ z. z && are_of fields (behind_first now)) found),
+        is ∙ (are_of-one wanted fields now ∙ ap (λ z. z && are_of fields (behind_first now)) found),
       )
 
-  pub one-missing : taken ≡ false → IsReached old all (one form fields) → all ≡ false
+  pub one-missing : taken ≡ false → IsReached old all (one wanted fields) → all ≡ false
   one-missing other (now, left, is) =
-      let found : begin_with form now ≡ false = sym (take now left).first ∙ other in
-      is ∙ (are_of-one form fields now ∙ ap (λ z. z && are_of fields (behind_first now)) found)
+      let found : begin_with wanted now ≡ false = sym (take now left).first ∙ other in
+      is ∙ (are_of-one wanted fields now ∙ ap (λ z. z && are_of fields (behind_first now)) found)
 
-  pub IsReached-optional : IsReached old all (optional form fields) → IsReached new all fields
+  pub IsReached-optional : IsReached old all (optional wanted fields) → IsReached new all fields
   IsReached-optional (now, left, is) = (
-    if begin_with form now then behind_first now else now,
+    if begin_with wanted now then behind_first now else now,
     (take now left).left,
-    is ∙ are_of-optional form fields now,
+    is ∙ are_of-optional wanted fields now,
   )

@@ -8,15 +8,15 @@ use Rattle.asn1_outline.specs.Shapes.{Shapes, more_shapes, no_shapes}
 
 mutual
   -- what a definition asks of an encoding
-  pub data Form : Type 0 where
+  pub data ElementType : Type 0 where
     -- a tag of class Universal with this number (X.690 8.1.2.2)
-    universal : ℕ → Form
+    universal : ℕ → ElementType
     -- a tag of class context-specific with this number
-    context : ℕ → Form
+    context : ℕ → ElementType
     -- a CHOICE of two
-    either : Form → Form → Form
+    either : ElementType → ElementType → ElementType
     -- a SEQUENCE (X.690 8.9) of these fields
-    sequence : Fields → Form
+    sequence : Fields → ElementType
 
   -- what it asks of the encodings that the contents octets of a SEQUENCE are
   pub data Fields : Type 0 where
@@ -25,9 +25,9 @@ mutual
     -- none follows
     no_more : Fields
     -- a field, and then these
-    one : Form → Fields → Fields
+    one : ElementType → Fields → Fields
     -- an OPTIONAL field, and then these
-    optional : Form → Fields → Fields
+    optional : ElementType → Fields → Fields
 
 abbrev pub is_universal : ASN1Class → Bool
 is_universal Universal = true
@@ -38,47 +38,47 @@ is_context ContextSpecific = true
 is_context _ = false
 
 abbrev mutual
-  -- the encoding with the header, around these encodings, is of the form
-  pub is_of : Form → PlacedHeader → Shapes → Bool
+  -- the encoding with the header, around these encodings, is of the type
+  pub is_of : ElementType → PlacedHeader → Shapes → Bool
   is_of (universal tag) header items = is_universal header.class && header.tag == tag
   is_of (context tag) header items = is_context header.class && header.tag == tag
   is_of (either a b) header items = is_of a header items || is_of b header items
   is_of (sequence fields) header items = (is_universal header.class && header.tag == SEQUENCE) && are_of fields items
 
-  -- the encodings side by side are these fields. Where the next one is of the form of an optional field, it is this
+  -- the encodings side by side are these fields. Where the next one is of the type of an optional field, it is this
   -- field
   pub are_of : Fields → Shapes → Bool
   are_of and_more _ = true
   are_of no_more no_shapes = true
   are_of no_more (more_shapes offset header items rest) = false
-  are_of (one form fields) no_shapes = false
-  are_of (one form fields) (more_shapes offset header items rest) = is_of form header items && are_of fields rest
-  are_of (optional form fields) no_shapes = are_of fields no_shapes
-  are_of (optional form fields) (more_shapes offset header items rest) =
-      if is_of form header items then are_of fields rest
+  are_of (one wanted fields) no_shapes = false
+  are_of (one wanted fields) (more_shapes offset header items rest) = is_of wanted header items && are_of fields rest
+  are_of (optional wanted fields) no_shapes = are_of fields no_shapes
+  are_of (optional wanted fields) (more_shapes offset header items rest) =
+      if is_of wanted header items then are_of fields rest
       else are_of fields (more_shapes offset header items rest)
 
--- fields of these forms, and then others
-abbrev pub each : List Form → Fields → Fields
+-- fields of these types, and then others
+abbrev pub each : List ElementType → Fields → Fields
 each [] fields = fields
-each (form ∷ forms) fields = one form (each forms fields)
+each (wanted ∷ types) fields = one wanted (each types fields)
 
 -- types of which the tag alone is asked: INTEGER, BIT STRING, OCTET STRING, and a SEQUENCE, as
 -- AlgorithmIdentifier, Name and SubjectPublicKeyInfo are
-abbrev pub integer : Form
+abbrev pub integer : ElementType
 integer = universal INTEGER
 
-abbrev pub bit_string : Form
+abbrev pub bit_string : ElementType
 bit_string = universal BIT_STRING
 
-abbrev pub octet_string : Form
+abbrev pub octet_string : ElementType
 octet_string = universal OCTET_STRING
 
-abbrev pub some_sequence : Form
+abbrev pub some_sequence : ElementType
 some_sequence = universal SEQUENCE
 
 -- Time (RFC 5280, section 4.1): UTCTime or GeneralizedTime
-abbrev pub time : Form
+abbrev pub time : ElementType
 time = either (universal UTC_TIME) (universal GENERALIZED_TIME)
 
 -- Validity (RFC 5280, section 4.1): notBefore and notAfter

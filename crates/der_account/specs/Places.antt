@@ -1,10 +1,10 @@
--- Which encodings a node and items stand for, and how tables write forms. Private contracts alone name these.
+-- Which encodings a node and items stand for, and how tables write types. Private contracts alone name these.
 use Rattle.std.specs.Prelude.{◌≡◌, ◌++◌, ℕ, Bool, false, List, [], ◌∷◌, drop, if◌then◌else◌}
 use Rattle.asn1_blocks.specs.declared.parsed.PlacedHeader.{PlacedHeader}
 use Rattle.asn1_outline.specs.Shapes.{Shapes, entries_of, more_shapes, no_shapes, shape_count}
 use Rattle.asn1_outline.specs.Walked.{walked_entries}
 use Rattle.asn1_outline.specs.declared.entry.Entry.{Entry}
-use Rattle.der_account.specs.Kinds.{Fields, Form, and_more, bit_string, context, each, is_of, no_more, one, optional, request_info, sequence, some_sequence, tbs_certificate, tbs_list, time, universal, validity_fields}
+use Rattle.der_account.specs.Kinds.{Fields, ElementType, and_more, bit_string, context, each, is_of, no_more, one, optional, request_info, sequence, some_sequence, tbs_certificate, tbs_list, time, universal, validity_fields}
 use Rattle.der_account.specs.declared.kind.Field.{Field}
 use Rattle.der_account.specs.declared.kind.Field.TheVariants.{NoMore, One, Optional, Validity}
 use Rattle.der_account.specs.declared.node.Items.{Items}
@@ -32,32 +32,32 @@ pub record AreLeft (items : Items) (shapes : Shapes) : Type 0 where
   pub stand : StandAt (walked_entries items.headers.now) items.next shapes
   pub count : items.left ≡ shape_count shapes
 
--- whether there is a first encoding, and it is of the form
-abbrev pub begin_with : Form → Shapes → Bool
-begin_with form no_shapes = false
-begin_with form (more_shapes offset header items rest) = is_of form header items
+-- whether there is a first encoding, and it is of the type
+abbrev pub begin_with : ElementType → Shapes → Bool
+begin_with wanted no_shapes = false
+begin_with wanted (more_shapes offset header items rest) = is_of wanted header items
 
--- those behind the first
+-- what stands behind the first
 abbrev pub behind_first : Shapes → Shapes
 behind_first no_shapes = no_shapes
 behind_first (more_shapes offset header items rest) = rest
 
--- the first of the encodings is taken where it is of the form
-pub record HasTaken (form : Form) (shapes : Shapes) (taken : Bool) (items : Items) : Type 0 where
-  pub first : taken ≡ begin_with form shapes
-  pub left : AreLeft items (if begin_with form shapes then behind_first shapes else shapes)
+-- the first of the encodings is taken where it is of the type
+pub record HasTaken (wanted : ElementType) (shapes : Shapes) (taken : Bool) (items : Items) : Type 0 where
+  pub first : taken ≡ begin_with wanted shapes
+  pub left : AreLeft items (if begin_with wanted shapes then behind_first shapes else shapes)
 
--- the form of an encoding with the tag
-abbrev pub form_of : Tag → Form
-form_of (Universal number) = universal number
-form_of (Context number) = context number
-form_of Time = time
+-- the type that a tag stands for
+abbrev pub element_type : Tag → ElementType
+element_type (Universal number) = universal number
+element_type (Context number) = context number
+element_type Time = time
 
 -- the fields of a table
 abbrev pub fields_of : List Field → Fields
 fields_of [] = and_more
-fields_of (One tag ∷ fields) = one (form_of tag) (fields_of fields)
-fields_of (Optional tag ∷ fields) = optional (form_of tag) (fields_of fields)
+fields_of (One tag ∷ fields) = one (element_type tag) (fields_of fields)
+fields_of (Optional tag ∷ fields) = optional (element_type tag) (fields_of fields)
 fields_of (Validity ∷ fields) = one (sequence validity_fields) (fields_of fields)
 fields_of (NoMore ∷ fields) = no_more
 

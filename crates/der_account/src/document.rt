@@ -1,6 +1,6 @@
 // What is shown of certificates, certification requests, revocation lists and keys.
 use crate::extension::push_extensions;
-use crate::kind::{ATTRIBUTES, Content, Key, Kind, PUBLIC_KEY, VERSION, has_fields};
+use crate::kind::{ATTRIBUTES, Content, DocumentKind, Key, PUBLIC_KEY, VERSION, has_fields};
 use crate::lines::Lines;
 use crate::name::name_text;
 use crate::node::{INTEGER, Items, Node, SEQUENCE, Tag};
@@ -15,13 +15,13 @@ use std::alloc::AllocError;
 // Pushes the account of a document of the kind, of which this is the first encoding.
 pub fn push_document(
     lines: &mut Lines<'_>,
-    kind: Kind,
+    kind: DocumentKind,
     first: &Node<'_, '_>,
     now: Option<DateTime>,
 ) -> Result<(), AllocError> {
     match kind {
-        Kind::Signed(content) => push_signed(lines, content, first, now),
-        Kind::Key(key) => push_key(lines, key, first),
+        DocumentKind::Signed(content) => push_signed(lines, content, first, now),
+        DocumentKind::Key(key) => push_key(lines, key, first),
     }
 }
 

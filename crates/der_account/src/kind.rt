@@ -9,7 +9,7 @@ use crate::node::{BIT_STRING, INTEGER, Items, Node, OCTET_STRING, SEQUENCE, Tag}
 
 // A kind of document.
 #[derive(Clone, Copy)]
-pub enum Kind {
+pub enum DocumentKind {
     Signed(Content),
     Key(Key),
 }
@@ -111,7 +111,7 @@ const ENCRYPTED_KEY: &[Field] = &[
 ];
 
 // The kind of a document by its first encoding, if it is of one that is known.
-pub fn kind_of(first: &Node<'_, '_>) -> Option<Kind>
+pub fn kind_of(first: &Node<'_, '_>) -> Option<DocumentKind>
     ensures { (offset : ℕ) (header : PlacedHeader) (items rest : Shapes)
         → IsAt first.now offset header items rest
         → is_some result ≡ is_known (more_shapes offset header items rest) }
@@ -120,9 +120,9 @@ pub fn kind_of(first: &Node<'_, '_>) -> Option<Kind>
         return None;
     }
     if let Some(content) = signed_kind(first) {
-        return Some(Kind::Signed(content));
+        return Some(DocumentKind::Signed(content));
     }
-    Some(Kind::Key(key_kind(first)?))
+    Some(DocumentKind::Key(key_kind(first)?))
 }
 
 // The kind of a signed structure.

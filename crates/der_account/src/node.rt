@@ -4,7 +4,7 @@ ghost use Rattle.asn1_blocks.specs.declared.parsed.PlacedHeader.{PlacedHeader};
 ghost use Rattle.asn1_outline.specs.Shapes.{Shapes, more_shapes};
 ghost use Rattle.asn1_outline.specs.Triple.{entry_at};
 ghost use Rattle.der_account.specs.Kinds.{are_of, is_context as is_context_class, is_of, is_universal as is_universal_class, no_more};
-ghost use Rattle.der_account.specs.Places.{AreLeft, HasTaken, IsAt, entries_around, form_of};
+ghost use Rattle.der_account.specs.Places.{AreLeft, HasTaken, IsAt, entries_around, element_type};
 
 use asn1_headers::header::ASN1Class;
 use asn1_headers::tags;
@@ -15,11 +15,11 @@ use std::alloc::{AllocError, Global};
 // The tag of an encoding.
 #[derive(Clone, Copy)]
 pub enum Tag {
-    // Of class Universal, with this number.
+    // A tag of class Universal with this number.
     Universal(u8),
-    // Of class context-specific, with this number.
+    // A tag of class context-specific with this number.
     Context(u8),
-    // That of a UTCTime or a GeneralizedTime.
+    // The tag of a UTCTime or of a GeneralizedTime.
     Time,
 }
 
@@ -104,7 +104,7 @@ impl<'h, 'd> Node<'h, 'd> {
     pub fn is(&self, tag: Tag) -> bool
         ensures { (offset : ℕ) (header : PlacedHeader) (items rest : Shapes)
             → IsAt self.now offset header items rest
-            → result ≡ is_of (form_of tag) header items }
+            → result ≡ is_of (element_type tag) header items }
     {
         let entry = self.entry();
         match tag {
@@ -209,7 +209,7 @@ impl<'h, 'd> Items<'h, 'd> {
     // Takes the next one, if it has the tag.
     pub fn take(&mut self, tag: Tag) -> Option<Node<'h, 'd>>
         ensures { (shapes : Shapes) → AreLeft self.old shapes
-            → HasTaken (form_of tag) shapes (is_some result) self.new }
+            → HasTaken (element_type tag) shapes (is_some result) self.new }
     {
         let first = self.first();
         if self.left == 0 || !first.is(tag) {

@@ -89,13 +89,13 @@ IsValue-encodes octets contents class k tag h (Text characters) o e (narrow, (ki
 IsValue-encodes octets contents class k tag h (WideText form characters) o e wide = inl wide
 IsValue-encodes octets contents class k tag h (OtherText characters) o e ((u, none, has), is, same) =
     IsValue-encodes_unknown octets contents class k tag h e u none o
-IsValue-encodes octets contents class k tag h (Notation words) o e ((u, none, has), is) =
+IsValue-encodes octets contents class k tag h (Notation shown) o e ((u, none, has), is) =
     IsValue-encodes_unknown octets contents class k tag h e u none o
-IsValue-encodes octets contents class k tag h (Moment words) o e (inl (m, is, same)) =
+IsValue-encodes octets contents class k tag h (Moment shown) o e (inl (m, is, same)) =
     IsValue-encodes_leaf octets contents class k tag h e (utc_time m) is
-IsValue-encodes octets contents class k tag h (Moment words) o e (inr (m, is, same)) =
+IsValue-encodes octets contents class k tag h (Moment shown) o e (inr (m, is, same)) =
     IsValue-encodes_leaf octets contents class k tag h e (generalized_time m) is
-IsValue-encodes octets contents class k tag h (BerTime words) o e time = inr (inl time)
+IsValue-encodes octets contents class k tag h (BerTime shown) o e time = inr (inl time)
 IsValue-encodes octets contents class k tag h (Other shown) o e ((u, none, has), other) =
     IsValue-encodes_unknown octets contents class k tag h e u none o
 IsValue-encodes octets contents class k tag h (Tagged value) o e other =

@@ -12,7 +12,7 @@ use Rattle.asn1_leaves.specs.DottedDecimal.{dotted_decimal}
 use Rattle.asn1_leaves.specs.StringKind.{StringKind}
 use Rattle.asn1_blocks.specs.Contents.{LeafContents, LeafFault, is_leaf_tag, leaf_tag}
 use Rattle.asn1_blocks.specs.Tree.{Leaf, bit_string, boolean, generalized_time, integer, null, object_identifier, octet_string, text, utc_time}
-use Rattle.der_values.specs.Strings.{has_text, has_words, is_string}
+use Rattle.der_values.specs.Strings.{has_text, has_notation, is_string}
 use Rattle.der_values.specs.Times.{AreFractionOf, IsMomentText, IsTime}
 use Rattle.der_contents.specs.Faults.{IsFault, IsNamed}
 use Rattle.der_contents.specs.declared.faults.Fault.{Fault}
@@ -61,8 +61,8 @@ IsIdentifier components identifier =
 
 -- the text of the moment that contents octets mean
 abbrev pub IsMomentOf : ASN1Class → ℕ → List ℕ → List ℕ → Type 0
-IsMomentOf class tag contents words =
-    ((m : Moment) × IsLeaf class tag contents (utc_time m) × IsMomentText m [] words)
+IsMomentOf class tag contents shown =
+    ((m : Moment) × IsLeaf class tag contents (utc_time m) × IsMomentText m [] shown)
     ⊎ ((m : Moment) × IsLeaf class tag contents (generalized_time m)
     × ((digits : List ℕ) × AreFractionOf contents digits × IsMomentText m digits words))
 
@@ -84,9 +84,9 @@ IsValue class tag contents (Text characters) =
 IsValue class tag contents (WideText form characters) = is_wide class tag ≡ true
 IsValue class tag contents (OtherText characters) =
     IsNoLeaf class tag true × (is_string tag contents ≡ true) × (string_bytes characters ≡ contents)
-IsValue class tag contents (Notation words) = IsNoLeaf class tag true × (has_words tag ≡ true)
+IsValue class tag contents (Notation shown) = IsNoLeaf class tag true × (has_notation tag ≡ true)
 IsValue class tag contents (OfMoment words) = IsMomentOf class tag contents (string_bytes words)
-IsValue class tag contents (BerTime words) = IsBerTime class tag contents
+IsValue class tag contents (BerTime shown) = IsBerTime class tag contents
 IsValue class tag contents (Other shown) = IsNoLeaf class tag false × ((tag == ENUMERATED) ≡ false)
 IsValue class tag contents (Tagged value) = class ≢ Universal
 IsValue class tag contents (NoText shown) =

@@ -4,7 +4,7 @@ use Rattle.std.specs.Prelude.{Option}
 use Rattle.serde_json.specs.Data.{Members}
 use Rattle.der_io.specs.Characters.{equals_sign}
 use Rattle.der_io.specs.Escaped.{escaped}
-use Rattle.der_inputs.specs.Forms.{IsTitle}
+use Rattle.der_inputs.specs.Formats.{IsTitle}
 use Rattle.der_inputs.specs.Json.{IsOctetsJson, is_all_read}
 use Rattle.der_json.specs.Json.{IsJsonOf, IsStrictJsonOf}
 use Rattle.der_io.specs.Output.{IsWritten}

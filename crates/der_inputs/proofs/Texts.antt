@@ -5,9 +5,9 @@ use Rattle.std.proofs.lemmas.List.Concat.{flat_map-cons}
 use Rattle.std.specs.List.{flat_map}
 use Rattle.std.specs.Prelude.{Option}
 use Rattle.der_io.specs.Output.{IsWritten}
-use Rattle.der_inputs.specs.Forms.{IsFrameOf, IsFramed}
-use Rattle.der_inputs.specs.declared.show.Form.{Form}
-use Rattle.der_inputs.specs.declared.show.Form.TheVariants.{Accounts, Json, Lines, Page}
+use Rattle.der_inputs.specs.Formats.{IsFrameOf, IsFramed}
+use Rattle.der_inputs.specs.declared.show.OutputFormat.{OutputFormat}
+use Rattle.der_inputs.specs.declared.show.OutputFormat.TheVariants.{Accounts, Json, Lines, Page}
 use Rattle.der_inputs.specs.Texts.{AreTexts}
 use Rattle.der_io.proofs.Written.{IsWritten-append}
 
@@ -53,8 +53,8 @@ append-unframed texts first last begun ended =
 
 -- texts between what stands before and behind them
 pub IsFramed-append :
-    (form : Form) (texts first last : List ℕ) → IsFrameOf form first → IsFrameOf form last →
-    IsFramed form texts (first ++ (texts ++ last))
+    (format : OutputFormat) (texts first last : List ℕ) → IsFrameOf format first → IsFrameOf format last →
+    IsFramed format texts (first ++ (texts ++ last))
 IsFramed-append Page texts first last begun ended = (first, last, refl)
 IsFramed-append Lines texts first last begun ended = append-unframed texts first last begun ended
 IsFramed-append Json texts first last begun ended = append-unframed texts first last begun ended

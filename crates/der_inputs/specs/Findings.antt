@@ -2,7 +2,7 @@
 -- offset.
 use Rattle.std.specs.Prelude.{◌≡◌, ◌⊎◌, ℕ, List, [], ◌∷◌, Option, Some, None}
 use Rattle.std.specs.List.{flat_map}
-use Rattle.der_forms.specs.Forms.{InputForm, objects, odd_digits, other_text, plain_octets, spelled}
+use Rattle.der_forms.specs.Formats.{InputForm, objects, odd_digits, other_text, plain_octets, spelled}
 use Rattle.der_forms.specs.Known.{form_is}
 use Rattle.der_forms.specs.Texts.{text_of}
 use Rattle.der_forms.specs.Objects.{Object, document_of, objects_of}

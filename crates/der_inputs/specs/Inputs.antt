@@ -3,12 +3,12 @@ use Rattle.std.specs.Prelude.{◌≡◌, ◌≢◌, ◌⊎◌, ◌||◌, ℕ, Bo
 use Rattle.std.specs.Prelude.{Option, Some, None, IfSome}
 use Rattle.std.specs.Io.KnownBytes.{IsAtEnd}
 use Rattle.der_inputs.specs.Findings.{Finding, IsBlockAt, IsContentsAt, IsValueAt, findings_of, unlabelled}
-use Rattle.der_inputs.specs.Forms.{IsName, IsText, form_by}
+use Rattle.der_inputs.specs.Formats.{IsName, IsText, format_by}
 use Rattle.der_inputs.specs.Outcomes.{all_read}
 use Rattle.der_inputs.specs.Texts.{AreTexts}
 use Rattle.der_inputs.specs.declared.outcome.Outcome.{Outcome}
 use Rattle.der_inputs.specs.declared.outcome.Outcome.TheVariants.{Lacking, Unread, Written}
-use Rattle.der_inputs.specs.declared.show.Form.{Form}
+use Rattle.der_inputs.specs.declared.show.OutputFormat.{OutputFormat}
 use Rattle.der_lines.specs.declared.document.Verdict.{Verdict}
 use Rattle.der_lines.specs.declared.document.Verdict.TheVariants.{AllRead}
 use Rattle.der_options.specs.declared.options.Color.{Color}
@@ -40,7 +40,7 @@ are_colors_shown _ color = is_always color
 pub record Wanted : Type 0 where
   pub task : Task
   pub named : Bool
-  pub form : Form
+  pub format : OutputFormat
   pub colored : Bool
   pub strict : Bool
   pub most_depth : Option ℕ
@@ -50,7 +50,7 @@ abbrev pub wanted_by : Options → ℕ → Wanted
 wanted_by options count = record {
   task = options.task;
   named = names_shown options.task options.is_json count;
-  form = form_by options.is_json options.is_html options.is_text;
+  format = format_by options.is_json options.is_html options.is_text;
   colored = are_colors_shown options.task options.color;
   strict = options.is_strict;
   most_depth = options.most_depth;
@@ -58,7 +58,7 @@ wanted_by options count = record {
 
 -- what is written of a finding
 abbrev pub IsFindingText : Wanted → Option (List ℕ) → Finding → Verdict → List ℕ → Type 0
-IsFindingText wanted file = IsText wanted.form wanted.colored wanted.strict wanted.most_depth file
+IsFindingText wanted file = IsText wanted.format wanted.colored wanted.strict wanted.most_depth file
 
 -- the texts of findings, one after another; where all of each was read, all was
 abbrev pub AreShown : Wanted → Option (List ℕ) → List Finding → Outcome → List ℕ → Type 0
@@ -89,7 +89,7 @@ IsTaskText (Value offset) wanted file input outcome text =
 abbrev pub IsNamedText : Bool → Wanted → List ℕ → List ℕ → Outcome → List ℕ → Type 0
 IsNamedText false wanted name octets outcome text = IsTaskText wanted.task wanted None octets outcome text
 IsNamedText true wanted name octets outcome text =
-    (title own : List ℕ) × (text ≡ title ++ own) × IsName wanted.form wanted.colored name title
+    (title own : List ℕ) × (text ≡ title ++ own) × IsName wanted.format wanted.colored name title
     × IsTaskText wanted.task wanted (Some name) octets outcome own
 
 -- an input: its name, and its octets, where they are known

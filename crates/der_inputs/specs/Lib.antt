@@ -1,7 +1,7 @@
 pub mod Findings
 pub mod Texts
 pub mod Json
-pub mod Forms
+pub mod Formats
 pub mod Outcomes
 pub mod Inputs
 pub mod Growing

@@ -38,7 +38,7 @@ abbrev pub wanted_of : Show → Wanted
 wanted_of show = record {
   task = show.task;
   named = show.is_named;
-  form = show.form;
+  format = show.format;
   colored = show.is_colored;
   strict = show.is_strict;
   most_depth = show.style.most_depth;

@@ -1,7 +1,7 @@
 // Accounts of documents.
 ghost use Rattle.std.specs.Prelude.{◌≡◌, IfOk, true};
 ghost use Rattle.asn1_der.specs.Der.{IsDer};
-ghost use Rattle.der_inputs.specs.Forms.{IsAccount};
+ghost use Rattle.der_inputs.specs.Formats.{IsAccount};
 ghost use Rattle.der_inputs.specs.Parts.{finding_in};
 ghost use Rattle.der_io.specs.Output.{IsWritten};
 ghost use Rattle.der_lines.specs.declared.document.Verdict.TheVariants.{AllRead};

@@ -1,8 +1,8 @@
 // How documents are shown.
 ghost use Rattle.std.specs.Prelude.{◌≡◌, [], IfOk, OnOk, false, unwrap_or};
 ghost use Rattle.std.specs.Option.{option_map};
-ghost use Rattle.der_inputs.specs.Forms.{IsDump, IsDumpOrRefusal, IsFrameOf, IsLabel, IsLines, IsName, IsSection, IsTitle};
-ghost use Rattle.der_inputs.specs.Forms.{IsTitleLine, IsTitleSection, form_by, look_by};
+ghost use Rattle.der_inputs.specs.Formats.{IsDump, IsDumpOrRefusal, IsFrameOf, IsLabel, IsLines, IsName, IsSection, IsTitle};
+ghost use Rattle.der_inputs.specs.Formats.{IsTitleLine, IsTitleSection, format_by, look_by};
 ghost use Rattle.der_io.specs.Output.{IsWritten};
 ghost use Rattle.der_lines.specs.Dump.{IsDumpOf};
 ghost use Rattle.der_rows.specs.Printing.{IsPrinted};
@@ -10,7 +10,7 @@ ghost use Rattle.der_inputs.specs.Inputs.{IsFindingText, are_colors_shown as col
 ghost use Rattle.der_inputs.specs.Inputs.{wanted_by};
 ghost use Rattle.der_inputs.specs.Outcomes.{both_read};
 ghost use Rattle.der_inputs.specs.Parts.{finding_in, octets_in, wanted_of};
-ghost use Rattle.der_inputs.specs.declared.show.Form.TheVariants.{Page as page_form};
+ghost use Rattle.der_inputs.specs.declared.show.OutputFormat.TheVariants.{Page as page_format};
 
 use crate::documents::Document;
 use der_html::{push_foot, push_head};
@@ -25,9 +25,9 @@ use std::alloc::{AllocError, Global};
 use std::io::Write;
 use std::str;
 
-// What the output is.
+// The format of the output.
 #[derive(Clone, Copy)]
-pub enum Form {
+pub enum OutputFormat {
     Lines,
     Json,
     Page,
@@ -42,7 +42,7 @@ pub struct Show {
     pub task: Task,
     // the name of each input is shown
     pub is_named: bool,
-    pub form: Form,
+    pub format: OutputFormat,
     pub is_strict: bool,
     // lines are colored
     pub is_colored: bool,
@@ -72,7 +72,7 @@ impl Show {
             names,
             task: options.task,
             is_named: are_names_shown(options.task, options.is_json, count),
-            form: form_of(options.is_json, options.is_html, options.is_text),
+            format: format_of(options.is_json, options.is_html, options.is_text),
             is_strict: options.is_strict,
             is_colored: are_colors_shown(options.task, options.color),
             style: Style {
@@ -97,11 +97,11 @@ impl Show {
             (option_map (λ name. name.now) file.entry) (finding_in document.now) verdict)
             (W.contents printer.old.out) (W.contents printer.new.out)) }
     {
-        match self.form {
-            Form::Lines => self.push_as_lines(document, printer),
-            Form::Json => self.push_json(file, document, &mut printer.out),
-            Form::Page => self.push_on_page(document, printer),
-            Form::Accounts => self.push_account(document, printer),
+        match self.format {
+            OutputFormat::Lines => self.push_as_lines(document, printer),
+            OutputFormat::Json => self.push_json(file, document, &mut printer.out),
+            OutputFormat::Page => self.push_on_page(document, printer),
+            OutputFormat::Accounts => self.push_account(document, printer),
         }
     }
 
@@ -227,14 +227,14 @@ impl Show {
         name: &str,
         printer: &mut Printer<W>,
     ) -> Result<(), StreamFault>
-        ensures { OnOk result (IsWritten (IsName self.now.form self.now.is_colored name.now)
+        ensures { OnOk result (IsWritten (IsName self.now.format self.now.is_colored name.now)
             (W.contents printer.old.out) (W.contents printer.new.out)) }
     {
-        match self.form {
-            Form::Lines => self.push_name_line(name, printer),
-            Form::Json => Ok(()),
-            Form::Page => self.push_name_on_page(name, printer),
-            Form::Accounts => self.push_name_line(name, printer),
+        match self.format {
+            OutputFormat::Lines => self.push_name_line(name, printer),
+            OutputFormat::Json => Ok(()),
+            OutputFormat::Page => self.push_name_on_page(name, printer),
+            OutputFormat::Accounts => self.push_name_line(name, printer),
         }
     }
 
@@ -274,31 +274,31 @@ impl Show {
 
     // Writes what stands before all texts.
     pub fn begin<W: Write>(&self, out: &mut W) -> Result<(), StreamFault>
-        ensures { OnOk result (IsWritten (IsFrameOf self.now.form) (W.contents out.old) (W.contents out.new)) }
+        ensures { OnOk result (IsWritten (IsFrameOf self.now.format) (W.contents out.old) (W.contents out.new)) }
     {
-        match self.form {
-            Form::Page => write_head(self.alloc, out),
-            Form::Lines => Ok(()),
-            Form::Json => Ok(()),
-            Form::Accounts => Ok(()),
+        match self.format {
+            OutputFormat::Page => write_head(self.alloc, out),
+            OutputFormat::Lines => Ok(()),
+            OutputFormat::Json => Ok(()),
+            OutputFormat::Accounts => Ok(()),
         }
     }
 
     // Writes what stands behind all texts.
     pub fn end<W: Write>(&self, out: &mut W) -> Result<(), StreamFault>
-        ensures { OnOk result (IsWritten (IsFrameOf self.now.form) (W.contents out.old) (W.contents out.new)) }
+        ensures { OnOk result (IsWritten (IsFrameOf self.now.format) (W.contents out.old) (W.contents out.new)) }
     {
-        match self.form {
-            Form::Page => write_foot(self.alloc, out),
-            Form::Lines => Ok(()),
-            Form::Json => Ok(()),
-            Form::Accounts => Ok(()),
+        match self.format {
+            OutputFormat::Page => write_foot(self.alloc, out),
+            OutputFormat::Lines => Ok(()),
+            OutputFormat::Json => Ok(()),
+            OutputFormat::Accounts => Ok(()),
         }
     }
 }
 
 fn write_head<W: Write>(alloc: Global, out: &mut W) -> Result<(), StreamFault>
-    ensures { OnOk result (IsWritten (IsFrameOf page_form) (W.contents out.old) (W.contents out.new)) }
+    ensures { OnOk result (IsWritten (IsFrameOf page_format) (W.contents out.old) (W.contents out.new)) }
 {
     let mut head = Vec::new(alloc);
     push_head(&mut head)?;
@@ -307,7 +307,7 @@ fn write_head<W: Write>(alloc: Global, out: &mut W) -> Result<(), StreamFault>
 }
 
 fn write_foot<W: Write>(alloc: Global, out: &mut W) -> Result<(), StreamFault>
-    ensures { OnOk result (IsWritten (IsFrameOf page_form) (W.contents out.old) (W.contents out.new)) }
+    ensures { OnOk result (IsWritten (IsFrameOf page_format) (W.contents out.old) (W.contents out.new)) }
 {
     let mut foot = Vec::new(alloc);
     push_foot(&mut foot)?;
@@ -341,17 +341,17 @@ fn shapes_for(alloc: Global, options: &Options<'_>) -> Result<Shapes, AllocError
     }
 }
 
-fn form_of(is_json: bool, is_html: bool, is_text: bool) -> Form
-    ensures { result ≡ form_by is_json is_html is_text }
+fn format_of(is_json: bool, is_html: bool, is_text: bool) -> OutputFormat
+    ensures { result ≡ format_by is_json is_html is_text }
 {
     if is_json {
-        Form::Json
+        OutputFormat::Json
     } else if is_html {
-        Form::Page
+        OutputFormat::Page
     } else if is_text {
-        Form::Accounts
+        OutputFormat::Accounts
     } else {
-        Form::Lines
+        OutputFormat::Lines
     }
 }
 

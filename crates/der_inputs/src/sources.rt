@@ -3,7 +3,7 @@ ghost use Rattle.std.specs.Prelude.{◌≡◌, List, ℕ, IfOk, IfErr, IfSome, I
 ghost use Rattle.std.specs.Io.KnownBytes.{Appends, IsAtEnd};
 ghost use Rattle.std.specs.Option.{option_map};
 ghost use Rattle.der_io.specs.Output.{IsWritten};
-ghost use Rattle.der_inputs.specs.Forms.{IsFramed, form_by};
+ghost use Rattle.der_inputs.specs.Formats.{IsFramed, format_by};
 ghost use Rattle.der_inputs.specs.Growing.{Grows};
 ghost use Rattle.der_inputs.specs.Inputs.{AreReadToEnds, IsInputText, IsNamedText, IsPart, IsReadToEnd, IsTaskText};
 ghost use Rattle.der_inputs.specs.Inputs.{input_of, wanted_by};
@@ -56,7 +56,7 @@ pub fn run<R: Read + Drop, W: Write>(
     ensures answered { IfOk result.0 (λ outcomes. (texts output : List ℕ)
         × AreTexts (IsInputText (wanted_by options.now (length sources.old)))
         (map (λ source. input_of source.name.now (R.remaining source.reader)) sources.old) outcomes.items texts
-        × IsFramed (form_by options.now.is_json options.now.is_html options.now.is_text) texts output
+        × IsFramed (format_by options.now.is_json options.now.is_html options.now.is_text) texts output
         × Appends (W.contents w) (W.contents result.1) output) }
     ensures read { IfOk result.0 (λ outcomes. AreReadToEnds outcomes.items
         (map (λ source. R.remaining source.reader) sources.new)) }
@@ -78,7 +78,7 @@ fn run_on<B: Before, R: Read + Drop, W: Write>(
     ensures answered { IfOk result.0 (λ outcomes. (texts output : List ℕ)
         × AreTexts (IsInputText (wanted_by options.now (length sources.old)))
         (map (λ source. input_of source.name.now (R.remaining source.reader)) sources.old) outcomes.items texts
-        × IsFramed (form_by options.now.is_json options.now.is_html options.now.is_text) texts output
+        × IsFramed (format_by options.now.is_json options.now.is_html options.now.is_text) texts output
         × Appends (W.contents w) (W.contents result.1) output) }
     ensures read { IfOk result.0 (λ outcomes. AreReadToEnds outcomes.items
         (map (λ source. R.remaining source.reader) sources.new)) }
@@ -106,7 +106,7 @@ fn write_all_of<R: Read + Drop, W: Write>(
     ensures written { IfOk result (λ outcomes. (texts output : List ℕ)
         × AreTexts (IsInputText (wanted_of show.now))
         (map (λ source. input_of source.name.now (R.remaining source.reader)) sources.old) outcomes.items texts
-        × IsFramed show.now.form texts output
+        × IsFramed show.now.format texts output
         × Appends (W.contents printer.old.out) (W.contents printer.new.out) output) }
     ensures read { IfOk result (λ outcomes. AreReadToEnds outcomes.items
         (map (λ source. R.remaining source.reader) sources.new)) }

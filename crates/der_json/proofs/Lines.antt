@@ -54,13 +54,13 @@ pub refusal_line : (origin : Members) (fault : FaultData)
 unfolding serde_json_on_literals
 refusal_line origin fault = refl
 
-fault_exact_of : (code : Option (List ℕ)) (offset : Option ℕ) (words : List ℕ) →
+fault_exact_of : (code : Option (List ℕ)) (offset : Option ℕ) (message : List ℕ) →
     has_float (object (member_if (codes "code") code
-    (number_if (codes "offset") offset (member (codes "text") (string words) no_members)))) ≡ false
-fault_exact_of None None words = refl
-fault_exact_of None (Some n) words = refl
-fault_exact_of (Some c) None words = refl
-fault_exact_of (Some c) (Some n) words = refl
+    (number_if (codes "offset") offset (member (codes "text") (string message) no_members)))) ≡ false
+fault_exact_of None None message = refl
+fault_exact_of None (Some n) message = refl
+fault_exact_of (Some c) None message = refl
+fault_exact_of (Some c) (Some n) message = refl
 
 pub fault_exact : (fault : FaultData) → has_float (fault_json fault) ≡ false
 fault_exact fault = fault_exact_of fault.code fault.offset fault.message

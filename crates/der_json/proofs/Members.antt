@@ -56,36 +56,36 @@ not_der_end [] others rest e = e
 not_der_end (t ∷ more) others rest e = ap (λ z. rules_text (t ∷ more) ++ z) e
 
 shown_end :
-    (words : Option (List ℕ)) (others : Members) (rest : List ℕ) → rest ≡ members_text true others →
-    text_member (codes ",\"shown\":") words ++ rest ≡ members_text true (member_if (codes "shown") words others)
+    (text : Option (List ℕ)) (others : Members) (rest : List ℕ) → rest ≡ members_text true others →
+    text_member (codes ",\"shown\":") text ++ rest ≡ members_text true (member_if (codes "shown") text others)
 unfolding serde_json_on_literals
 shown_end None others rest e = e
 shown_end (Some t) others rest e = ap (λ z. (codes ",\"shown\":" ++ compact_text (string t)) ++ z) e
 
 octets_end :
-    (words : Option (List ℕ)) (others : Members) (rest : List ℕ) → rest ≡ members_text true others →
-    text_member (codes ",\"octets\":") words ++ rest ≡ members_text true (member_if (codes "octets") words others)
+    (text : Option (List ℕ)) (others : Members) (rest : List ℕ) → rest ≡ members_text true others →
+    text_member (codes ",\"octets\":") text ++ rest ≡ members_text true (member_if (codes "octets") text others)
 unfolding serde_json_on_literals
 octets_end None others rest e = e
 octets_end (Some t) others rest e = ap (λ z. (codes ",\"octets\":" ++ compact_text (string t)) ++ z) e
 
 name_end :
-    (words : Option (List ℕ)) (others : Members) (rest : List ℕ) → rest ≡ members_text true others →
-    text_member (codes ",\"name\":") words ++ rest ≡ members_text true (member_if (codes "name") words others)
+    (text : Option (List ℕ)) (others : Members) (rest : List ℕ) → rest ≡ members_text true others →
+    text_member (codes ",\"name\":") text ++ rest ≡ members_text true (member_if (codes "name") text others)
 unfolding serde_json_on_literals
 name_end None others rest e = e
 name_end (Some t) others rest e = ap (λ z. (codes ",\"name\":" ++ compact_text (string t)) ++ z) e
 
 field_end :
-    (words : Option (List ℕ)) (others : Members) (rest : List ℕ) → rest ≡ members_text true others →
-    text_member (codes ",\"field\":") words ++ rest ≡ members_text true (member_if (codes "field") words others)
+    (text : Option (List ℕ)) (others : Members) (rest : List ℕ) → rest ≡ members_text true others →
+    text_member (codes ",\"field\":") text ++ rest ≡ members_text true (member_if (codes "field") text others)
 unfolding serde_json_on_literals
 field_end None others rest e = e
 field_end (Some t) others rest e = ap (λ z. (codes ",\"field\":" ++ compact_text (string t)) ++ z) e
 
 type_end :
-    (words : Option (List ℕ)) (others : Members) (rest : List ℕ) → rest ≡ members_text true others →
-    text_member (codes ",\"of\":") words ++ rest ≡ members_text true (member_if (codes "of") words others)
+    (text : Option (List ℕ)) (others : Members) (rest : List ℕ) → rest ≡ members_text true others →
+    text_member (codes ",\"of\":") text ++ rest ≡ members_text true (member_if (codes "of") text others)
 unfolding serde_json_on_literals
 type_end None others rest e = e
 type_end (Some t) others rest e = ap (λ z. (codes ",\"of\":" ++ compact_text (string t)) ++ z) e

@@ -19,12 +19,12 @@ use Rattle.der_contents.specs.Faults.{IsFault, IsNamed}
 use Rattle.der_contents.specs.Values.{IsMeaning}
 use Rattle.der_pieces.specs.Pieces.{IsJoined, IsKind, IsLeafMeaning, IsNameless, IsOpenedFault, kind_front}
 use Rattle.der_contents.specs.declared.faults.Fault.{Fault as PieceFault}
-use Rattle.der_pieces.specs.declared.piece.Kind.{Kind}
-use Rattle.der_pieces.specs.declared.piece.Kind.TheVariants.{Cut, EndOfContents, Leaf, Opened, Unreadable}
+use Rattle.der_pieces.specs.declared.piece.PieceKind.{PieceKind}
+use Rattle.der_pieces.specs.declared.piece.PieceKind.TheVariants.{Cut, EndOfContents, Leaf, Opened, Unreadable}
 use Rattle.der_pieces.specs.declared.strings.Joined.{Joined}
 use Rattle.der_contents.specs.declared.value.LeafValue.{LeafValue}
 use Rattle.der_contents.proofs.Values.{is_gone_into-primitive}
-use Rattle.der_json.specs.Json.{AreShown, Departed, IsJudged, IsOpenedValue, IsRowOf, cut_short, fault_data, named_fault, of_encoding, of_end, of_none, of_segments, of_stray_form, of_unreadable, with_contents, with_encodings, with_no_value, words_fault}
+use Rattle.der_json.specs.Json.{AreShown, Departed, IsJudged, IsOpenedValue, IsRowOf, cut_short, fault_data, named_fault, of_encoding, of_end, of_none, of_segments, of_stray_form, of_unreadable, with_contents, with_encodings, with_no_value, nameless_fault}
 use Rattle.asn1_departures.specs.declared.rule.Rule.{Rule}
 use Rattle.der_json.specs.Rows.{IsHeaderTag, IsTagOf, joined_json, kind_json, kind_octets, kind_size, leaf_json, leaf_octets, opened_json, row_of, placed_data, value_octets, wrong_octets}
 use Rattle.der_json.specs.declared.object.Object.{Object}
@@ -38,7 +38,7 @@ primitive_closed class constructed tag e =
 -- what the fault tells
 fault_data-named :
     (offset at : ℕ) (found : DecodeFault) (fault : Option PieceFault) → IsFault (IsNamed offset found) fault →
-    (words : List ℕ) × (option_map (placed_data at) fault ≡ Some (named_fault at found words))
+    (message : List ℕ) × (option_map (placed_data at) fault ≡ Some (named_fault at found message))
 fault_data-named offset at found None none = absurd none
 fault_data-named offset at found (Some f) (o, code) = (
   string_bytes f.message,
@@ -47,7 +47,7 @@ fault_data-named offset at found (Some f) (o, code) = (
 
 fault_data-nameless :
     (offset at : ℕ) (fault : Option PieceFault) → IsFault (IsNameless offset) fault →
-    (words : List ℕ) × (option_map (placed_data at) fault ≡ Some (words_fault at words))
+    (message : List ℕ) × (option_map (placed_data at) fault ≡ Some (nameless_fault at message))
 fault_data-nameless offset at None none = absurd none
 fault_data-nameless offset at (Some f) (o, code) = (
   string_bytes f.message,
@@ -76,7 +76,7 @@ meaning_there class tag contents offset None fault (u, (found, wrong, is)) = the
 meaning_there class tag contents offset (Some value) fault (is, none) = there_none offset fault none
 
 pub fault_there :
-    (left : List ℕ) (offset : ℕ) (kind : Kind) (fault : Option PieceFault) → IsKind left offset kind fault →
+    (left : List ℕ) (offset : ℕ) (kind : PieceKind) (fault : Option PieceFault) → IsKind left offset kind fault →
     IfSome fault (λ f. f.offset ≡ offset)
 fault_there left offset (EndOfContents size) fault (inl (two, none)) = there_none offset fault none
 fault_there left offset (EndOfContents size) fault (inr (zero, is)) = there_named offset incomplete fault is
@@ -173,8 +173,8 @@ module _ (left : List ℕ) (offset depth : ℕ) (rules : List Rule) (object : Ob
       × ((text : List ℕ) × (option_map fault_data object.fault ≡ Some (named_fault object.offset incomplete text))))
   end_fault size (inl (two, none)) = inl (two, no_fault none)
   end_fault size (inr (zero, is)) =
-      let (words, named) = fault_data-named offset object.offset incomplete fault is in
-      inr (zero, (words, fault_is ∙ named))
+      let (message, named) = fault_data-named offset object.offset incomplete fault is in
+      inr (zero, (message, fault_is ∙ named))
 
   opened_judged :
       {meaning : Option Meaning} (header : Header) (stray : Bool) (contents : List ℕ) (joined : Option Joined) →
@@ -186,8 +186,8 @@ module _ (left : List ℕ) (offset depth : ℕ) (rules : List Rule) (object : Ob
       IsJudged left (header_front offset depth rules meaning header) object.offset header.class header.constructed
       header.tag stray (view object.value) (option_map string_bytes object.octets) (option_map fault_data object.fault)
   opened_judged header stray contents joined o e j (inl (is, there)) v d =
-      let (words, named) = fault_data-nameless offset object.offset fault there in
-      of_stray_form is (v ∙ null_there (IsNameless offset) fault joined there) d words (fault_is ∙ named)
+      let (message, named) = fault_data-nameless offset object.offset fault there in
+      of_stray_form is (v ∙ null_there (IsNameless offset) fault joined there) d message (fault_is ∙ named)
   opened_judged header stray contents joined o e j (inr (is, none)) v d =
       with_encodings o
       (subst (λ z. IsOpenedValue header.class header.tag z header.is_indefinite (view object.value)) e
@@ -204,8 +204,8 @@ module _ (left : List ℕ) (offset depth : ℕ) (rules : List Rule) (object : Ob
       AreShown object.offset header.class header.tag contents (view object.value)
       (option_map string_bytes object.octets) (option_map fault_data object.fault)
   meaning_shown header contents None o (u, (found, wrong, is)) v d =
-      let (words, named) = fault_data-named offset object.offset found fault is in
-      with_no_value u found words wrong v (d ∙ wrong_named offset found fault contents is) (fault_is ∙ named)
+      let (message, named) = fault_data-named offset object.offset found fault is in
+      with_no_value u found message wrong v (d ∙ wrong_named offset found fault contents is) (fault_is ∙ named)
   meaning_shown header contents (Some value) o (is, none) v d =
       subst (AreShown object.offset header.class header.tag contents (view object.value)
       (option_map string_bytes object.octets)) (sym (no_fault none))
@@ -226,9 +226,10 @@ module _ (left : List ℕ) (offset depth : ℕ) (rules : List Rule) (object : Ob
       header.tag (is_stray_form header.constructed (drop (length h.identifier) left)) (view object.value)
       (option_map string_bytes object.octets) (option_map fault_data object.fault)
   leaf_judged header h contents value o e (inl (stray, none, there)) v d =
-      let (words, named) = fault_data-nameless offset object.offset fault there in
+      let (message, named) = fault_data-nameless offset object.offset fault there in
       of_stray_form stray (v ∙ ap (leaf_json contents) none)
-      (d ∙ (ap (leaf_octets fault contents) none ∙ wrong_nameless offset fault contents there)) words (fault_is ∙ named)
+      (d ∙ (ap (leaf_octets fault contents) none ∙ wrong_nameless offset fault contents there)) message
+      (fault_is ∙ named)
   leaf_judged header h contents value o e (inr (stray, is)) v d =
       let all = slice_range left header.size (header.size + header.announced) in
       with_contents o
@@ -237,12 +238,12 @@ module _ (left : List ℕ) (offset depth : ℕ) (rules : List Rule) (object : Ob
 
   -- the object of a piece of each kind
   pub row_is :
-      (kind : Kind) → object.size ≡ kind_size kind → IsTagOf kind object.tag →
+      (kind : PieceKind) → object.size ≡ kind_size kind → IsTagOf kind object.tag →
       view object.value ≡ kind_json fault kind →
       option_map string_bytes object.octets ≡ kind_octets fault kind → IsKind left offset kind fault →
       IsRowOf left (kind_front offset depth rules false kind) (row_of object inside marks)
   row_is (EndOfContents size) s t v d k = of_end (record {
-    words = refl;
+    type_name = refl;
     size = s;
     class = t.0;
     constructed = t.1;
@@ -253,9 +254,9 @@ module _ (left : List ℕ) (offset depth : ℕ) (rules : List Rule) (object : Ob
     fault = end_fault size k;
   })
   row_is (Unreadable octets) s t v d (same, (found, is)) =
-      let (words, named) = fault_data-named offset object.offset found fault is in
+      let (message, named) = fault_data-named offset object.offset found fault is in
       of_unreadable (record {
-        words = refl;
+        type_name = refl;
         size = s ∙ ap (λ z. Some (length z)) same;
         class = t.0;
         constructed = t.1;
@@ -264,11 +265,11 @@ module _ (left : List ℕ) (offset depth : ℕ) (rules : List Rule) (object : Ob
         value = v ∙ ap (λ z. string (encode_lower z)) same;
         no_octets = d;
         found = found;
-        text = words;
+        text = message;
         fault = fault_is ∙ named;
       })
   row_is (Cut header contents) s t v d (h, l, e, is) =
-      let (words, named) = fault_data-named offset object.offset incomplete fault is in
+      let (message, named) = fault_data-named offset object.offset incomplete fault is in
       let n : length (drop header.size left) ≡ length left - header.size = length-drop header.size left in
       let there : length contents.now ≡ length (drop header.size left) = ap length e in
       encoding_row header h
@@ -278,7 +279,7 @@ module _ (left : List ℕ) (offset depth : ℕ) (rules : List Rule) (object : Ob
       (cut_short l
       (v ∙ ap (λ z. if is_gone_into header.class header.constructed header.tag then null else string (encode_lower z))
       e)
-      d words (fault_is ∙ named))
+      d message (fault_is ∙ named))
   row_is (Opened header contents joined) s t v d (h, whole, o, e, j, is) =
       let all = header.size + header.announced in
       encoding_row header h

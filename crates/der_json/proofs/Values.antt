@@ -19,7 +19,7 @@ use Rattle.der_contents.specs.declared.value.Identifier.{Identifier}
 use Rattle.der_contents.specs.declared.value.LeafValue.{LeafValue}
 use Rattle.der_contents.specs.declared.value.LeafValue.TheVariants.{BerTime, Bits, Boolean, Identifier as OfIdentifier, Integer, Moment, NoText, Notation, Null, Octets, Other, OtherText, Tagged, Text, WideText}
 use Rattle.der_contents.proofs.Values.{Encodes-leaf, Encodes-tagged, Encodes-unknown}
-use Rattle.der_json.specs.Json.{AreShown, IsIdentifierValue, IsLeafValue, IsValueOf, as_text, as_time, in_their_form, in_words, is_text_type, of_block, of_characters, of_no_text, of_other_type, other_value, whole_json, with_value, without_characters}
+use Rattle.der_json.specs.Json.{AreShown, IsIdentifierValue, IsLeafValue, IsValueOf, as_text, as_time, in_their_form, in_notation, is_text_type, of_block, of_characters, of_no_text, of_other_type, other_value, whole_json, with_value, without_characters}
 use Rattle.der_json.specs.Rows.{value_json, value_octets}
 
 and_false : (b : Bool) → (b && false) ≡ false
@@ -188,14 +188,14 @@ value_shown offset class tag contents (WideText form characters) o wide =
     in_their_form wide (string_bytes characters) refl refl refl
 value_shown offset class tag contents (OtherText characters) o ((u, none, has), is, same) =
     as_text u has (of_characters is (ap string same) refl) refl
-value_shown offset class tag contents (Notation words) o ((u, none, has), is) =
-    as_text u has (in_words is (string_bytes words) refl refl) refl
-value_shown offset class tag contents (Moment words) o (inl (m, is, same)) =
-    plain_shown offset class tag contents (utc_time m) _ refl is (string_bytes words, same, refl)
-value_shown offset class tag contents (Moment words) o (inr (m, is, (digits, fraction, same))) =
+value_shown offset class tag contents (Notation shown) o ((u, none, has), is) =
+    as_text u has (in_notation is (string_bytes shown) refl refl) refl
+value_shown offset class tag contents (Moment shown) o (inl (m, is, same)) =
+    plain_shown offset class tag contents (utc_time m) _ refl is (string_bytes shown, same, refl)
+value_shown offset class tag contents (Moment shown) o (inr (m, is, (digits, fraction, same))) =
     plain_shown offset class tag contents (generalized_time m) _ refl is
-    (digits, string_bytes words, fraction, same, refl)
-value_shown offset class tag contents (BerTime words) o time = as_time time (string_bytes words) refl refl refl
+    (digits, string_bytes shown, fraction, same, refl)
+value_shown offset class tag contents (BerTime shown) o time = as_time time (string_bytes shown) refl refl refl
 value_shown offset class tag contents (Other shown) o ((u, none, has), other) =
     other_shown offset class tag contents _ u none o has (of_block (no_other class tag contents u other) refl)
 value_shown offset class tag contents (Tagged value) o other =

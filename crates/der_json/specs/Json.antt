@@ -32,7 +32,7 @@ use Rattle.der_elements.specs.Headers.{is_gone_into}
 use Rattle.der_pieces.specs.Marks.{Breach, breaches_of}
 use Rattle.der_elements.specs.Segments.{AreSegmentsOf}
 use Rattle.der_contents.specs.Values.{HasShortFront, IsBerTime, has_wide_characters, is_wide}
-use Rattle.der_values.specs.Strings.{has_text, has_words, is_string}
+use Rattle.der_values.specs.Strings.{has_text, has_notation, is_string}
 use Rattle.der_values.specs.Times.{AreFractionOf, IsMomentText}
 use Rattle.der_json.specs.Shown.{shown_text}
 use Rattle.der_json.specs.declared.fault.Fault.{Fault}
@@ -135,8 +135,8 @@ named_fault offset fault message = record {
 }
 
 -- a fault without a name, at the offset
-abbrev pub words_fault : ℕ → List ℕ → FaultData
-words_fault offset message = record { code = None; offset = Some offset; message = message }
+abbrev pub nameless_fault : ℕ → List ℕ → FaultData
+nameless_fault offset message = record { code = None; offset = Some offset; message = message }
 
 -- the value of contents octets that mean the tree: by their type, or of the block
 pub data IsValueOf (class : ASN1Class) (tag : ℕ) (contents : List ℕ) (tree : Tree ℕ) (value : Data) : Type 0 where
@@ -151,8 +151,8 @@ pub data IsTextValue (tag : ℕ) (contents : List ℕ) (value : Data) (octets : 
   of_characters :
       is_string tag contents ≡ true → value ≡ string contents → octets ≡ None →
       IsTextValue tag contents value octets
-  in_words :
-      has_words tag ≡ true → (text : List ℕ) → value ≡ string text → octets ≡ None →
+  in_notation :
+      has_notation tag ≡ true → (text : List ℕ) → value ≡ string text → octets ≡ None →
       IsTextValue tag contents value octets
   of_no_text :
       is_string tag contents ≡ false → value ≡ null → octets ≡ Some (encode_lower contents) →
@@ -184,8 +184,8 @@ pub data AreShown (offset : ℕ) (class : ASN1Class) (tag : ℕ) (contents : Lis
       IsValueOf class tag contents tree value → octets ≡ None → fault ≡ None →
       AreShown offset class tag contents value octets fault
   with_no_value :
-      class ≡ Universal → (found : DecodeFault) (words : List ℕ) → LeafFault tag contents found →
-      value ≡ null → octets ≡ Some (encode_lower contents) → fault ≡ Some (named_fault offset found words) →
+      class ≡ Universal → (found : DecodeFault) (message : List ℕ) → LeafFault tag contents found →
+      value ≡ null → octets ≡ Some (encode_lower contents) → fault ≡ Some (named_fault offset found message) →
       AreShown offset class tag contents value octets fault
 
 -- what is shown of an encoding that is gone into: nothing; or of a string whose segments are joined what is shown of
@@ -205,11 +205,11 @@ pub data IsJudged (octets : List ℕ) (front : Front) (offset : ℕ) (class : AS
       length octets < front.header + front.contents →
       value ≡ (if is_gone_into class constructed tag then null
       else string (encode_lower (drop front.header octets))) → digits ≡ None →
-      (words : List ℕ) → fault ≡ Some (named_fault offset incomplete words) →
+      (message : List ℕ) → fault ≡ Some (named_fault offset incomplete message) →
       IsJudged octets front offset class constructed tag stray value digits fault
   of_stray_form :
       stray ≡ true → value ≡ null → digits ≡ None →
-      (words : List ℕ) → fault ≡ Some (words_fault offset words) →
+      (message : List ℕ) → fault ≡ Some (nameless_fault offset message) →
       IsJudged octets front offset class constructed tag stray value digits fault
   with_encodings :
       is_gone_into class constructed tag ≡ true →
@@ -252,7 +252,7 @@ pub record Row : Type 0 where
 
 -- end-of-contents octets, of which there are two, or none where they are missing
 pub record IsEndRow (front : Front) (row : Row) : Type 0 where
-  pub words : front.words ≡ codes "end-of-contents"
+  pub type_name : front.type_name ≡ codes "end-of-contents"
   pub size : row.size ≡ Some front.header
   pub class : row.class ≡ Some (codes "universal")
   pub constructed : row.constructed ≡ Some false
@@ -267,7 +267,7 @@ pub record IsEndRow (front : Front) (row : Row) : Type 0 where
 
 -- octets that begin with no header
 pub record IsUnreadableRow (octets : List ℕ) (front : Front) (row : Row) : Type 0 where
-  pub words : front.words ≡ codes "unreadable"
+  pub type_name : front.type_name ≡ codes "unreadable"
   pub size : row.size ≡ Some (length octets)
   pub class : row.class ≡ None
   pub constructed : row.constructed ≡ None
@@ -325,7 +325,7 @@ abbrev pub rule_members : Breach → Members
 rule_members rule =
     member (codes "rule") (string rule.name)
     (member (codes "section") (string rule.section)
-    (member (codes "text") (string rule.words) no_members))
+    (member (codes "text") (string rule.text) no_members))
 
 abbrev pub rule_json : Breach → Data
 rule_json rule = object (rule_members rule)
@@ -485,7 +485,7 @@ marks_text (mark ∷ marks) origin =
 -- the line that there are no octets
 abbrev pub IsEmptyLine : Members → List ℕ → Type 0
 IsEmptyLine origin text =
-    (words : List ℕ) × (text ≡ line_text (refusal_json (named_fault 0 empty_buffer words) origin))
+    (message : List ℕ) × (text ≡ line_text (refusal_json (named_fault 0 empty_buffer message) origin))
 
 -- the text is of octets in which nothing is at fault, or something is: a line of the rows, and that of the first fault
 abbrev pub IsJsonOf : List ℕ → Members → Bool → List ℕ → Type 0

@@ -14,8 +14,8 @@ use Rattle.der_pieces.specs.Marks.{Breach, breach_of, breaches_of}
 use Rattle.der_pieces.specs.Pieces.{front_of, kind_header}
 use Rattle.der_contents.specs.declared.faults.Fault.{Fault as PieceFault}
 use Rattle.der_pieces.specs.declared.nested.Nested.{Nested}
-use Rattle.der_pieces.specs.declared.piece.Kind.{Kind}
-use Rattle.der_pieces.specs.declared.piece.Kind.TheVariants.{Cut, EndOfContents, Leaf, Opened, Unreadable}
+use Rattle.der_pieces.specs.declared.piece.PieceKind.{PieceKind}
+use Rattle.der_pieces.specs.declared.piece.PieceKind.TheVariants.{Cut, EndOfContents, Leaf, Opened, Unreadable}
 use Rattle.der_pieces.specs.declared.piece.Piece.{Piece}
 use Rattle.der_pieces.specs.declared.place.Place.{Place}
 use Rattle.der_pieces.specs.declared.strings.Joined.{Joined}
@@ -99,7 +99,7 @@ placed_data offset fault = record {
 abbrev pub encoding_size : Header → List ℕ → Option ℕ
 encoding_size header contents = if header.is_indefinite then None else Some (header.size + length contents)
 
-abbrev pub kind_size : Kind → Option ℕ
+abbrev pub kind_size : PieceKind → Option ℕ
 kind_size (EndOfContents size) = Some size
 kind_size (Unreadable octets) = Some (length octets.now)
 kind_size (Cut header contents) = encoding_size header contents.now
@@ -117,7 +117,7 @@ IsHeaderTag header =
     IsTagWith (Some (class_name header.class)) (Some header.constructed) (natural_json header.tag)
     (type_name header.class header.tag)
 
-abbrev pub IsTagOf : Kind → Tag → Type 0
+abbrev pub IsTagOf : PieceKind → Tag → Type 0
 IsTagOf (EndOfContents size) =
     IsTagWith (Some (codes "universal")) (Some false) (number (unsigned 0)) (Some (codes "end-of-contents"))
 IsTagOf (Unreadable octets) = IsTagWith None None null None
@@ -151,7 +151,7 @@ leaf_octets fault contents None = wrong_octets fault contents
 leaf_octets fault contents (Some value) = value_octets contents value
 
 -- the value of a piece, and its contents octets
-abbrev pub kind_json : Option PieceFault → Kind → Data
+abbrev pub kind_json : Option PieceFault → PieceKind → Data
 kind_json fault (EndOfContents size) = null
 kind_json fault (Unreadable all) = string (encode_lower all.now)
 kind_json fault (Cut header contents) =
@@ -159,7 +159,7 @@ kind_json fault (Cut header contents) =
 kind_json fault (Opened header contents joined) = opened_json fault joined
 kind_json fault (Leaf header contents value) = leaf_json contents.now value
 
-abbrev pub kind_octets : Option PieceFault → Kind → Option (List ℕ)
+abbrev pub kind_octets : Option PieceFault → PieceKind → Option (List ℕ)
 kind_octets fault (EndOfContents size) = None
 kind_octets fault (Unreadable all) = None
 kind_octets fault (Cut header contents) = None
@@ -205,7 +205,7 @@ abbrev pub rules_text : List Breach → List ℕ
 rules_text [] = []
 rules_text (rule ∷ more) = codes ",\"not_der\":" ++ compact_text (array (items_of rule_json (rule ∷ more)))
 
--- those that not every object has, but for blocks
+-- the members that not every object has, but for blocks
 abbrev pub last_members : Object → List ℕ
 last_members object =
     text_member (codes ",\"field\":") (option_map (λ t. t.now) object.field)

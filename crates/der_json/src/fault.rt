@@ -25,8 +25,8 @@ pub struct Fault {
 /// # Errors
 /// Memory ran out, which is also said of that error.
 pub fn fault_at(alloc: Global, offset: usize, error: &ASN1DecodeErr) -> Result<Fault, AllocError>
-    ensures { IfOk result (λ fault. (words : List ℕ)
-        × (fault_data fault ≡ named_fault offset (fault_of error.now) words)) }
+    ensures { IfOk result (λ fault. (message : List ℕ)
+        × (fault_data fault ≡ named_fault offset (fault_of error.now) message)) }
 {
     let fault = faults::fault_at(alloc, offset, error)?;
     Ok(placed(fault, offset))

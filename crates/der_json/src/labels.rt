@@ -7,7 +7,7 @@ use asn1_numbers::number::big_int::BigInt;
 use der_contents::scalars::LEAST_HEX;
 use der_contents::value::{Identifier, LeafValue, TaggedValue};
 use der_names::Names;
-use der_pieces::piece::{Kind, Piece};
+use der_pieces::piece::{Piece, PieceKind};
 use der_values::{Role, general_name};
 use std::alloc::{AllocError, Global};
 
@@ -18,18 +18,18 @@ pub fn name_of(
     piece: &Piece<'_>,
 ) -> Result<Option<String>, AllocError> {
     match &piece.kind {
-        Kind::Leaf(
+        PieceKind::Leaf(
             _,
             _,
             Some(LeafValue::Bits(bits) | LeafValue::Tagged(TaggedValue::Bits(bits))),
         ) => { copy_of(&bits.names) }
-        Kind::Leaf(_, _, Some(LeafValue::Identifier(identifier))) => {
+        PieceKind::Leaf(_, _, Some(LeafValue::Identifier(identifier))) => {
             identifier_name(alloc, names, identifier)
         }
-        Kind::Leaf(header, _, _) | Kind::Opened(header, _, _) => {
+        PieceKind::Leaf(header, _, _) | PieceKind::Opened(header, _, _) => {
             role_name(alloc, piece.place.role(header))
         }
-        Kind::EndOfContents(_) | Kind::Unreadable(_) | Kind::Cut(_, _) => Ok(None),
+        PieceKind::EndOfContents(_) | PieceKind::Unreadable(_) | PieceKind::Cut(_, _) => Ok(None),
     }
 }
 
@@ -67,14 +67,16 @@ fn role_name(alloc: Global, role: Role) -> Result<Option<String>, AllocError> {
 // What else is shown of a piece: how much of it is there, or its contents octets as text or in hex digits.
 pub fn shown_of(alloc: Global, piece: &Piece<'_>) -> Result<Option<String>, AllocError> {
     match &piece.kind {
-        Kind::EndOfContents(_) | Kind::Unreadable(_) | Kind::Opened(_, _, _) => Ok(None),
-        Kind::Cut(header, contents) => {
+        PieceKind::EndOfContents(_) | PieceKind::Unreadable(_) | PieceKind::Opened(_, _, _) => Ok(
+            None,
+        ),
+        PieceKind::Cut(header, contents) => {
             let there = contents.len();
             let announced = header.announced;
             Ok(Some(format!(in alloc; "truncated: {there} of {announced} bytes")?))
         }
-        Kind::Leaf(_, contents, Some(value)) => shown_value(alloc, contents, value),
-        Kind::Leaf(_, _, None) => match &piece.fault {
+        PieceKind::Leaf(_, contents, Some(value)) => shown_value(alloc, contents, value),
+        PieceKind::Leaf(_, _, None) => match &piece.fault {
             Some(fault) => copy_of(&fault.text),
             None => Ok(None),
         },

@@ -81,9 +81,9 @@ impl Object {
     {
         push_text_if(alloc, b",\"field\":", self.field, out)?;
         push_text_if(alloc, b",\"of\":", self.of, out)?;
-        push_words(alloc, b",\"name\":", &self.name, out)?;
-        push_words(alloc, b",\"shown\":", &self.shown, out)?;
-        push_words(alloc, b",\"octets\":", &self.octets, out)?;
+        push_optional_text(alloc, b",\"name\":", &self.name, out)?;
+        push_optional_text(alloc, b",\"shown\":", &self.shown, out)?;
+        push_optional_text(alloc, b",\"octets\":", &self.octets, out)?;
         push_rules(alloc, &self.not_der, out)?;
         push_fault(alloc, &self.fault, out)?;
         Ok(())
@@ -120,18 +120,18 @@ fn text_or_null(alloc: Global, text: Option<&str>) -> Result<Value, AllocError>
     }
 }
 
-// Puts words behind their name, if there are some.
-fn push_words(
+// Puts a text behind its name, if there is one.
+fn push_optional_text(
     alloc: Global,
     name: &[u8],
-    words: &Option<String>,
+    text: &Option<String>,
     out: &mut Vec<u8>,
 ) -> Result<(), AllocError>
     ensures { OnOk result (out.new.items
-        ≡ out.old.items ++ text_member name.now (option_map string_bytes words.now)) }
+        ≡ out.old.items ++ text_member name.now (option_map string_bytes text.now)) }
 {
-    match words {
-        Some(words) => push_text(alloc, name, words, out),
+    match text {
+        Some(text) => push_text(alloc, name, text, out),
         None => Ok(()),
     }
 }

@@ -19,7 +19,7 @@ use der_contents::faults;
 use der_elements::header::holds_encodings;
 use der_elements::sum::sum_of;
 use der_names::Names;
-use der_pieces::piece::{Kind, Piece};
+use der_pieces::piece::{Piece, PieceKind};
 use der_pieces::strings::Joined;
 use der_pieces::tag;
 use der_shapes::Named;
@@ -74,15 +74,15 @@ fn placed_if(fault: Option<faults::Fault>, offset: usize) -> Option<Fault>
 }
 
 // How many octets a piece has, as far as they are there, where its length is of the definite form.
-fn size_of(kind: &Kind<'_>) -> Result<Option<usize>, AllocError>
+fn size_of(kind: &PieceKind<'_>) -> Result<Option<usize>, AllocError>
     ensures { IfOk result (λ size. size ≡ kind_size kind.now) }
 {
     match kind {
-        Kind::EndOfContents(size) => Ok(Some(*size)),
-        Kind::Unreadable(octets) => Ok(Some(octets.len())),
-        Kind::Cut(header, contents)
-        | Kind::Opened(header, contents, _)
-        | Kind::Leaf(header, contents, _) => encoding_size(header, contents),
+        PieceKind::EndOfContents(size) => Ok(Some(*size)),
+        PieceKind::Unreadable(octets) => Ok(Some(octets.len())),
+        PieceKind::Cut(header, contents)
+        | PieceKind::Opened(header, contents, _)
+        | PieceKind::Leaf(header, contents, _) => encoding_size(header, contents),
     }
 }
 
@@ -96,24 +96,26 @@ fn encoding_size(header: &Header, contents: &[u8]) -> Result<Option<usize>, Allo
 }
 
 // The tag of a piece. End-of-contents octets have 0, of class Universal (X.690 8.1.5).
-fn tag_of(alloc: Global, kind: &Kind<'_>) -> Result<Tag, AllocError>
+fn tag_of(alloc: Global, kind: &PieceKind<'_>) -> Result<Tag, AllocError>
     ensures value { IfOk result (IsTagOf kind.now) }
     ensures exact { IfOk result (λ tag. has_float (view tag.number) ≡ false) }
 {
     match kind {
-        Kind::EndOfContents(_) => Ok(Tag {
+        PieceKind::EndOfContents(_) => Ok(Tag {
             class: Some("universal"),
             constructed: Some(false),
             number: Value::from(0usize),
             kind: Some("end-of-contents"),
         }),
-        Kind::Unreadable(_) => Ok(Tag {
+        PieceKind::Unreadable(_) => Ok(Tag {
             class: None,
             constructed: None,
             number: Value::Null,
             kind: None,
         }),
-        Kind::Cut(header, _) | Kind::Opened(header, _, _) | Kind::Leaf(header, _, _) => Ok(Tag {
+        PieceKind::Cut(header, _)
+        | PieceKind::Opened(header, _, _)
+        | PieceKind::Leaf(header, _, _) => Ok(Tag {
             class: Some(header.class.name()),
             constructed: Some(header.constructed),
             number: natural_value(alloc, &header.tag)?,
@@ -128,12 +130,12 @@ fn value_of(alloc: Global, piece: &Piece<'_>) -> Result<Value, AllocError>
     ensures exact { IfOk result (λ v. has_float (view v) ≡ false) }
 {
     match &piece.kind {
-        Kind::EndOfContents(_) => Ok(Value::Null),
-        Kind::Unreadable(octets) => octets_value(alloc, octets),
-        Kind::Cut(header, contents) => cut_value(alloc, header, contents),
-        Kind::Opened(_, _, joined) => opened_value(alloc, joined, &piece.fault),
-        Kind::Leaf(_, contents, Some(value)) => leaf_value(alloc, contents, value),
-        Kind::Leaf(_, _, None) => Ok(Value::Null),
+        PieceKind::EndOfContents(_) => Ok(Value::Null),
+        PieceKind::Unreadable(octets) => octets_value(alloc, octets),
+        PieceKind::Cut(header, contents) => cut_value(alloc, header, contents),
+        PieceKind::Opened(_, _, joined) => opened_value(alloc, joined, &piece.fault),
+        PieceKind::Leaf(_, contents, Some(value)) => leaf_value(alloc, contents, value),
+        PieceKind::Leaf(_, _, None) => Ok(Value::Null),
     }
 }
 
@@ -182,10 +184,12 @@ fn octets_of(alloc: Global, piece: &Piece<'_>) -> Result<Option<String>, AllocEr
         option_map string_bytes octets ≡ kind_octets piece.now.fault piece.now.kind) }
 {
     match &piece.kind {
-        Kind::Leaf(_, contents, Some(value)) => octets_of_no_text(alloc, contents, value),
-        Kind::Leaf(_, contents, None) => octets_at_fault(alloc, contents, &piece.fault),
-        Kind::EndOfContents(_) | Kind::Unreadable(_) | Kind::Cut(_, _) | Kind::Opened(_, _, _) =>
-            Ok(None),
+        PieceKind::Leaf(_, contents, Some(value)) => octets_of_no_text(alloc, contents, value),
+        PieceKind::Leaf(_, contents, None) => octets_at_fault(alloc, contents, &piece.fault),
+        PieceKind::EndOfContents(_)
+        | PieceKind::Unreadable(_)
+        | PieceKind::Cut(_, _)
+        | PieceKind::Opened(_, _, _) => Ok(None),
     }
 }
 

@@ -4,7 +4,7 @@ use Rattle.std.proofs.lemmas.List.{map-append, take_more}
 use Rattle.der_lines.specs.Dump.{AreMarked, marked_offset, no_more, one, one_inside}
 use Rattle.der_pieces.specs.Fronts.{Front}
 use Rattle.der_pieces.specs.Marks.{Breach, are_some}
-use Rattle.der_lines.specs.MarkText.{separator, words_text}
+use Rattle.der_lines.specs.MarkText.{separator, breaches_text}
 use Rattle.der_lines.specs.Steps.{counted}
 
 -- marks after marks
@@ -40,35 +40,35 @@ pub AreMarked-one : (P : Front → Type 0) (inside : Bool) (f : Front) → P f �
 AreMarked-one P true f i = one_inside f [] (sym (append-nil (marked_offset f))) i (no_more refl refl)
 AreMarked-one P false f i = one f [] [] refl (sym (append-nil (marked_offset f))) (no_more refl refl)
 
--- words after words
-words_text-later : (xs : List Breach) (x : Breach) →
-    words_text true (xs ++ x ∷ []) ≡ words_text true xs ++ (separator true ++ x.words)
-words_text-later [] x = ap (λ z. separator true ++ z) (append-nil x.words)
-words_text-later (y ∷ xs) x =
-    ap (λ z. separator true ++ (y.words ++ z)) (words_text-later xs x)
-    ∙ (ap (λ z. separator true ++ z) (sym (append_assoc y.words (words_text true xs) (separator true ++ x.words)))
-    ∙ sym (append_assoc (separator true) (y.words ++ words_text true xs) (separator true ++ x.words)))
+-- the texts of breaches behind others
+breaches_text-later : (xs : List Breach) (x : Breach) →
+    breaches_text true (xs ++ x ∷ []) ≡ breaches_text true xs ++ (separator true ++ x.text)
+breaches_text-later [] x = ap (λ z. separator true ++ z) (append-nil x.text)
+breaches_text-later (y ∷ xs) x =
+    ap (λ z. separator true ++ (y.text ++ z)) (breaches_text-later xs x)
+    ∙ (ap (λ z. separator true ++ z) (sym (append_assoc y.text (breaches_text true xs) (separator true ++ x.text)))
+    ∙ sym (append_assoc (separator true) (y.text ++ breaches_text true xs) (separator true ++ x.text)))
 
-words_text-append : (xs : List Breach) (x : Breach) →
-    words_text false (xs ++ x ∷ []) ≡ words_text false xs ++ (separator (are_some xs) ++ x.words)
-words_text-append [] x = append-nil x.words
-words_text-append (y ∷ xs) x =
-    ap (λ z. y.words ++ z) (words_text-later xs x)
-    ∙ sym (append_assoc y.words (words_text true xs) (separator true ++ x.words))
+breaches_text-append : (xs : List Breach) (x : Breach) →
+    breaches_text false (xs ++ x ∷ []) ≡ breaches_text false xs ++ (separator (are_some xs) ++ x.text)
+breaches_text-append [] x = append-nil x.text
+breaches_text-append (y ∷ xs) x =
+    ap (λ z. y.text ++ z) (breaches_text-later xs x)
+    ∙ sym (append_assoc y.text (breaches_text true xs) (separator true ++ x.text))
 
 are_some-append : (xs : List Breach) (x : Breach) → true ≡ are_some (xs ++ x ∷ [])
 are_some-append [] x = refl
 are_some-append (y ∷ xs) x = refl
 
--- the words of one more were put, of those at an index
+-- the text of one more was put, of those at an index
 pub put_at :
     {A : Type 0} (breach : A → Breach) (rules : List A) (i : ℕ) (d : A) (later : Bool)
     (before middle comma after : List ℕ) →
     i < length rules → later ≡ are_some (map breach (take i rules)) →
-    middle ≡ before ++ words_text false (map breach (take i rules)) → comma ≡ middle ++ separator later →
-    after ≡ comma ++ (breach (get_or rules i d)).words →
+    middle ≡ before ++ breaches_text false (map breach (take i rules)) → comma ≡ middle ++ separator later →
+    after ≡ comma ++ (breach (get_or rules i d)).text →
     (true ≡ are_some (map breach (take (i + 1) rules)))
-    × (after ≡ before ++ words_text false (map breach (take (i + 1) rules)))
+    × (after ≡ before ++ breaches_text false (map breach (take (i + 1) rules)))
 put_at breach rules i d later before middle comma after within some m c e =
     let xs = map breach (take i rules) in
     let x = get_or rules i d in
@@ -76,10 +76,10 @@ put_at breach rules i d later before middle comma after within some m c e =
     let more : map breach (take (i + 1) rules) ≡ xs ++ y ∷ [] =
     ap (map breach) (take_more rules i d within) ∙ map-append breach (take i rules) (x ∷ []) in (
       are_some-append xs y ∙ ap are_some (sym more),
-      e ∙ (ap (λ z. z ++ y.words) (c ∙ ap (λ z. z ++ separator later) m)
-          ∙ (append_assoc (before ++ words_text false xs) (separator later) y.words
-          ∙ (append_assoc before (words_text false xs) (separator later ++ y.words)
+      e ∙ (ap (λ z. z ++ y.text) (c ∙ ap (λ z. z ++ separator later) m)
+          ∙ (append_assoc (before ++ breaches_text false xs) (separator later) y.text
+          ∙ (append_assoc before (breaches_text false xs) (separator later ++ y.text)
           ∙ ap (λ z. before ++ z)
-          (ap (λ z. words_text false xs ++ (separator z ++ y.words)) some ∙ sym (words_text-append xs y)))))
-          ∙ ap (λ z. before ++ words_text false z) (sym more),
+          (ap (λ z. breaches_text false xs ++ (separator z ++ y.text)) some ∙ sym (breaches_text-append xs y)))))
+          ∙ ap (λ z. before ++ breaches_text false z) (sym more),
     )

@@ -9,7 +9,7 @@ use Rattle.der_pieces.specs.Fronts.{Front}
 use Rattle.der_pieces.specs.Fronts.{StandAt, is_too_deep}
 use Rattle.der_lines.specs.Dump.{StandsInside, block_line, down_to, inside_line, no_lines}
 use Rattle.der_pieces.specs.Marks.{Breach, breaches_of}
-use Rattle.der_lines.specs.MarkText.{mark_text, words_text}
+use Rattle.der_lines.specs.MarkText.{mark_text, breaches_text}
 use Rattle.der_lines.specs.Steps.{IsLineOf, IsLineUnless, outer}
 use Rattle.der_rows.proofs.OneLine.{IsOneLine-append, IsOneLine-on_one_line}
 use Rattle.der_rows.proofs.Printed.{Prints-nil}
@@ -113,7 +113,7 @@ row_text row = on_one_line row.value.now ++ on_one_line (fault_message row)
 -- the line of a row
 row_block :
     (row : Row) (f : Front) → row.offset ≡ f.offset → row.header ≡ f.header → row.contents ≡ f.contents →
-    row.is_indefinite ≡ f.indefinite → row.depth ≡ f.depth → on_one_line row.type_name.now ≡ f.words →
+    row.is_indefinite ≡ f.indefinite → row.depth ≡ f.depth → on_one_line row.type_name.now ≡ f.type_name →
     on_one_line row.mark.now ≡ mark_text (breaches_of f.rules f.has_spare_bits) →
     IfSome f.meaning (λ meaning. IsMeaningText meaning (row_text row)) → (width : ℕ) (line : List ℕ) →
     line ≡ right_of width row.offset ++ row_rest row → IsBlockLine f line
@@ -125,7 +125,7 @@ row_block row f o h c i d w m v width line is =
     replicate (width - length (decimal f.offset)) 32
     ++ (decimal f.offset ++ (32 ∷ [] ++ (right_of 2 f.header ++ (32 ∷ []
     ++ (contents_column f.indefinite f.contents ++ (32 ∷ 32 ∷ []
-    ++ (indentation f.depth ++ (field ++ (f.words ++ ((value ++ fault) ++ on_one_line row.mark.now))))))))))
+    ++ (indentation f.depth ++ (field ++ (f.type_name ++ ((value ++ fault) ++ on_one_line row.mark.now))))))))))
     = rw (is, o, h, c, i, d, w) (simp append_assoc) in
     record {
       spaces = width - length (decimal f.offset);
@@ -144,7 +144,7 @@ row_block row f o h c i d w m v width line is =
 pub row_line_of :
     (inside : Bool) (row : Row) (f : Front) → row.is_inside ≡ inside → row.offset ≡ f.offset → row.header ≡ f.header →
     row.contents ≡ f.contents → row.is_indefinite ≡ f.indefinite → row.depth ≡ f.depth →
-    on_one_line row.type_name.now ≡ f.words →
+    on_one_line row.type_name.now ≡ f.type_name →
     on_one_line row.mark.now ≡ mark_text (breaches_of f.rules f.has_spare_bits) →
     IfSome f.meaning (λ meaning. IsMeaningText meaning (row_text row)) → IsLineOf inside f (row_line row)
 row_line_of true row f q o h c i d w m v =
@@ -195,7 +195,7 @@ StandsInside-inside octets part base m further f at e s =
         header = l.header;
         contents = l.contents;
         indefinite = l.indefinite;
-        words = l.words;
+        type_name = l.type_name;
         rules = l.rules;
         meaning = l.meaning;
       };
@@ -207,15 +207,15 @@ mark_text-none [] e = refl
 mark_text-none (x ∷ breaches) e = absurd (omega (arith, e))
 
 mark_text-some : (breaches : List Breach) → 0 < length breaches →
-    mark_text breaches ≡ codes " (not DER: " ++ (words_text false breaches ++ codes ")")
+    mark_text breaches ≡ codes " (not DER: " ++ (breaches_text false breaches ++ codes ")")
 mark_text-some [] some = absurd (omega (arith, some))
 mark_text-some (x ∷ breaches) some = refl
 
 pub mark_put :
     (a b c d : List ℕ) (breaches : List Breach) → 0 < length breaches → b ≡ a ++ codes " (not DER: " →
-    c ≡ b ++ words_text false breaches → d ≡ c ++ 41 ∷ [] → d ≡ a ++ mark_text breaches
+    c ≡ b ++ breaches_text false breaches → d ≡ c ++ 41 ∷ [] → d ≡ a ++ mark_text breaches
 mark_put a b c d breaches some p q r =
-    let whole : d ≡ a ++ (codes " (not DER: " ++ (words_text false breaches ++ codes ")")) =
+    let whole : d ≡ a ++ (codes " (not DER: " ++ (breaches_text false breaches ++ codes ")")) =
     rw (r, q, p) (simp append_assoc) in
     whole ∙ ap (λ z. a ++ z) (sym (mark_text-some breaches some))
 

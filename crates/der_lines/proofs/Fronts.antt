@@ -105,7 +105,7 @@ module _ (place : Place) (octets : List ℕ) (fronts : List Front) (old new : Wa
         header = refl;
         contents = refl;
         indefinite = refl;
-        words = refl;
+        type_name = refl;
         rules = refl;
         meaning = refl;
       } in
@@ -258,7 +258,7 @@ closed base octets fronts faults p read (inl (f, (earlier, others, e), l)) =
         header = l.header;
         contents = l.contents;
         indefinite = l.indefinite;
-        words = l.words;
+        type_name = l.type_name;
         rules = l.rules;
         meaning = l.meaning;
       };

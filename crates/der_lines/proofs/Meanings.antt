@@ -7,8 +7,8 @@ use Rattle.der_lines.specs.ValueText.{parenthesized_if}
 use Rattle.der_lines.specs.declared.values.ValueStyle.{ValueStyle}
 use Rattle.der_pieces.proofs.FieldPaths.{IfSome-weaker}
 use Rattle.der_pieces.specs.Pieces.{kind_meaning}
-use Rattle.der_pieces.specs.declared.piece.Kind.{Kind}
-use Rattle.der_pieces.specs.declared.piece.Kind.TheVariants.{Cut, EndOfContents, Leaf, Opened, Unreadable}
+use Rattle.der_pieces.specs.declared.piece.PieceKind.{PieceKind}
+use Rattle.der_pieces.specs.declared.piece.PieceKind.TheVariants.{Cut, EndOfContents, Leaf, Opened, Unreadable}
 use Rattle.der_pieces.specs.declared.piece.Piece.{Piece}
 use Rattle.der_rows.specs.Rows.{on_one_line}
 
@@ -20,7 +20,7 @@ unwrap_or-none text (Some fault) none = absurd (cc none)
 
 -- the text of a piece of the kind, and its message
 kind_shown :
-    (style : ValueStyle) (kind : Kind) (value text message : List ℕ) (name : Option (List ℕ)) →
+    (style : ValueStyle) (kind : PieceKind) (value text message : List ℕ) (name : Option (List ℕ)) →
     IsKindText style kind value → text ≡ value ++ parenthesized_if name →
     IfSome (kind_meaning kind) (λ _. message ≡ []) →
     IfSome (kind_meaning kind) (λ meaning. IsMeaningText meaning (on_one_line text ++ on_one_line message))
@@ -40,10 +40,11 @@ kind_shown style (Leaf header contents (Some v)) value text message name is e no
 
 -- what stands behind the type in the row of a piece, with the message of the row's fault
 pub piece_shown :
-    {A : Type 0} (words : A → List ℕ) (piece : Piece) (text : List ℕ) (fault : Option A) → IsPieceText piece text →
+    {A : Type 0} (text_of : A → List ℕ) (piece : Piece) (text : List ℕ) (fault : Option A) → IsPieceText piece text →
     IfSome (kind_meaning piece.kind) (λ _. piece.fault ≡ None) → is_some fault ≡ is_some piece.fault →
     IfSome (kind_meaning piece.kind) (λ meaning.
-    IsMeaningText meaning (on_one_line text ++ on_one_line (unwrap_or (option_map words fault) [])))
-piece_shown words piece text fault (style, value, name, of, is, e) right same =
-    kind_shown style piece.kind value text (unwrap_or (option_map words fault) []) name is e
-    (IfSome-weaker (kind_meaning piece.kind) _ _ (λ m none. unwrap_or-none words fault (same ∙ ap is_some none)) right)
+    IsMeaningText meaning (on_one_line text ++ on_one_line (unwrap_or (option_map text_of fault) [])))
+piece_shown text_of piece text fault (style, value, name, of, is, e) right same =
+    kind_shown style piece.kind value text (unwrap_or (option_map text_of fault) []) name is e
+    (IfSome-weaker (kind_meaning piece.kind) _ _
+    (λ m none. unwrap_or-none text_of fault (same ∙ ap is_some none)) right)

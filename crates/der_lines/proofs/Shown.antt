@@ -9,12 +9,12 @@ use Rattle.asn1_departures.specs.declared.rule.Rule.TheVariants.{LongIdentifier,
 use Rattle.asn1_headers.specs.Names.{type_name, universal_names}
 use Rattle.asn1_headers.specs.declared.header.ASN1Class.{ASN1Class}
 use Rattle.asn1_headers.specs.declared.header.ASN1Class.TheVariants.{Universal, Application, ContextSpecific, Private}
-use Rattle.der_lines.specs.MarkText.{mark_text, separator, words_text}
-use Rattle.der_pieces.specs.Fronts.{tag_number, tag_words}
+use Rattle.der_lines.specs.MarkText.{mark_text, separator, breaches_text}
+use Rattle.der_pieces.specs.Fronts.{tag_number, tag_name}
 use Rattle.der_pieces.specs.Marks.{spare_breach, breaches_of}
-use Rattle.der_pieces.specs.Pieces.{kind_words}
-use Rattle.der_pieces.specs.declared.piece.Kind.{Kind}
-use Rattle.der_pieces.specs.declared.piece.Kind.TheVariants.{Cut, EndOfContents, Leaf, Opened, Unreadable}
+use Rattle.der_pieces.specs.Pieces.{kind_type_name}
+use Rattle.der_pieces.specs.declared.piece.PieceKind.{PieceKind}
+use Rattle.der_pieces.specs.declared.piece.PieceKind.TheVariants.{Cut, EndOfContents, Leaf, Opened, Unreadable}
 use Rattle.der_rows.proofs.OneLine.{IsOneLine-append, IsOneLine-decimal, IsOneLine-if}
 use Rattle.der_rows.specs.Rows.{IsOneLine, is_shown}
 
@@ -51,22 +51,23 @@ separator_shown : (later : Bool) → IsOneLine (separator later)
 separator_shown true = refl
 separator_shown false = refl
 
-words_shown : (later : Bool) (rules : List Rule) (spare : Bool) → IsOneLine (words_text later (breaches_of rules spare))
-words_shown later [] false = refl
-words_shown later [] true = IsOneLine-append (separator later) (spare_breach.words ++ []) (separator_shown later) refl
-words_shown later (rule ∷ rules) spare =
-    let more = words_text true (breaches_of rules spare) in
+breaches_shown : (later : Bool) (rules : List Rule) (spare : Bool)
+    → IsOneLine (breaches_text later (breaches_of rules spare))
+breaches_shown later [] false = refl
+breaches_shown later [] true = IsOneLine-append (separator later) (spare_breach.text ++ []) (separator_shown later) refl
+breaches_shown later (rule ∷ rules) spare =
+    let more = breaches_text true (breaches_of rules spare) in
     IsOneLine-append (separator later) (text_of rule ++ more) (separator_shown later)
-    (IsOneLine-append (text_of rule) more (rule_shown rule) (words_shown true rules spare))
+    (IsOneLine-append (text_of rule) more (rule_shown rule) (breaches_shown true rules spare))
 
 -- a mark
 pub mark_shown : (rules : List Rule) (spare : Bool) → IsOneLine (mark_text (breaches_of rules spare))
 mark_shown [] false = refl
 mark_shown [] true = refl
 mark_shown (rule ∷ rules) spare =
-    let words = words_text false (breaches_of (rule ∷ rules) spare) in
-    IsOneLine-append (codes " (not DER: ") (words ++ codes ")") refl
-    (IsOneLine-append words (codes ")") (words_shown false (rule ∷ rules) spare) refl)
+    let text = breaches_text false (breaches_of (rule ∷ rules) spare) in
+    IsOneLine-append (codes " (not DER: ") (text ++ codes ")") refl
+    (IsOneLine-append text (codes ")") (breaches_shown false (rule ∷ rules) spare) refl)
 
 -- a name, if there is one
 abbrev is_shown_name : Option (List ℕ) → Bool
@@ -93,7 +94,7 @@ numbered front tag one =
     IsOneLine-append front (tag_number tag ++ codes "]") one
     (IsOneLine-append (tag_number tag) (codes "]") (number_shown tag) refl)
 
-tag_shown : (class : ASN1Class) (tag : ℕ) → IsOneLine (tag_words class tag)
+tag_shown : (class : ASN1Class) (tag : ℕ) → IsOneLine (tag_name class tag)
 tag_shown Universal tag =
     name_or (type_name Universal tag) _ (name_shown universal_names tag refl)
     (numbered (codes "[UNIVERSAL ") tag refl)
@@ -102,7 +103,7 @@ tag_shown ContextSpecific tag = numbered (codes "[") tag refl
 tag_shown Private tag = numbered (codes "[PRIVATE ") tag refl
 
 -- the type of a piece
-pub type_shown : (kind : Kind) → IsOneLine (kind_words kind)
+pub type_shown : (kind : PieceKind) → IsOneLine (kind_type_name kind)
 type_shown (EndOfContents size) = refl
 type_shown (Unreadable octets) = refl
 type_shown (Cut header contents) = tag_shown header.class header.tag

@@ -40,7 +40,7 @@ pub record IsBlockLine (front : Front) (line : List ℕ) : Type 0 where
   pub line_is : line ≡
       replicate spaces space ++ (decimal front.offset ++ (space ∷ [] ++ (right_of 2 front.header ++ (space ∷ []
       ++ (contents_column front.indefinite front.contents ++ (space ∷ space ∷ []
-      ++ (indentation front.depth ++ (field ++ (front.words ++ (text ++ mark))))))))))
+      ++ (indentation front.depth ++ (field ++ (front.type_name ++ (text ++ mark))))))))))
   pub one_field : IsOneLine field
   pub one : IsOneLine text
   pub value : IfSome front.meaning (λ meaning. IsMeaningText meaning text)
@@ -70,7 +70,7 @@ pub record IsLater (base : ℕ) (front later : Front) : Type 0 where
   pub header : later.header ≡ front.header
   pub contents : later.contents ≡ front.contents
   pub indefinite : later.indefinite ≡ front.indefinite
-  pub words : later.words ≡ front.words
+  pub type_name : later.type_name ≡ front.type_name
   pub rules : later.rules ≡ front.rules
   pub meaning : later.meaning ≡ front.meaning
 

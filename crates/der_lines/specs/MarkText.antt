@@ -6,11 +6,11 @@ use Rattle.der_pieces.specs.Marks.{Breach}
 abbrev pub separator : Bool → List ℕ
 separator later = if later then codes ", " else []
 
-abbrev pub words_text : Bool → List Breach → List ℕ
-words_text later [] = []
-words_text later (breach ∷ more) = separator later ++ (breach.words ++ words_text true more)
+abbrev pub breaches_text : Bool → List Breach → List ℕ
+breaches_text later [] = []
+breaches_text later (breach ∷ more) = separator later ++ (breach.text ++ breaches_text true more)
 
 -- the mark at the end of a line
 abbrev pub mark_text : List Breach → List ℕ
 mark_text [] = []
-mark_text (breach ∷ more) = codes " (not DER: " ++ (words_text false (breach ∷ more) ++ codes ")")
+mark_text (breach ∷ more) = codes " (not DER: " ++ (breaches_text false (breach ∷ more) ++ codes ")")

@@ -4,8 +4,8 @@ use Rattle.std.specs.Prelude.{IfSome, MatchOption, None, Option, Some}
 use Rattle.der_contents.specs.Scalars.{after_space}
 use Rattle.der_lines.specs.ValueText.{IsValueText, opened_text, parenthesized_if, spaced_if}
 use Rattle.der_lines.specs.declared.values.ValueStyle.{ValueStyle}
-use Rattle.der_pieces.specs.declared.piece.Kind.{Kind}
-use Rattle.der_pieces.specs.declared.piece.Kind.TheVariants.{Cut, EndOfContents, Leaf, Opened, Unreadable}
+use Rattle.der_pieces.specs.declared.piece.PieceKind.{PieceKind}
+use Rattle.der_pieces.specs.declared.piece.PieceKind.TheVariants.{Cut, EndOfContents, Leaf, Opened, Unreadable}
 use Rattle.der_pieces.specs.declared.strings.Joined.{Joined}
 use Rattle.der_io.specs.Characters.{space}
 use Rattle.der_pieces.specs.PieceFields.{AreNamesOf}
@@ -76,7 +76,7 @@ IsOpenedText style joined text =
     × (text ≡ spaced_if name ++ opened_text style is_shown identifier_name joined)
 
 -- what stands behind the type of a piece of the kind: its value; of octets that have none these
-abbrev pub IsKindText : ValueStyle → Kind → List ℕ → Type 0
+abbrev pub IsKindText : ValueStyle → PieceKind → List ℕ → Type 0
 IsKindText style (EndOfContents size) text = text ≡ []
 IsKindText style (Unreadable octets) text = text ≡ after_space style.is_full octets.now
 IsKindText style (Cut header contents) text = text ≡ []

@@ -5,7 +5,7 @@ ghost use Rattle.der_lines.specs.Steps.{IsLast, mark_offsets};
 ghost use Rattle.der_rows.specs.Printing.{IsPrinted};
 
 use crate::encodings::{Marked, Problems, push_encodings};
-use crate::lines::{push_fault, push_fault_line, push_words};
+use crate::lines::{push_fault, push_fault_line, push_rules};
 use asn1_headers::error::ASN1DecodeErr;
 use der_io::StreamFault;
 use der_names::Names;
@@ -131,7 +131,7 @@ fn push_mark_line<W: Write>(
 {
     let mut text = Vec::new(alloc);
     text.extend_from_slice(b"not DER: ")?;
-    push_words(&mark.rules, &mut text)?;
+    push_rules(&mark.rules, &mut text)?;
     push_fault(mark.offset, &text, printer)
 }
 

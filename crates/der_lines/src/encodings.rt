@@ -3,7 +3,7 @@ ghost use Rattle.std.specs.Prelude.{◌≡◌, ◌<◌, ◌++◌, ◌∷◌, [],
 ghost use Rattle.der_contents.specs.Scalars.{after_space};
 ghost use Rattle.der_io.specs.Characters.{space};
 ghost use Rattle.der_lines.specs.Dump.{marked_offset};
-ghost use Rattle.der_pieces.specs.Pieces.{IsHolding, kind_words};
+ghost use Rattle.der_pieces.specs.Pieces.{IsHolding, kind_type_name};
 ghost use Rattle.der_lines.specs.PieceRows.{IsFieldText, IsKindText, IsNamedBy, IsNestedDump, IsOpenedText, IsPieceDump, IsPieceText, IsRight, row_faults, shown_front};
 ghost use Rattle.der_lines.specs.ValueText.{IsValueText, is_tagged};
 ghost use Rattle.der_rows.specs.Printing.{IsPrinted, IsPrintedAs};
@@ -23,7 +23,7 @@ use der_elements::sum::sum_of;
 use der_io::StreamFault;
 use der_names::Names;
 use der_pieces::marks::BrokenRule;
-use der_pieces::piece::{Kind, Piece};
+use der_pieces::piece::{Piece, PieceKind};
 use der_pieces::place::{Place, is_too_deep};
 use der_pieces::strings::Joined;
 use der_pieces::walk::Walk;
@@ -146,9 +146,9 @@ fn push_piece<W: Write>(
         → IsPrinted W.contents (IsPieceDump is_strict left piece.now (mark_offsets marks.items))
         printer.old printer.new) }
 {
-    let words = piece.words(alloc)?;
-    let shown = shown_of(alloc, names, piece, &words)?;
-    push_row(alloc, piece, &words, &shown, printer)?;
+    let type_name = piece.type_name(alloc)?;
+    let shown = shown_of(alloc, names, piece, &type_name)?;
+    push_row(alloc, piece, &type_name, &shown, printer)?;
     push_nested(alloc, names, piece, is_strict, printer)
 }
 
@@ -157,11 +157,11 @@ fn push_piece<W: Write>(
 fn push_row<W: Write>(
     alloc: Global,
     piece: &Piece<'_>,
-    words: &str,
+    type_name: &str,
     shown: &Shown,
     printer: &mut Printer<W>,
 ) -> Result<(), StreamFault>
-    requires words { words.now ≡ kind_words piece.now.kind }
+    requires type_name { type_name.now ≡ kind_type_name piece.now.kind }
     requires right { IsRight piece.now }
     requires value { IsPieceText piece.now (string_bytes shown.now.value) }
     requires fault { is_some shown.now.fault ≡ is_some piece.now.fault }
@@ -183,7 +183,7 @@ fn push_row<W: Write>(
         is_inside: place.is_inside,
         has_rows_inside: has_rows_inside(piece),
         field: &shown.field,
-        type_name: words,
+        type_name,
         value: &shown.value,
         fault: shown.fault.as_deref(),
         mark: &mark,
@@ -199,11 +199,11 @@ fn has_rows_inside(piece: &Piece<'_>) -> bool {
         return false;
     }
     match &piece.kind {
-        Kind::EndOfContents(_) | Kind::Unreadable(_) => false,
-        Kind::Cut(header, contents) | Kind::Opened(header, contents, _) => {
+        PieceKind::EndOfContents(_) | PieceKind::Unreadable(_) => false,
+        PieceKind::Cut(header, contents) | PieceKind::Opened(header, contents, _) => {
             holds_encodings(header) && (header.is_indefinite || !contents.is_empty())
         }
-        Kind::Leaf(_, _, _) => piece.nested.is_some(),
+        PieceKind::Leaf(_, _, _) => piece.nested.is_some(),
     }
 }
 
@@ -239,12 +239,12 @@ struct Shown {
     fault: Option<String>,
 }
 
-// What is shown of a piece whose type is these words.
+// What is shown of a piece whose type has this name.
 fn shown_of(
     alloc: Global,
     names: &Names,
     piece: &Piece<'_>,
-    words: &str,
+    type_name: &str,
 ) -> Result<Shown, AllocError>
     ensures fault { IfOk result (λ shown. is_some shown.fault ≡ is_some piece.now.fault) }
     ensures field { IfOk result (λ shown. IsNamedBy names.now.shapes piece.now (string_bytes shown.field)) }
@@ -255,7 +255,7 @@ fn shown_of(
     let mut value = value_text(alloc, names, piece, style, field_of(named))?;
     write_value_name(&mut value, value_name(piece, named))?;
     Ok(Shown {
-        field: field_text(alloc, words, named)?,
+        field: field_text(alloc, type_name, named)?,
         value,
         fault: fault_text(alloc, piece)?,
     })
@@ -265,17 +265,20 @@ fn shown_of(
 fn value_name(piece: &Piece<'_>, named: Option<Named>) -> Option<&'static str> {
     let name = named?.value?;
     match &piece.kind {
-        Kind::Opened(header, _, _) | Kind::Leaf(header, _, _) => match piece.place.role(header) {
+        PieceKind::Opened(header, _, _) | PieceKind::Leaf(header, _, _) => match piece
+            .place
+            .role(header)
+        {
             Role::Name(_) => None,
             Role::Plain | Role::Bits(_) => Some(name),
         },
-        Kind::EndOfContents(_) | Kind::Unreadable(_) | Kind::Cut(_, _) => None,
+        PieceKind::EndOfContents(_) | PieceKind::Unreadable(_) | PieceKind::Cut(_, _) => None,
     }
 }
 
-// The field of a piece, as it stands before the words of its type: its name, or that of its type where it has none.
-// Nothing where the words say as much.
-fn field_text(alloc: Global, words: &str, named: Option<Named>) -> Result<String, AllocError>
+// The field of a piece, as it stands before the name of its type: its name, or that of its type where it has none.
+// Nothing where that name says as much.
+fn field_text(alloc: Global, type_name: &str, named: Option<Named>) -> Result<String, AllocError>
     ensures { IfOk result (λ text. IsFieldText named (string_bytes text)) }
 {
     let Some(Named { field, of, .. }) = named else {
@@ -283,7 +286,7 @@ fn field_text(alloc: Global, words: &str, named: Option<Named>) -> Result<String
     };
     match field {
         Some(name) => with_space(alloc, name),
-        None if of.starts_with(words) => Ok(String::new(alloc)),
+        None if of.starts_with(type_name) => Ok(String::new(alloc)),
         None => with_space(alloc, of),
     }
 }
@@ -309,15 +312,15 @@ fn value_text(
     ensures { IfOk result (λ text. IsKindText style piece.now.kind (string_bytes text)) }
 {
     match &piece.kind {
-        Kind::EndOfContents(_) | Kind::Cut(_, _) => Ok(String::new(alloc)),
-        Kind::Unreadable(octets) | Kind::Leaf(_, octets, None) => {
+        PieceKind::EndOfContents(_) | PieceKind::Cut(_, _) => Ok(String::new(alloc)),
+        PieceKind::Unreadable(octets) | PieceKind::Leaf(_, octets, None) => {
             octets_text(alloc, octets, style)
         }
-        Kind::Opened(header, _, joined) => {
+        PieceKind::Opened(header, _, joined) => {
             let role = role_name(piece.place.role(header), field);
             opened_text(alloc, names, header, joined, style, role)
         }
-        Kind::Leaf(header, contents, Some(value)) => {
+        PieceKind::Leaf(header, contents, Some(value)) => {
             let role = leaf_role_name(value, piece.place.role(header), field);
             leaf_text(alloc, names, contents, value, style, role)
         }
@@ -419,9 +422,9 @@ fn fault_text(alloc: Global, piece: &Piece<'_>) -> Result<Option<String>, AllocE
 
 fn wrong_text(alloc: Global, piece: &Piece<'_>, fault: &Fault) -> Result<String, AllocError> {
     match &piece.kind {
-        Kind::EndOfContents(_) => String::from_str(alloc, " is missing (Incomplete)"),
-        Kind::Cut(header, contents) => cut_text(alloc, header, contents, piece.place.is_full),
-        Kind::Unreadable(_) | Kind::Opened(_, _, _) | Kind::Leaf(_, _, _) => {
+        PieceKind::EndOfContents(_) => String::from_str(alloc, " is missing (Incomplete)"),
+        PieceKind::Cut(header, contents) => cut_text(alloc, header, contents, piece.place.is_full),
+        PieceKind::Unreadable(_) | PieceKind::Opened(_, _, _) | PieceKind::Leaf(_, _, _) => {
             format!(in alloc; ": {}", fault.message)
         }
     }

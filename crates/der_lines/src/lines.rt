@@ -1,7 +1,7 @@
 // Lines that are not of pieces, and the mark of a piece that is not DER.
 ghost use Rattle.std.specs.Prelude.{◌≡◌, ◌++◌, OnOk, false, map};
 ghost use Rattle.der_lines.specs.Dump.{IsFaultLine, IsLine, IsNote};
-ghost use Rattle.der_lines.specs.MarkText.{mark_text, separator, words_text};
+ghost use Rattle.der_lines.specs.MarkText.{mark_text, separator, breaches_text};
 ghost use Rattle.der_pieces.specs.Marks.{breach_of, breaches_of};
 ghost use Rattle.der_rows.specs.Printing.{IsPrinted};
 ghost use Rattle.der_rows.specs.Rows.{note_mark};
@@ -24,7 +24,7 @@ pub fn push_mark(alloc: Global, breaches: &Breaches, out: &mut Vec<u8>) -> Resul
         return Ok(());
     }
     out.extend_from_slice(b" (not DER: ")?;
-    push_words(&rules, out)?;
+    push_rules(&rules, out)?;
     out.push(b')')?;
     Ok(())
 }
@@ -44,12 +44,12 @@ pub fn push_note<W: Write>(
 // Prints the line of a fault: its offset, and what is wrong.
 pub fn push_fault<W: Write>(
     offset: usize,
-    words: &[u8],
+    message: &[u8],
     printer: &mut Printer<W>,
 ) -> Result<(), StreamFault>
     ensures { OnOk result (IsPrinted W.contents (IsLine (IsFaultLine offset)) printer.old printer.new) }
 {
-    printer.push_fault(offset, words)?;
+    printer.push_fault(offset, message)?;
     Ok(())
 }
 
@@ -65,13 +65,13 @@ pub fn push_fault_line<W: Write>(
 ) -> Result<(), StreamFault>
     ensures { OnOk result (IsPrinted W.contents (IsLine (IsFaultLine offset)) printer.old printer.new) }
 {
-    let words = fault_message(alloc, fault)?;
-    push_fault(offset, words.as_bytes(), printer)
+    let message = fault_message(alloc, fault)?;
+    push_fault(offset, message.as_bytes(), printer)
 }
 
 // Puts what is wrong, with a comma and a space between two.
-pub fn push_words(rules: &[BrokenRule], out: &mut Vec<u8>) -> Result<(), AllocError>
-    ensures { OnOk result (out.new.items ≡ out.old.items ++ words_text false (map breach_of rules.now)) }
+pub fn push_rules(rules: &[BrokenRule], out: &mut Vec<u8>) -> Result<(), AllocError>
+    ensures { OnOk result (out.new.items ≡ out.old.items ++ breaches_text false (map breach_of rules.now)) }
 {
     let mut is_later = false;
     for rule in rules {

@@ -12,12 +12,12 @@ pub is_simple_and_free-command : is_simple_and_free command ≡ true
 unfolding command
 is_simple_and_free-command = refl
 
-module _ (a : App) (words : List Text) (e : a ≡ command) where
-  pub matches_of-equal : (rows : List Row) → rows ≡ matches_of a words → rows ≡ matches_of command words
-  matches_of-equal rows h = h ∙ ap (λ x. matches_of x words) e
+module _ (a : App) (arguments : List Text) (e : a ≡ command) where
+  pub matches_of-equal : (rows : List Row) → rows ≡ matches_of a arguments → rows ≡ matches_of command arguments
+  matches_of-equal rows h = h ∙ ap (λ x. matches_of x arguments) e
 
-  pub fault_of-equal : fault_of command words ≡ fault_of a words
-  fault_of-equal = sym (ap (λ x. fault_of x words) e)
+  pub fault_of-equal : fault_of command arguments ≡ fault_of a arguments
+  fault_of-equal = sym (ap (λ x. fault_of x arguments) e)
 
   pub is_simple-equal : is_simple a ≡ true
   is_simple-equal = ap is_simple e ∙ is_simple-command

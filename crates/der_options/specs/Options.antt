@@ -1,4 +1,4 @@
--- Which words of a command line give which options, by what `clap` makes of the words.
+-- Which arguments of a command line give which options, by what `clap` makes of them.
 use Rattle.std.specs.Prelude.{◌≡◌, ◌≢◌, ◌⊎◌, ◌&&◌, ℕ, ◌<◌, ◌^◌, Bool, true, false, not, List, [], ◌∷◌, ◌++◌, codes, drop, fold, map, take}
 use Rattle.std.specs.Prelude.{Option, Some, None, is_some, option_map, if◌then◌else◌}
 use Rattle.std.specs.List.{All, list_all, list_any}
@@ -26,7 +26,7 @@ flag name = record (new_rule name) { long = Some name; action = Some SetTrue }
 abbrev pub valued : Text → Rule
 valued name = record (new_rule name) { long = Some name; action = Some Set; value_names = 1 }
 
--- words that are no options, as many as there are
+-- arguments that are no options, as many as there are
 abbrev pub files : Rule
 files = record (new_rule (codes "FILE")) { action = Some Append }
 
@@ -102,7 +102,7 @@ takes_value name =
     (codes "at" ∷ codes "extract" ∷ codes "contents" ∷ codes "value" ∷ codes "depth" ∷ codes "oids"
     ∷ codes "color" ∷ codes "as" ∷ [])
 
--- the argument is among the words: one that takes a value has one, and a flag is set
+-- the argument is given: one that takes a value has one, and a flag is set
 abbrev pub is_given : Text → List Row → Bool
 is_given name rows = if takes_value name then is_some (first_of name rows) else is_true (first_of name rows)
 
@@ -197,7 +197,7 @@ IsTask rows (Extract n) = IsNumberOf (codes "extract") rows (Some n)
 IsTask rows (Contents n) = IsNumberOf (codes "contents") rows (Some n)
 IsTask rows (Value n) = IsNumberOf (codes "value") rows (Some n)
 
--- what the matches of the words ask for
+-- what the matches of the arguments ask for
 pub record AsksFor (rows : List Row) (options : Options) : Type 0 where
   pub together : go_together rows ≡ true
   pub inputs : map (λ name. name.now) options.inputs.items ≡ names_of (all_of (codes "FILE") rows)
@@ -214,9 +214,10 @@ pub record AsksFor (rows : List Row) (options : Options) : Type 0 where
   pub type_name : option_map (λ name. name.now) options.type_name ≡ first_of (codes "as") rows
   pub color : color_by (first_of (codes "color") rows) ≡ Some options.color
 
--- the words, of which the first is the program's name, ask for the options: the command takes them, and its matches do
+-- the arguments, of which the first is the program's name, ask for the options: the command takes them, and its matches
+-- do
 abbrev pub Means : List Text → Options → Type 0
-Means words options = (fault_of command words ≡ []) × AsksFor (matches_of command words) options
+Means arguments options = (fault_of command arguments ≡ []) × AsksFor (matches_of command arguments) options
 
 -- the matches ask for nothing: the value of an argument that takes a number is none, that of `--color` none of its own,
 -- or two arguments do not go together
@@ -239,17 +240,17 @@ abbrev pub IsMemory : OptionsFault → Type 0
 IsMemory (Command e) = kind_of e ≡ memory_kind
 IsMemory _ = ⊥
 
--- why the words ask for nothing: what clap says of them, or what their matches lack
+-- why the arguments ask for nothing: what clap says of them, or what their matches lack
 abbrev pub IsRefused : List Text → OptionsFault → Type 0
-IsRefused words (Command e) = (kind_of e ≡ memory_kind) ⊎ IsAmong (kind_of e) (fault_of command words)
-IsRefused words fault = (fault_of command words ≡ []) × AsksForNothing (matches_of command words) fault
+IsRefused arguments (Command e) = (kind_of e ≡ memory_kind) ⊎ IsAmong (kind_of e) (fault_of command arguments)
+IsRefused arguments fault = (fault_of command arguments ≡ []) × AsksForNothing (matches_of command arguments) fault
 
 abbrev pub is_answer_kind : ErrorKind → Bool
 is_answer_kind DisplayHelp = true
 is_answer_kind DisplayVersion = true
 is_answer_kind _ = false
 
--- the words ask for help or the version
+-- the arguments ask for help or the version
 abbrev pub is_answer : OptionsFault → Bool
 is_answer (Command e) = is_answer_kind (kind_of e)
 is_answer _ = false

@@ -7,15 +7,15 @@ use Rattle.der_options.specs.Options.{AsksForNothing, IsMemory, command}
 use Rattle.der_options.specs.declared.fault.OptionsFault.{OptionsFault}
 use Rattle.der_options.specs.declared.fault.OptionsFault.TheVariants.{Command}
 
--- clap takes the words, and these are their matches
+-- clap takes the arguments, and these are their matches
 abbrev pub IsMatched : List Text → ArgMatches → Type 0
-IsMatched words matches =
-    (fault_of command words ≡ []) × (rows_of (found_of matches) ≡ matches_of command words)
+IsMatched arguments matches =
+    (fault_of command arguments ≡ []) × (rows_of (found_of matches) ≡ matches_of command arguments)
 
--- clap does not take the words, or memory ran out
+-- clap does not take the arguments, or memory ran out
 abbrev pub IsUnmatched : List Text → OptionsFault → Type 0
-IsUnmatched words (Command e) = (kind_of e ≡ memory_kind) ⊎ IsAmong (kind_of e) (fault_of command words)
-IsUnmatched words _ = ⊥
+IsUnmatched arguments (Command e) = (kind_of e ≡ memory_kind) ⊎ IsAmong (kind_of e) (fault_of command arguments)
+IsUnmatched arguments _ = ⊥
 
 -- the matches ask for no options, or memory ran out
 abbrev pub LacksOptions : List Row → OptionsFault → Type 0

@@ -1,4 +1,4 @@
-// Why words are no command line.
+// Why arguments are no command line.
 ghost use Rattle.std.specs.Prelude.{◌≡◌, IfOk, OnOk, false, string_bytes};
 ghost use Rattle.der_options.specs.Options.{IsMemory, IsOneLine, by_command, is_answer};
 
@@ -13,7 +13,7 @@ const TIP: &str = "\n\n  tip: a similar argument exists: ";
 /// Why there are no options.
 #[derive(Debug, Drop)]
 pub enum OptionsFault<'a> {
-    /// What `clap` says of the words: help, the version, a mistake in them, or that memory ran out.
+    /// What `clap` says of the arguments: help, the version, a mistake in them, or that memory ran out.
     Command(Error),
     /// The value of the argument is not a 64-bit number.
     NoNumber(&'static str, &'a str),
@@ -40,7 +40,7 @@ impl From<AllocError> for OptionsFault<'_> {
 }
 
 impl OptionsFault<'_> {
-    /// Whether the words asked for help or the version: the text goes to standard output, and nothing is wrong.
+    /// Whether the arguments asked for help or the version: the text goes to standard output, and nothing is wrong.
     pub fn is_answer(&self) -> bool
         ensures { result ≡ is_answer self.now }
     {

@@ -1,7 +1,7 @@
-//! The command line of `der_dump`: which words ask for what.
+//! The command line of `der_dump`: which arguments ask for what.
 //!
-//! [`options_of`] reads the words by the crate `clap`. What it refuses is an [`OptionsFault`], whose text is for the
-//! user.
+//! [`options_of`] reads the arguments by the crate `clap`. What it refuses is an [`OptionsFault`], whose text is for
+//! the user.
 #![tactic(auto)]
 
 mod command;

@@ -16,7 +16,7 @@ use clap::ArgMatches;
 use std::alloc::{AllocError, Global};
 use std::convert::AsStr;
 
-/// What the words of a command line ask for.
+/// What the arguments of a command line ask for.
 #[derive(Debug, Drop, PartialEq)]
 pub struct Options<'a> {
     /// The names of the inputs, in order, at least one: `-` is standard input, and any other name that of a file.
@@ -71,30 +71,30 @@ pub enum Task {
     Value(usize),
 }
 
-/// The options that the words ask for. The first word is the program's name.
+/// The options that the arguments ask for. The first argument is the program's name.
 ///
 /// # Errors
-/// What is wrong with the words, or that memory ran out. `--help` and `--version` are returned so too.
+/// What is wrong with the arguments, or that memory ran out. `--help` and `--version` are returned so too.
 pub fn options_of<'a, S: AsStr>(
     alloc: Global,
-    words: &'a [S],
+    arguments: &'a [S],
 ) -> Result<Options<'a>, OptionsFault<'a>>
-    ensures read { IfOk result (Means (map S.text words.entry.now)) }
-    ensures refused { IfErr result (IsRefused (map S.text words.entry.now)) }
+    ensures read { IfOk result (Means (map S.text arguments.entry.now)) }
+    ensures refused { IfErr result (IsRefused (map S.text arguments.entry.now)) }
 {
-    let matches = matches_for(alloc, words)?;
+    let matches = matches_for(alloc, arguments)?;
     asked_for(alloc, &matches)
 }
 
-// The matches of the words.
+// The matches of the arguments.
 fn matches_for<'a, S: AsStr>(
     alloc: Global,
-    words: &'a [S],
+    arguments: &'a [S],
 ) -> Result<ArgMatches<'a>, OptionsFault<'a>>
-    ensures read { IfOk result (IsMatched (map S.text words.entry.now)) }
-    ensures refused { IfErr result (IsUnmatched (map S.text words.entry.now)) }
+    ensures read { IfOk result (IsMatched (map S.text arguments.entry.now)) }
+    ensures refused { IfErr result (IsUnmatched (map S.text arguments.entry.now)) }
 {
-    match command(alloc)?.try_get_matches_from(words) {
+    match command(alloc)?.try_get_matches_from(arguments) {
         Ok(matches) => Ok(matches),
         Err(e) => Err(OptionsFault::Command(e)),
     }
@@ -240,7 +240,7 @@ fn refuse_both<'a>(
     Ok(())
 }
 
-// Whether an argument is among the words: one that takes a value has one then, and a flag is set.
+// Whether an argument is given: one that takes a value has one then, and a flag is set.
 fn is_given(matches: &ArgMatches<'_>, name: &str) -> bool
     ensures { result ≡ is_given_by name.now (rows_of (found_of matches.now)) }
 {
@@ -362,7 +362,7 @@ fn values<'m, 'a>(matches: &'m ArgMatches<'a>, name: &str) -> Option<&'m [&'a st
     matches.get_strs(name)
 }
 
-// Whether the flag is among the words.
+// Whether the flag is given.
 fn is_set(matches: &ArgMatches<'_>, name: &str) -> bool
     ensures { result ≡ is_true (first_of name.now (rows_of (found_of matches.now))) }
 {

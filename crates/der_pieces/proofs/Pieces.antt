@@ -74,7 +74,7 @@ IsJudgedAs left offset depth rules meaning header h faults =
     IsJudged left (header_front offset depth rules meaning header) header.class header.constructed header.tag
     (is_stray_form header.constructed (drop (length h.identifier) left)) faults
 
--- it has the meaning
+-- the octets have the meaning
 abbrev pub HasMeaningAs : List ℕ → ℕ → ℕ → List Rule → Option Meaning → Header → List ℕ → Type 0
 HasMeaningAs left offset depth rules meaning header faults =
     HasMeaning left (header_front offset depth rules meaning header) header.class header.constructed header.tag faults
@@ -92,7 +92,7 @@ IsFirst-begins left offset depth rules meaning header opened faults h o form jud
   header = h;
   offset_is = refl;
   depth_is = refl;
-  words_are = refl;
+  type_name_is = refl;
   opened_is = o;
   form = form;
   judged = judged;

@@ -22,12 +22,12 @@ abbrev pub tag_number : ℕ → List ℕ
 tag_number tag = if nat_lt tag (2 ^ 128) then decimal tag else codes "beyond 2^128"
 
 -- a tag: the type of class Universal that has it (X.680 8.4, table 1), or its class and number as X.680 writes them
-abbrev pub tag_words : ASN1Class → ℕ → List ℕ
-tag_words Universal tag =
+abbrev pub tag_name : ASN1Class → ℕ → List ℕ
+tag_name Universal tag =
     unwrap_or (type_name Universal tag) (codes "[UNIVERSAL " ++ (tag_number tag ++ codes "]"))
-tag_words Application tag = codes "[APPLICATION " ++ (tag_number tag ++ codes "]")
-tag_words ContextSpecific tag = codes "[" ++ (tag_number tag ++ codes "]")
-tag_words Private tag = codes "[PRIVATE " ++ (tag_number tag ++ codes "]")
+tag_name Application tag = codes "[APPLICATION " ++ (tag_number tag ++ codes "]")
+tag_name ContextSpecific tag = codes "[" ++ (tag_number tag ++ codes "]")
+tag_name Private tag = codes "[PRIVATE " ++ (tag_number tag ++ codes "]")
 
 -- contents octets of a primitive encoding, and the value that they mean
 pub record Meaning : Type 0 where
@@ -44,7 +44,7 @@ pub record Front : Type 0 where
   pub contents : ℕ
   pub indefinite : Bool
   pub depth : ℕ
-  pub words : List ℕ
+  pub type_name : List ℕ
   pub rules : List Rule
   pub has_spare_bits : Bool
   pub meaning : Option Meaning
@@ -57,7 +57,7 @@ unreadable offset size depth = record {
   contents = size;
   indefinite = false;
   depth = depth;
-  words = codes "unreadable";
+  type_name = codes "unreadable";
   rules = [];
   has_spare_bits = false;
   meaning = None;
@@ -72,7 +72,7 @@ end_of_contents offset size depth = record {
   contents = 0;
   indefinite = false;
   depth = depth;
-  words = codes "end-of-contents";
+  type_name = codes "end-of-contents";
   rules = [];
   has_spare_bits = false;
   meaning = None;
@@ -132,7 +132,7 @@ pub record IsFirst (octets : List ℕ) (offset depth : ℕ) (front : Front) (ope
   pub header : BeginsWithHeader octets front.header front.contents class constructed tag
   pub offset_is : front.offset ≡ offset
   pub depth_is : front.depth ≡ depth
-  pub words_are : front.words ≡ tag_words class tag
+  pub type_name_is : front.type_name ≡ tag_name class tag
   pub opened_is : opened ≡ is_gone_into class constructed tag
   pub form : IsTrue front.indefinite ↔ HasIndefiniteForm octets
   pub judged :

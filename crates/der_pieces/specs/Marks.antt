@@ -9,7 +9,7 @@ use Rattle.der_pieces.specs.declared.marks.BrokenRule.{BrokenRule}
 pub record Breach : Type 0 where
   pub name : List ℕ
   pub section : List ℕ
-  pub words : List ℕ
+  pub text : List ℕ
 
 abbrev pub name_of : Rule → List ℕ
 name_of LongIdentifier = codes "LongIdentifier"
@@ -41,14 +41,14 @@ name_of Order = codes "Order"
 name_of NotEncodings = codes "NotEncodings"
 
 abbrev pub rule_breach : Rule → Breach
-rule_breach rule = record { name = name_of rule; section = section_of rule; words = text_of rule }
+rule_breach rule = record { name = name_of rule; section = section_of rule; text = text_of rule }
 
 -- a list of named bits has no 0 at its end (11.2.2). A schema alone tells which BIT STRING is one
 abbrev pub spare_breach : Breach
 spare_breach = record {
   name = codes "NamedBits";
   section = codes "11.2.2";
-  words = codes "named bits that end with 0";
+  text = codes "named bits that end with 0";
 }
 
 abbrev pub spare_if : Bool → List Breach
@@ -66,4 +66,4 @@ are_some (x ∷ xs) = true
 
 -- what a struct tells
 abbrev pub breach_of : BrokenRule → Breach
-breach_of rule = record { name = rule.name.now; section = rule.section.now; words = rule.text.now }
+breach_of rule = record { name = rule.name.now; section = rule.section.now; text = rule.text.now }

@@ -6,7 +6,7 @@ use Rattle.asn1_headers.specs.Fault.{DecodeFault, incomplete}
 use Rattle.asn1_headers.specs.Front.{IsAtFront}
 use Rattle.asn1_headers.specs.declared.front.Header.{Header}
 use Rattle.asn1_headers.specs.declared.header.ASN1Class.TheVariants.{Universal}
-use Rattle.der_pieces.specs.Fronts.{Front, Meaning, StandAt, tag_words}
+use Rattle.der_pieces.specs.Fronts.{Front, Meaning, StandAt, tag_name}
 use Rattle.der_elements.specs.Headers.{is_stray_form, is_gone_into}
 use Rattle.der_elements.specs.Ends.{taken}
 use Rattle.der_elements.specs.Segments.{AreSegmentsOf}
@@ -18,8 +18,8 @@ use Rattle.der_elements.specs.declared.cursor.Left.{Left}
 use Rattle.der_elements.specs.declared.cursor.Step.{Step}
 use Rattle.der_contents.specs.declared.faults.Fault.{Fault}
 use Rattle.der_pieces.specs.declared.nested.Nested.{Nested}
-use Rattle.der_pieces.specs.declared.piece.Kind.{Kind}
-use Rattle.der_pieces.specs.declared.piece.Kind.TheVariants.{Cut, EndOfContents, Leaf, Opened, Unreadable}
+use Rattle.der_pieces.specs.declared.piece.PieceKind.{PieceKind}
+use Rattle.der_pieces.specs.declared.piece.PieceKind.TheVariants.{Cut, EndOfContents, Leaf, Opened, Unreadable}
 use Rattle.der_pieces.specs.declared.piece.Piece.{Piece}
 use Rattle.der_pieces.specs.declared.place.Place.{Place}
 use Rattle.der_pieces.specs.declared.strings.Joined.{Joined}
@@ -57,7 +57,7 @@ IsOpenedFault stray offset fault =
     ((stray ≡ true) × IsFault (IsNameless offset) fault) ⊎ ((stray ≡ false) × (fault ≡ None))
 
 -- this begins the octets, which stand at the offset, and this is wrong with it
-abbrev pub IsKind : List ℕ → ℕ → Kind → Option Fault → Type 0
+abbrev pub IsKind : List ℕ → ℕ → PieceKind → Option Fault → Type 0
 IsKind left offset (EndOfContents size) fault =
     ((size ≡ 2) × (fault ≡ None)) ⊎ ((size ≡ 0) × IsFault (IsNamed offset incomplete) fault)
 IsKind left offset (Unreadable octets) fault =
@@ -79,7 +79,7 @@ IsKind left offset (Leaf header contents value) fault =
     × IsLeafMeaning left header (drop (length front.identifier) left) offset value fault
 
 -- how many octets its header has, or end-of-contents octets
-abbrev pub kind_header : Kind → ℕ
+abbrev pub kind_header : PieceKind → ℕ
 kind_header (EndOfContents size) = size
 kind_header (Unreadable octets) = 0
 kind_header (Cut header contents) = header.size
@@ -87,7 +87,7 @@ kind_header (Opened header contents joined) = header.size
 kind_header (Leaf header contents value) = header.size
 
 -- how many contents octets it announces, or has
-abbrev pub kind_contents : Kind → ℕ
+abbrev pub kind_contents : PieceKind → ℕ
 kind_contents (EndOfContents size) = 0
 kind_contents (Unreadable octets) = length octets.now
 kind_contents (Cut header contents) = header.announced
@@ -95,26 +95,26 @@ kind_contents (Opened header contents joined) = header.announced
 kind_contents (Leaf header contents value) = header.announced
 
 -- whether its length is of the indefinite form
-abbrev pub kind_indefinite : Kind → Bool
+abbrev pub kind_indefinite : PieceKind → Bool
 kind_indefinite (EndOfContents size) = false
 kind_indefinite (Unreadable octets) = false
 kind_indefinite (Cut header contents) = header.is_indefinite
 kind_indefinite (Opened header contents joined) = header.is_indefinite
 kind_indefinite (Leaf header contents value) = header.is_indefinite
 
--- what it is in words
-abbrev pub kind_words : Kind → List ℕ
-kind_words (EndOfContents size) = codes "end-of-contents"
-kind_words (Unreadable octets) = codes "unreadable"
-kind_words (Cut header contents) = tag_words header.class header.tag
-kind_words (Opened header contents joined) = tag_words header.class header.tag
-kind_words (Leaf header contents value) = tag_words header.class header.tag
+-- the name of its type, or its tag
+abbrev pub kind_type_name : PieceKind → List ℕ
+kind_type_name (EndOfContents size) = codes "end-of-contents"
+kind_type_name (Unreadable octets) = codes "unreadable"
+kind_type_name (Cut header contents) = tag_name header.class header.tag
+kind_type_name (Opened header contents joined) = tag_name header.class header.tag
+kind_type_name (Leaf header contents value) = tag_name header.class header.tag
 
 -- contents octets with their value, if they have one
 abbrev pub meaning_of : List ℕ → Option LeafValue → Option Meaning
 meaning_of octets value = option_map (λ v. record { octets = octets; value = v }) value
 
-abbrev pub kind_meaning : Kind → Option Meaning
+abbrev pub kind_meaning : PieceKind → Option Meaning
 kind_meaning (EndOfContents size) = None
 kind_meaning (Unreadable octets) = None
 kind_meaning (Cut header contents) = None
@@ -122,14 +122,14 @@ kind_meaning (Opened header contents joined) = None
 kind_meaning (Leaf header contents value) = meaning_of contents.now value
 
 -- what the line of a piece of the kind begins with, at the offset, inside so many encodings
-abbrev pub kind_front : ℕ → ℕ → List Rule → Bool → Kind → Front
+abbrev pub kind_front : ℕ → ℕ → List Rule → Bool → PieceKind → Front
 kind_front offset depth rules spare kind = record {
   offset = offset;
   header = kind_header kind;
   contents = kind_contents kind;
   indefinite = kind_indefinite kind;
   depth = depth;
-  words = kind_words kind;
+  type_name = kind_type_name kind;
   rules = rules;
   has_spare_bits = spare;
   meaning = kind_meaning kind;
@@ -141,7 +141,7 @@ abbrev pub front_of : ℕ → Piece → Front
 front_of depth piece = kind_front piece.offset depth piece.breaches.rules.items false piece.kind
 
 -- encodings inside its contents octets
-abbrev pub IsHolding : List ℕ → Kind → Place → Option Nested → Type 0
+abbrev pub IsHolding : List ℕ → PieceKind → Place → Option Nested → Type 0
 IsHolding left kind place nested =
     IfSome nested (λ n. (0 < place.documents)
     × StandAt (slice_range left (kind_header kind) (kind_header kind + kind_contents kind)) n.before n.octets.now)

@@ -1,6 +1,6 @@
 -- How the pieces of octets are gone over, step by step. Private contracts alone name these.
 use Rattle.std.specs.Prelude.{◌≡◌, ◌⊎◌, ◌&&◌, ℕ, ◌+◌, ◌<◌, true, false, List, [], ◌∷◌, length, slice_range, Option}
-use Rattle.der_pieces.specs.Fronts.{AreFronts, Front, IsFirst, Meaning, AreRules, size_in, tag_words, end_of_contents, unreadable}
+use Rattle.der_pieces.specs.Fronts.{AreFronts, Front, IsFirst, Meaning, AreRules, size_in, tag_name, end_of_contents, unreadable}
 use Rattle.der_elements.specs.Ends.{begins_with_end}
 use Rattle.asn1_headers.specs.Front.{HasNoHeader, IsAtFront}
 use Rattle.der_elements.specs.declared.cursor.Cursor.{Cursor}
@@ -20,7 +20,7 @@ header_front offset depth rules meaning header = record {
   contents = header.announced;
   indefinite = header.is_indefinite;
   depth = depth;
-  words = tag_words header.class header.tag;
+  type_name = tag_name header.class header.tag;
   rules = rules;
   has_spare_bits = false;
   meaning = meaning;

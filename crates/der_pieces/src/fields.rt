@@ -3,7 +3,7 @@ ghost use Rattle.std.specs.Prelude.{◌≡◌, IfOk, IfSome, MatchOption};
 ghost use Rattle.der_pieces.specs.Fields.{EndsPath, GoesOver};
 ghost use Rattle.der_pieces.specs.declared.place.Around.TheVariants.{Nothing};
 
-use crate::piece::{Kind, Piece};
+use crate::piece::{Piece, PieceKind};
 use crate::place::{Around, Place};
 use der_elements::cursor::Left;
 use der_shapes::{FieldWalk, Shapes, Spot, Tag};
@@ -93,11 +93,11 @@ impl<'a> Fields<'a> {
         ensures around { self.new.around ≡ self.old.around }
     {
         match &piece.kind {
-            Kind::Leaf(_, contents, _) => self.walk.see(contents),
-            Kind::EndOfContents(_)
-            | Kind::Unreadable(_)
-            | Kind::Cut(_, _)
-            | Kind::Opened(_, _, _) => {}
+            PieceKind::Leaf(_, contents, _) => self.walk.see(contents),
+            PieceKind::EndOfContents(_)
+            | PieceKind::Unreadable(_)
+            | PieceKind::Cut(_, _)
+            | PieceKind::Opened(_, _, _) => {}
         }
     }
 }

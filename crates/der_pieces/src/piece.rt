@@ -4,13 +4,13 @@ ghost use Rattle.asn1_headers.specs.Front.{HasIndefiniteForm, HasNoHeader, IsAtF
 ghost use Rattle.der_elements.specs.Ends.{begins_with_end};
 ghost use Rattle.der_elements.specs.Headers.{is_stray_form, is_gone_into};
 ghost use Rattle.der_pieces.specs.PieceFields.{AreNamesOf};
-ghost use Rattle.der_pieces.specs.Pieces.{IsFirstPiece, IsLeafMeaning, IsNameless, IsOpenedFault, IsPiece, kind_contents, kind_header, kind_indefinite, kind_words};
+ghost use Rattle.der_pieces.specs.Pieces.{IsFirstPiece, IsLeafMeaning, IsNameless, IsOpenedFault, IsPiece, kind_contents, kind_header, kind_indefinite, kind_type_name};
 
 use crate::marks::{Breaches, find_breaches};
 use crate::nested::{Nested, nested_in};
 use crate::place::Place;
 use crate::strings::{Joined, read_joined, string_tag};
-use crate::tag::tag_words;
+use crate::tag::tag_name;
 use asn1_headers::error::ASN1DecodeErr;
 use asn1_headers::front::{Header, read_header};
 use asn1_headers::header::HeaderCount;
@@ -26,7 +26,7 @@ use std::alloc::{AllocError, Global};
 
 // What stands at the front of octets.
 #[derive(Drop)]
-pub enum Kind<'a> {
+pub enum PieceKind<'a> {
     // end-of-contents octets: how many there are, 2, or 0 where they are missing
     EndOfContents(usize),
     // octets that begin with no header
@@ -47,7 +47,7 @@ pub struct Piece<'a> {
     pub place: Place,
     // how many octets stand before it among these
     pub offset: usize,
-    pub kind: Kind<'a>,
+    pub kind: PieceKind<'a>,
     // what of DER it breaks
     pub breaches: Breaches,
     pub fault: Option<Fault>,
@@ -70,10 +70,11 @@ impl<'a> Piece<'a> {
         ensures { result ≡ kind_header self.now.kind }
     {
         match &self.kind {
-            Kind::EndOfContents(size) => *size,
-            Kind::Unreadable(_) => 0,
-            Kind::Cut(header, _) | Kind::Opened(header, _, _) | Kind::Leaf(header, _, _) =>
-                header.size,
+            PieceKind::EndOfContents(size) => *size,
+            PieceKind::Unreadable(_) => 0,
+            PieceKind::Cut(header, _)
+            | PieceKind::Opened(header, _, _)
+            | PieceKind::Leaf(header, _, _) => header.size,
         }
     }
 
@@ -82,11 +83,11 @@ impl<'a> Piece<'a> {
         ensures { result ≡ kind_contents self.now.kind }
     {
         match &self.kind {
-            Kind::EndOfContents(_) => 0,
-            Kind::Unreadable(octets) => octets.len(),
-            Kind::Cut(header, _) | Kind::Opened(header, _, _) | Kind::Leaf(header, _, _) => {
-                header.announced
-            }
+            PieceKind::EndOfContents(_) => 0,
+            PieceKind::Unreadable(octets) => octets.len(),
+            PieceKind::Cut(header, _)
+            | PieceKind::Opened(header, _, _)
+            | PieceKind::Leaf(header, _, _) => { header.announced }
         }
     }
 
@@ -95,23 +96,23 @@ impl<'a> Piece<'a> {
         ensures { result ≡ kind_indefinite self.now.kind }
     {
         match &self.kind {
-            Kind::EndOfContents(_) | Kind::Unreadable(_) => false,
-            Kind::Cut(header, _) | Kind::Opened(header, _, _) | Kind::Leaf(header, _, _) => {
-                header.is_indefinite
-            }
+            PieceKind::EndOfContents(_) | PieceKind::Unreadable(_) => false,
+            PieceKind::Cut(header, _)
+            | PieceKind::Opened(header, _, _)
+            | PieceKind::Leaf(header, _, _) => { header.is_indefinite }
         }
     }
 
-    // What it is in words.
-    pub fn words(&self, alloc: Global) -> Result<String, AllocError>
-        ensures { IfOk result (λ words. string_bytes words ≡ kind_words self.now.kind) }
+    // The name of its type, or its tag.
+    pub fn type_name(&self, alloc: Global) -> Result<String, AllocError>
+        ensures { IfOk result (λ name. string_bytes name ≡ kind_type_name self.now.kind) }
     {
         match &self.kind {
-            Kind::EndOfContents(_) => String::from_str(alloc, "end-of-contents"),
-            Kind::Unreadable(_) => String::from_str(alloc, "unreadable"),
-            Kind::Cut(header, _) | Kind::Opened(header, _, _) | Kind::Leaf(header, _, _) => {
-                tag_words(alloc, header.class, &header.tag)
-            }
+            PieceKind::EndOfContents(_) => String::from_str(alloc, "end-of-contents"),
+            PieceKind::Unreadable(_) => String::from_str(alloc, "unreadable"),
+            PieceKind::Cut(header, _)
+            | PieceKind::Opened(header, _, _)
+            | PieceKind::Leaf(header, _, _) => { tag_name(alloc, header.class, &header.tag) }
         }
     }
 
@@ -121,16 +122,16 @@ impl<'a> Piece<'a> {
     {
         let spot = self.place.spot?;
         match &self.kind {
-            Kind::EndOfContents(_) | Kind::Unreadable(_) => None,
-            Kind::Cut(_, _) | Kind::Opened(_, _, _) => shapes.names_of(spot, b""),
-            Kind::Leaf(_, contents, _) => shapes.names_of(spot, contents),
+            PieceKind::EndOfContents(_) | PieceKind::Unreadable(_) => None,
+            PieceKind::Cut(_, _) | PieceKind::Opened(_, _, _) => shapes.names_of(spot, b""),
+            PieceKind::Leaf(_, contents, _) => shapes.names_of(spot, contents),
         }
     }
 
     // Whether it is a whole string that is constructed.
     pub fn is_string(&self) -> bool {
         match &self.kind {
-            Kind::Opened(header, _, _) => string_tag(header).is_some(),
+            PieceKind::Opened(header, _, _) => string_tag(header).is_some(),
             _ => false,
         }
     }
@@ -138,7 +139,7 @@ impl<'a> Piece<'a> {
     // The extension whose value a string is that comes next.
     pub fn extension(&self) -> Extension {
         match &self.kind {
-            Kind::Leaf(header, contents, _) => self.place.next_after(header, contents),
+            PieceKind::Leaf(header, contents, _) => self.place.next_after(header, contents),
             _ => Extension::Other,
         }
     }
@@ -172,7 +173,7 @@ fn end<'a>(alloc: Global, _left: Left<'a>, offset: usize, place: Place) -> Piece
     Piece {
         place,
         offset,
-        kind: Kind::EndOfContents(2),
+        kind: PieceKind::EndOfContents(2),
         breaches: Breaches::none(alloc),
         fault: None,
         step: Step::Out(2),
@@ -200,7 +201,7 @@ fn missing_end<'a>(
     Ok(Piece {
         place,
         offset,
-        kind: Kind::EndOfContents(0),
+        kind: PieceKind::EndOfContents(0),
         breaches: Breaches::none(alloc),
         fault: Some(fault),
         step: Step::Out(0),
@@ -247,7 +248,7 @@ fn unreadable<'a>(
     Ok(Piece {
         place,
         offset,
-        kind: Kind::Unreadable(left),
+        kind: PieceKind::Unreadable(left),
         breaches: Breaches::none(alloc),
         fault: Some(fault_at(alloc, offset, error)?),
         step: Step::Past(left.len()),
@@ -273,7 +274,7 @@ fn cut<'a>(
     Ok(Piece {
         place,
         offset,
-        kind: Kind::Cut(header, contents),
+        kind: PieceKind::Cut(header, contents),
         breaches: Breaches::none(alloc),
         fault: Some(fault_at(alloc, offset, &ASN1DecodeErr::Incomplete)?),
         step,
@@ -304,7 +305,7 @@ fn opened<'a>(
     Ok(Piece {
         place,
         offset,
-        kind: Kind::Opened(header, contents, joined),
+        kind: PieceKind::Opened(header, contents, joined),
         breaches,
         fault,
         step,
@@ -364,7 +365,7 @@ fn leaf<'a>(
     Ok(Piece {
         place,
         offset,
-        kind: Kind::Leaf(header, contents, value),
+        kind: PieceKind::Leaf(header, contents, value),
         breaches,
         fault,
         step,

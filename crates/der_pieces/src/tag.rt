@@ -1,16 +1,16 @@
-// Tags in words.
+// The names of tags.
 ghost use Rattle.std.specs.Prelude.{◌≡◌, IfOk, option_map, string_bytes};
 ghost use Rattle.asn1_headers.specs.Names.{type_name as type_name_is};
-ghost use Rattle.der_pieces.specs.Fronts.{tag_number as tag_number_is, tag_words as tag_words_are};
+ghost use Rattle.der_pieces.specs.Fronts.{tag_number as tag_number_is, tag_name as tag_name_is};
 
 use asn1_headers::header::ASN1Class;
 use asn1_headers::types::type_name;
 use asn1_numbers::number::big_uint::BigUint;
 use std::alloc::{AllocError, Global};
 
-// The tag in words.
-pub fn tag_words(alloc: Global, class: ASN1Class, tag: &BigUint) -> Result<String, AllocError>
-    ensures { IfOk result (λ words. string_bytes words ≡ tag_words_are class tag.now) }
+// The name of the type with the tag, or the tag in brackets.
+pub fn tag_name(alloc: Global, class: ASN1Class, tag: &BigUint) -> Result<String, AllocError>
+    ensures { IfOk result (λ text. string_bytes text ≡ tag_name_is class tag.now) }
 {
     if let Some(name) = name_of(class, tag) {
         return String::from_str(alloc, name);
@@ -25,7 +25,7 @@ pub fn tag_words(alloc: Global, class: ASN1Class, tag: &BigUint) -> Result<Strin
 }
 
 fn tag_number(alloc: Global, tag: &BigUint) -> Result<String, AllocError>
-    ensures { IfOk result (λ words. string_bytes words ≡ tag_number_is tag.now) }
+    ensures { IfOk result (λ text. string_bytes text ≡ tag_number_is tag.now) }
 {
     match tag.to_u128() {
         Some(n) => format!(in alloc; "{n}"),

@@ -19,7 +19,7 @@ path_of-append frames frame =
     ap reverse (map-append (λ f. f.spot) frames (frame ∷ []))
     ∙ reverse-append (map (λ f. f.spot) frames) (frame.spot ∷ [])
 
--- those around one stand one inside the next
+-- the spots around a spot stand one inside the next
 path_around : (s : Shapes) (all : Inside) (spot : Spot) (path : List Spot) →
     IsPath s all (spot ∷ path) → IsPath s all path
 path_around s all spot [] h = tt

@@ -7,8 +7,8 @@ use Rattle.der_shapes.specs.declared.shapes.Shapes.{Shapes}
 use Rattle.der_shapes.specs.declared.shapes.Shape.{Shape}
 use Rattle.der_shapes.specs.declared.shapes.Part.{Part}
 use Rattle.der_shapes.specs.declared.shapes.Tag.{Tag}
-use Rattle.der_shapes.specs.declared.shapes.Form.{Form}
-use Rattle.der_shapes.specs.declared.shapes.Form.TheVariants.{Leaf, Record, Items, Choice, Open, Known}
+use Rattle.der_shapes.specs.declared.shapes.ShapeKind.{ShapeKind}
+use Rattle.der_shapes.specs.declared.shapes.ShapeKind.TheVariants.{Leaf, Record, Items, Choice, Open, Known}
 use Rattle.der_shapes.specs.declared.take.Inside.{Inside}
 use Rattle.der_shapes.specs.declared.take.Inside.TheVariants.{Nothing, Fields, Each, Whole}
 use Rattle.der_shapes.specs.declared.take.OfShape.{OfShape}
@@ -18,8 +18,8 @@ use Rattle.der_shapes.specs.declared.take.Spot.{Spot}
 abbrev pub IsUniversal : ℕ → Tag → Type 0
 IsUniversal number tag = (tag.class ≡ Universal) × (tag.number ≡ number)
 
--- elements of the form have the tag
-abbrev pub HasTag : Form → Tag → Type 0
+-- elements of a shape of the kind have the tag
+abbrev pub HasTag : ShapeKind → Tag → Type 0
 HasTag (Leaf number) tag = IsUniversal number tag
 HasTag (Record number) tag = IsUniversal number tag
 HasTag (Items number) tag = IsUniversal number tag
@@ -27,8 +27,8 @@ HasTag Choice tag = ⊥
 HasTag Open tag = ⊥
 HasTag Known tag = ⊥
 
--- what stands inside an element of a form, whose parts are these
-abbrev pub inside_of : Form → ℕ → ℕ → Inside
+-- what stands inside an element of a shape of the kind, whose parts are these
+abbrev pub inside_of : ShapeKind → ℕ → ℕ → Inside
 inside_of (Leaf number) first end = Nothing
 inside_of (Record number) first end = Fields first end
 inside_of (Items number) first end = Each first
@@ -40,13 +40,13 @@ inside_of Known first end = Nothing
 abbrev pub Holds : Shapes → ℕ → Inside → Type 0
 Holds shapes shape inside =
     (found : Shape) × (slice_get shapes.shapes.items shape ≡ Some found)
-    × (inside ≡ inside_of found.form found.first found.end)
+    × (inside ≡ inside_of found.kind found.first found.end)
 
 -- an element with the tag is of the shape, and inside it there stands this
 abbrev pub IsPlain : Shapes → ℕ → Tag → Inside → Type 0
 IsPlain shapes shape tag inside =
-    (found : Shape) × (slice_get shapes.shapes.items shape ≡ Some found) × HasTag found.form tag
-    × (inside ≡ inside_of found.form found.first found.end)
+    (found : Shape) × (slice_get shapes.shapes.items shape ≡ Some found) × HasTag found.kind tag
+    × (inside ≡ inside_of found.kind found.first found.end)
 
 -- an element with the tag is the field by the tag of its own (X.680 31.2.7)
 abbrev pub IsTagged : Shapes → Part → Tag → Inside → Type 0
@@ -63,7 +63,7 @@ IsAlternative shapes field tag inside =
 abbrev pub IsChosen : Shapes → ℕ → Tag → OfShape → Type 0
 IsChosen shapes shape tag of =
     (found : Shape) × (i : ℕ) × (field : Part) × (slice_get shapes.shapes.items shape ≡ Some found)
-    × (found.form ≡ Choice) × (found.first ≤ i) × (i < found.end)
+    × (found.kind ≡ Choice) × (found.first ≤ i) × (i < found.end)
     × (slice_get shapes.parts.items i ≡ Some field)
     × (of.alternative ≡ Some i) × IsAlternative shapes field tag of.inside
 
@@ -88,7 +88,7 @@ IsSaid shapes shape tag identifier of =
 -- an element may be anything
 abbrev pub IsAnything : Shapes → ℕ → OfShape → Type 0
 IsAnything shapes shape of =
-    (found : Shape) × (slice_get shapes.shapes.items shape ≡ Some found) × (found.form ≡ Open)
+    (found : Shape) × (slice_get shapes.shapes.items shape ≡ Some found) × (found.kind ≡ Open)
     × (of.shape ≡ shape) × (of.alternative ≡ None) × (of.inside ≡ Nothing)
 
 -- an element with the tag is of the shape, where the identifier was seen

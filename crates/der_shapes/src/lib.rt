@@ -7,6 +7,7 @@
 //!
 //! ```rust
 //! use asn1_headers::header::ASN1Class;
+//! use asn1_headers::tags::SEQUENCE;
 //! use der_shapes::{FieldWalk, Shapes, Tag};
 //! use std::alloc::{AllocError, Global};
 //!
@@ -15,7 +16,7 @@
 //!     let shapes = Shapes::new(alloc)?;
 //!     let sequence = Some(Tag {
 //!         class: ASN1Class::Universal,
-//!         number: 16,
+//!         number: SEQUENCE as u8,
 //!     });
 //!     let mut walk = FieldWalk::over(alloc, &shapes, shapes.named("Certificate"));
 //!     walk.next(0, sequence)?;

@@ -2,7 +2,7 @@
 ghost use Rattle.std.specs.Prelude.{IfSome};
 ghost use Rattle.der_shapes.specs.Names.{IsNameAt, IsNameOf, IsNamed};
 
-use crate::shapes::{Form, Shape, Shapes};
+use crate::shapes::{Shape, ShapeKind, Shapes};
 use crate::take::{Inside, Spot};
 
 /// The names of an element.
@@ -52,9 +52,12 @@ impl Shapes {
     // The name of the value of an element: that of a number; or of an alternative by its tag, where the field has a
     // name.
     fn value_name(&self, shape: Shape, spot: Spot, contents: &[u8]) -> Option<&'static str> {
-        match (shape.form, spot.of.inside) {
-            (Form::Leaf(_), Inside::Nothing) => self.number_name(shape, small_number(contents)?),
-            (Form::Choice, _) => {
+        match (shape.kind, spot.of.inside) {
+            (ShapeKind::Leaf(_), Inside::Nothing) => self.number_name(
+                shape,
+                small_number(contents)?,
+            ),
+            (ShapeKind::Choice, _) => {
                 self.name_at(spot.field)?;
                 self.part(spot.of.alternative?)?.tag?;
                 self.name_at(spot.of.alternative)

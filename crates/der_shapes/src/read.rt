@@ -1,6 +1,6 @@
 // Shapes in text, which has a line for each shape and each of its parts.
 use crate::identifier::written_number;
-use crate::shapes::{Candidate, Form, Part, Shape, Shapes, Tag};
+use crate::shapes::{Candidate, Part, Shape, ShapeKind, Shapes, Tag};
 use crate::tables::{FITS, TABLES};
 use asn1_headers::header::ASN1Class;
 use std::alloc::{AllocError, AllocFailed, Global};
@@ -116,7 +116,7 @@ impl Reader {
             return Ok(());
         }
         match line.strip_prefix("  ") {
-            Some(words) => self.part(words),
+            Some(text) => self.part(text),
             None => self.begin(line),
         }
     }
@@ -144,19 +144,17 @@ impl Reader {
 
     // Begins a shape, whose name no other has. A list has one part, which is its item.
     fn begin(&mut self, line: &'static str) -> Result<(), ShapesFault> {
-        let (name, words) = line.split_once(" ::= ").unwrap_or((line, line));
-        let list = words
-            .split_once(" OF ")
-            .or(words.split_once(" CONTAINING "));
-        let form = match list {
-            Some((outer, _)) => Form::Items(self.tag_of(outer)?),
-            None => self.form_of(words)?,
+        let (name, text) = line.split_once(" ::= ").unwrap_or((line, line));
+        let list = text.split_once(" OF ").or(text.split_once(" CONTAINING "));
+        let kind = match list {
+            Some((outer, _)) => ShapeKind::Items(self.tag_of(outer)?),
+            None => self.kind_of(text)?,
         };
         let first = self.index(self.shapes.parts.len())?;
         let place = self.place(name)?;
         let fault = self.fault();
         match self.shapes.shapes.get_mut(place as usize) {
-            Some(shape) if shape.is_missing() => shape.begin(form, first),
+            Some(shape) if shape.is_missing() => shape.begin(kind, first),
             _ => return Err(fault),
         }
         self.last = Some(place);
@@ -167,15 +165,15 @@ impl Reader {
     }
 
     // What elements of a shape are by words, unless it is a list.
-    fn form_of(&self, words: &'static str) -> Result<Form, ShapesFault> {
-        Ok(match words {
-            "CHOICE" => Form::Choice,
-            "OPEN" => Form::Open,
-            "KNOWN" => Form::Known,
-            "SEQUENCE" | "SET" => Form::Record(self.tag_of(words)?),
-            _ => match words.parse::<u8>() {
-                Ok(tag) => Form::Leaf(tag),
-                Err(_) => Form::Leaf(self.tag_of(words)?),
+    fn kind_of(&self, text: &'static str) -> Result<ShapeKind, ShapesFault> {
+        Ok(match text {
+            "CHOICE" => ShapeKind::Choice,
+            "OPEN" => ShapeKind::Open,
+            "KNOWN" => ShapeKind::Known,
+            "SEQUENCE" | "SET" => ShapeKind::Record(self.tag_of(text)?),
+            _ => match text.parse::<u8>() {
+                Ok(tag) => ShapeKind::Leaf(tag),
+                Err(_) => ShapeKind::Leaf(self.tag_of(text)?),
             },
         })
     }
@@ -186,7 +184,7 @@ impl Reader {
         match self.shapes.shape(place) {
             Some(
                 Shape {
-                    form: Form::Leaf(tag),
+                    kind: ShapeKind::Leaf(tag),
                     ..
                 },
             ) => Ok(tag),
@@ -196,20 +194,20 @@ impl Reader {
 
     // Reads a part of the last shape: a field; a number and its name; or an object identifier and what it says.
     fn part(&mut self, line: &'static str) -> Result<(), ShapesFault> {
-        let (first, words) = line.split_once(' ').ok_or(self.fault())?;
+        let (first, text) = line.split_once(' ').ok_or(self.fault())?;
         if !first.starts_with(|c: char| c.is_ascii_digit()) {
-            return self.field(first, words);
+            return self.field(first, text);
         }
         if let Ok(number) = first.parse::<u64>() {
             return self.push(Part {
-                name: words,
+                name: text,
                 number: number as u128,
                 ..Part::default()
             });
         }
         let number = written_number(first).ok_or(self.fault())?;
         self.shapes.identifiers.push(number)?;
-        let shape = self.place(words)?;
+        let shape = self.place(text)?;
         self.push(Part {
             number,
             shape,
@@ -218,11 +216,11 @@ impl Reader {
     }
 
     // Reads a field by its name and the words that say what it is: its tag, its shape, and whether it is optional.
-    fn field(&mut self, name: &'static str, words: &'static str) -> Result<(), ShapesFault> {
-        let optional = words.strip_suffix(" OPTIONAL");
-        let (tag, words) = tag_before(optional.unwrap_or(words)).ok_or(self.fault())?;
-        let explicit = words.strip_prefix("EXPLICIT ");
-        let shape = self.place(explicit.unwrap_or(words))?;
+    fn field(&mut self, name: &'static str, text: &'static str) -> Result<(), ShapesFault> {
+        let optional = text.strip_suffix(" OPTIONAL");
+        let (tag, text) = tag_before(optional.unwrap_or(text)).ok_or(self.fault())?;
+        let explicit = text.strip_prefix("EXPLICIT ");
+        let shape = self.place(explicit.unwrap_or(text))?;
         self.push(Part {
             name,
             shape,
@@ -251,7 +249,7 @@ impl Shape {
         Shape {
             full_name,
             name: full_name.split_once('.').unwrap_or(("", full_name)).1,
-            form: Form::Known,
+            kind: ShapeKind::Known,
             first: 1,
             end: 0,
         }
@@ -262,8 +260,8 @@ impl Shape {
     }
 
     // Begins a shape, whose first part is this.
-    fn begin(&mut self, form: Form, first: u16) {
-        self.form = form;
+    fn begin(&mut self, kind: ShapeKind, first: u16) {
+        self.kind = kind;
         self.first = first;
         self.end = first;
     }
@@ -271,15 +269,15 @@ impl Shape {
 
 // The tag that words begin with, if they do, and the words behind it: a number, which is context-specific, or
 // `APPLICATION` and a number. `None` where it has another form.
-fn tag_before(words: &'static str) -> Option<(Option<Tag>, &'static str)> {
-    let Some(rest) = words.strip_prefix("[") else {
-        return Some((None, words));
+fn tag_before(text: &'static str) -> Option<(Option<Tag>, &'static str)> {
+    let Some(rest) = text.strip_prefix("[") else {
+        return Some((None, text));
     };
-    let (tag, words) = rest.split_once("] ")?;
+    let (tag, text) = rest.split_once("] ")?;
     let (class, digits) = match tag.strip_prefix("APPLICATION ") {
         Some(digits) => (ASN1Class::Application, digits),
         None => (ASN1Class::ContextSpecific, tag),
     };
     let number = digits.parse::<u8>().ok()?;
-    Some((Some(Tag { class, number }), words))
+    Some((Some(Tag { class, number }), text))
 }

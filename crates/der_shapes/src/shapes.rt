@@ -56,14 +56,14 @@ pub(crate) struct Candidate {
 pub(crate) struct Shape {
     pub full_name: &'static str,
     pub name: &'static str,
-    pub form: Form,
+    pub kind: ShapeKind,
     pub first: u16,
     pub end: u16,
 }
 
 // What elements of a shape are, and what its parts are.
 #[derive(Clone, Copy, Drop)]
-pub(crate) enum Form {
+pub(crate) enum ShapeKind {
     // with this tag of class Universal; numbers that have names
     Leaf(u8),
     // a SEQUENCE or a SET of fields, with this tag; the fields

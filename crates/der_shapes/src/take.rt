@@ -4,7 +4,7 @@ ghost use Rattle.der_shapes.specs.Spots.{IsAlternative, IsAnything, IsByField, I
 ghost use Rattle.der_shapes.specs.Spots.{IsOfWhole};
 ghost use Rattle.der_shapes.specs.Spots.{IsOne, IsPlain, IsSaid, IsTagged, IsUniversal, inside_of as inside_is};
 
-use crate::shapes::{Form, Part, Shape, Shapes, Tag};
+use crate::shapes::{Part, Shape, ShapeKind, Shapes, Tag};
 use asn1_headers::header::ASN1Class;
 
 // What stands inside an element.
@@ -112,8 +112,8 @@ impl Shapes {
     fn anything(&self, shape: u16) -> Option<OfShape>
         ensures { IfSome result (IsAnything self.now shape) }
     {
-        match self.shape(shape)?.form {
-            Form::Open => Some(OfShape {
+        match self.shape(shape)?.kind {
+            ShapeKind::Open => Some(OfShape {
                 shape,
                 alternative: None,
                 inside: Inside::Nothing,
@@ -128,7 +128,7 @@ impl Shapes {
             × (k : ℕ) × (shape.first ≤ k) × (k < shape.end)
             × (slice_get self.now.parts.items k ≡ Some row)) }
     {
-        if !matches!(shape.form, Form::Open | Form::Known) {
+        if !matches!(shape.kind, ShapeKind::Open | ShapeKind::Known) {
             return None;
         }
         let number = self.identifiers.get(identifier as usize).copied()?;
@@ -162,7 +162,7 @@ impl Shapes {
         ensures chosen { IfSome result (IsChosen self.now shape tag) }
     {
         let found = self.shape(shape)?;
-        if !matches!(found.form, Form::Choice) {
+        if !matches!(found.kind, ShapeKind::Choice) {
             return None;
         }
         for i in found.first..found.end {
@@ -209,8 +209,8 @@ impl Shapes {
         ensures { IfSome result (IsPlain self.now shape tag) }
     {
         let found = self.shape(shape)?;
-        match found.form {
-            Form::Leaf(number) | Form::Record(number) | Form::Items(number)
+        match found.kind {
+            ShapeKind::Leaf(number) | ShapeKind::Record(number) | ShapeKind::Items(number)
                 if is_universal(number, tag) => { Some(inside_of(found)) }
             _ => None,
         }
@@ -228,11 +228,12 @@ pub(crate) fn is_universal(number: u8, tag: Tag) -> bool
 // What stands inside an element of a shape.
 #[inline(always)]
 fn inside_of(shape: Shape) -> Inside
-    ensures { result ≡ inside_is shape.form shape.first shape.end }
+    ensures { result ≡ inside_is shape.kind shape.first shape.end }
 {
-    match shape.form {
-        Form::Record(_) => Inside::Fields(shape.first, shape.end),
-        Form::Items(_) => Inside::Each(shape.first),
-        Form::Leaf(_) | Form::Choice | Form::Open | Form::Known => Inside::Nothing,
+    match shape.kind {
+        ShapeKind::Record(_) => Inside::Fields(shape.first, shape.end),
+        ShapeKind::Items(_) => Inside::Each(shape.first),
+        ShapeKind::Leaf(_) | ShapeKind::Choice | ShapeKind::Open | ShapeKind::Known =>
+            Inside::Nothing,
     }
 }

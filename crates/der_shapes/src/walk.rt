@@ -6,7 +6,11 @@ ghost use Rattle.der_shapes.specs.declared.take.Inside.TheVariants.{Fields as Fi
 
 use crate::shapes::{Shapes, Tag};
 use crate::take::{Inside, Spot, is_universal};
+use asn1_headers::tags;
 use std::alloc::{AllocError, Global};
+
+// The tag number of an OBJECT IDENTIFIER.
+const OBJECT_IDENTIFIER: u8 = tags::OBJECT_IDENTIFIER as u8;
 
 // How far what stands inside an element was gone over.
 #[derive(Clone, Copy, Drop)]
@@ -120,7 +124,7 @@ impl<'a> FieldWalk<'a> {
     {
         // the tag of an OBJECT IDENTIFIER (X.690 8.19)
         if let Some(frame) = self.frames.last()
-            && is_universal(6, frame.spot.tag)
+            && is_universal(OBJECT_IDENTIFIER, frame.spot.tag)
         {
             self.progress.identifier = Some(self.shapes.identifier(contents));
         }

@@ -31,9 +31,10 @@ is_string tag octets =
     else false
 
 -- the tags of types whose values are put in words: REAL, RELATIVE-OID, TIME, DATE, TIME-OF-DAY, DATE-TIME and DURATION
-abbrev pub has_words : ℕ → Bool
-has_words tag = (tag == REAL) || (tag == RELATIVE_OID) || (tag == TIME) || (nat_lt BMP_STRING tag && nat_lt tag OID_IRI)
+abbrev pub has_notation : ℕ → Bool
+has_notation tag =
+    (tag == REAL) || (tag == RELATIVE_OID) || (tag == TIME) || (nat_lt BMP_STRING tag && nat_lt tag OID_IRI)
 
 -- the tags of types whose values are text: of these strings, and of those that are put in words
 abbrev pub has_text : ℕ → Bool
-has_text tag = (tag == NUMERIC_STRING) || has_printed_characters tag || is_iri tag || has_words tag
+has_text tag = (tag == NUMERIC_STRING) || has_printed_characters tag || is_iri tag || has_notation tag

@@ -2,7 +2,7 @@
 ghost use Rattle.std.specs.Prelude.{◌≡◌, false, true, IfOk, IfSome, MatchOption};
 ghost use Rattle.std.specs.List.{list_all};
 ghost use Rattle.std.specs.Str.{is_utf8 as is_utf8_is};
-ghost use Rattle.der_values.specs.Strings.{has_printed_characters, has_text as has_text_is, has_words as has_words_is};
+ghost use Rattle.der_values.specs.Strings.{has_printed_characters, has_text as has_text_is, has_notation as has_notation_is};
 ghost use Rattle.der_values.specs.Strings.{is_iri as is_iri_is, is_numeric as is_numeric_is};
 ghost use Rattle.der_values.specs.Strings.{is_printed as is_printed_is, is_string as is_string_is};
 
@@ -40,11 +40,11 @@ pub fn string_of(tag: u64, contents: &[u8]) -> Option<&str>
 pub fn has_text(tag: u64) -> bool
     ensures { result ≡ has_text_is tag }
 {
-    tag == NUMERIC_STRING || is_printed_type(tag) || is_iri(tag) || has_words(tag)
+    tag == NUMERIC_STRING || is_printed_type(tag) || is_iri(tag) || has_notation(tag)
 }
 
-fn has_words(tag: u64) -> bool
-    ensures { result ≡ has_words_is tag }
+fn has_notation(tag: u64) -> bool
+    ensures { result ≡ has_notation_is tag }
 {
     matches!(tag, REAL | RELATIVE_OID | TIME | DATE..=DURATION)
 }
@@ -107,7 +107,7 @@ fn is_numeric(octet: u8) -> bool
 /// # Errors
 /// Memory ran out.
 pub fn value_text(alloc: Global, tag: u64, contents: &[u8]) -> Result<Option<String>, AllocError>
-    ensures { IfOk result (λ found. IfSome found (λ _. has_words_is tag ≡ true)) }
+    ensures { IfOk result (λ found. IfSome found (λ _. has_notation_is tag ≡ true)) }
 {
     match tag {
         REAL => real_text(alloc, contents),

@@ -1,7 +1,7 @@
 -- For `kind::content_kind`: what it returns is right.
 use Rattle.std.proofs.Common.{◌∙◌, ◌∷◌, [], false, refl, sym, true}
 use Rattle.der_account.specs.Kinds.{request_info, tbs_certificate, tbs_list}
-use Rattle.der_account.proofs.Forms.{are_of_some-first, are_of_some-later}
+use Rattle.der_account.proofs.Types.{are_of_some-first, are_of_some-later}
 use Rattle.der_account.proofs.kind.content_kind.Goals as goal
 
 pub returns-then-has_fields : goal.returns-then-has_fields

@@ -1,7 +1,7 @@
 -- For `kind::has_fields`: its loop keeps its invariant, and what it returns is right.
 use Rattle.std.proofs.Common.{◌≡◌, ◌∙◌, ◌∷◌, [], List, false, true, ap, arith, is_some, length, refl, subst, sym}
 use Rattle.der_account.specs.Kinds.{are_of, sequence, validity_fields}
-use Rattle.der_account.specs.Places.{fields_of, form_of}
+use Rattle.der_account.specs.Places.{fields_of, element_type}
 use Rattle.der_account.specs.declared.kind.Field.{Field}
 use Rattle.der_account.specs.declared.kind.Field.TheVariants.{NoMore, One, Optional, Validity}
 use Rattle.der_account.proofs.Taking.{IsReached, IsReached-one, IsReached-optional, one-missing}
@@ -43,7 +43,7 @@ returns-then-is_none c offset header items rest s =
     c.in-Some.ensures.cases.0 ∙ ap (λ z. z ∷ c.in-Some.others.now) c.in-One.is in
     let none : is_some c.take.result ≡ false = c.if-is_none.ensures in
     sym
-    (one-missing (form_of c.in-One.tag) (fields_of c.in-Some.others.now) c.loop-field.items c.take.new.self
+    (one-missing (element_type c.in-One.tag) (fields_of c.in-Some.others.now) c.loop-field.items c.take.new.self
     (are_of (fields_of c.args.fields.now) items) (is_some c.take.result) c.take.ensures none
     (subst (λ z. IsReached c.loop-field.items (are_of (fields_of c.args.fields.now) items) (fields_of z)) left
     (c.loop-field.invariant offset header items rest s)))
@@ -63,7 +63,7 @@ loop-field-preserved-else-is_none c offset header items rest s =
     let left : c.loop-field.left.now ≡ One c.in-One.tag ∷ c.in-Some.others.now =
     c.in-Some.ensures.cases.0 ∙ ap (λ z. z ∷ c.in-Some.others.now) c.in-One.is in
     let some : is_some c.take.result ≡ true = c.if-is_none.ensures in
-    IsReached-one (form_of c.in-One.tag) (fields_of c.in-Some.others.now) c.loop-field.items c.take.new.self
+    IsReached-one (element_type c.in-One.tag) (fields_of c.in-Some.others.now) c.loop-field.items c.take.new.self
     (are_of (fields_of c.args.fields.now) items) (is_some c.take.result) c.take.ensures some
     (subst (λ z. IsReached c.loop-field.items (are_of (fields_of c.args.fields.now) items) (fields_of z)) left
     (c.loop-field.invariant offset header items rest s))
@@ -72,7 +72,7 @@ pub loop-field-preserved : goal.loop-field-preserved
 loop-field-preserved c offset header items rest s =
     let left : c.loop-field.left.now ≡ Optional c.in-Optional.tag ∷ c.in-Some.others.now =
     c.in-Some.ensures.cases.0 ∙ ap (λ z. z ∷ c.in-Some.others.now) c.in-Optional.is in
-    IsReached-optional (form_of c.in-Optional.tag) (fields_of c.in-Some.others.now) c.loop-field.items
+    IsReached-optional (element_type c.in-Optional.tag) (fields_of c.in-Some.others.now) c.loop-field.items
     c.take-in-Optional.new.self (are_of (fields_of c.args.fields.now) items) (is_some c.take-in-Optional.result)
     c.take-in-Optional.ensures
     (subst (λ z. IsReached c.loop-field.items (are_of (fields_of c.args.fields.now) items) (fields_of z)) left

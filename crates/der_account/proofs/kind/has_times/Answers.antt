@@ -2,7 +2,7 @@
 use Rattle.std.proofs.Common.{◌≡◌, ◌&&◌, ◌∙◌, ap, false, if◌then◌else◌, subst, sym, true}
 use Rattle.der_account.specs.Kinds.{time}
 use Rattle.der_account.specs.Places.{AreLeft, begin_with, behind_first}
-use Rattle.der_account.proofs.Forms.{are_of-validity}
+use Rattle.der_account.proofs.Types.{are_of-validity}
 use Rattle.der_account.proofs.kind.has_times.Goals as goal
 
 pub returns-then-is_some : goal.returns-then-is_some

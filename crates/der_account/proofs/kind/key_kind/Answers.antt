@@ -1,7 +1,7 @@
 -- For `kind::key_kind`: what it returns is right.
 use Rattle.std.proofs.Common.{◌∙◌, ◌∷◌, [], false, refl, sym, true}
 use Rattle.der_account.specs.Kinds.{ec_key, encrypted_key, private_key, public_key, rsa_key}
-use Rattle.der_account.proofs.Forms.{are_of_some-first, are_of_some-later}
+use Rattle.der_account.proofs.Types.{are_of_some-first, are_of_some-later}
 use Rattle.der_account.proofs.kind.key_kind.Goals as goal
 
 pub returns-then-has_fields : goal.returns-then-has_fields

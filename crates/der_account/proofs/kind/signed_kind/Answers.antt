@@ -3,7 +3,7 @@ use Rattle.std.proofs.Common.{◌≡◌, ◌&&◌, ◌∙◌, ap, false, refl, s
 use Rattle.asn1_outline.specs.Shapes.{more_shapes, no_shapes}
 use Rattle.der_account.specs.Kinds.{are_of, are_of_some}
 use Rattle.der_account.specs.Places.{contents, signed_fields}
-use Rattle.der_account.proofs.Forms.{are_of_some-signed}
+use Rattle.der_account.proofs.Types.{are_of_some-signed}
 use Rattle.der_account.proofs.kind.signed_kind.Goals as goal
 
 pub returns-then-not-has_fields : goal.returns-then-not-has_fields

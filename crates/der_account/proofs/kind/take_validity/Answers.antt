@@ -3,7 +3,7 @@ use Rattle.std.proofs.Common.{◌≡◌, ◌∙◌, if◌then◌else◌, refl, s
 use Rattle.asn1_outline.specs.Shapes.{more_shapes, no_shapes}
 use Rattle.der_account.specs.Kinds.{is_of, sequence, some_sequence, validity_fields}
 use Rattle.der_account.specs.Places.{AreLeft}
-use Rattle.der_account.proofs.Forms.{is_of-no_sequence, is_of-sequence}
+use Rattle.der_account.proofs.Types.{is_of-no_sequence, is_of-sequence}
 use Rattle.der_account.proofs.Taking.{HasTaken-none}
 use Rattle.der_account.proofs.kind.take_validity.Goals as goal
 

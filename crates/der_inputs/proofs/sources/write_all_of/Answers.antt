@@ -19,6 +19,6 @@ returns-clause-written g c =
       texts,
       first ++ (texts ++ last),
       are,
-      IsFramed-append c.args.show.now.form texts first last is_first is_last,
+      IsFramed-append c.args.show.now.format texts first last is_first is_last,
       Appends-kept before ended after (first ++ (texts ++ last)) all c.in_ok-flush.ensures.kept,
     )

@@ -5,7 +5,7 @@ use Rattle.der_json.specs.Rows.{departures_of}
 use Rattle.der_pieces.specs.Marks.{breach_of}
 use Rattle.der_json.proofs.rows.push_marks.Given as goal
 
--- those before this one are kept
+-- the rules before this one are kept
 abbrev pub invariant-loop-rule : goal.invariant-loop-rule
 invariant-loop-rule l =
     departures_of l.marks.items

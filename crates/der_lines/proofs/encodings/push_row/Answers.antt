@@ -8,7 +8,7 @@ use Rattle.der_lines.specs.PieceRows.{IsPieceText, shown_front}
 use Rattle.der_lines.proofs.Dumps.{nothing_deep, row_line_of, row_printed}
 use Rattle.der_lines.proofs.Shown.{mark_shown, type_shown}
 use Rattle.der_lines.proofs.Meanings.{piece_shown}
-use Rattle.der_pieces.specs.Pieces.{kind_words}
+use Rattle.der_pieces.specs.Pieces.{kind_type_name}
 use Rattle.der_rows.proofs.OneLine.{on_one_line-shown}
 use Rattle.der_rows.specs.Printing.{Prints}
 use Rattle.der_rows.specs.Rows.{on_one_line, row_line}
@@ -35,7 +35,7 @@ returns g c =
       is_inside = place.is_inside;
       has_rows_inside = c.has_rows_inside.result;
       field = c.deref.result;
-      type_name = c.args.words;
+      type_name = c.args.type_name;
       value = c.deref-2.result;
       fault = c.as_deref.result;
       mark = c.deref-3.result;
@@ -46,13 +46,13 @@ returns g c =
     let mark = c.deref-3.ensures.value ∙ (c.in_ok-push_mark.ensures ∙ ap (λ z. z ++ text) c.new-mark.ensures.items) in
     let mark_line = ap on_one_line mark
     ∙ on_one_line-shown text (mark_shown piece.breaches.rules.items piece.breaches.has_spare_bits) in
-    let words_line = ap on_one_line c.requires.words
-    ∙ on_one_line-shown (kind_words piece.kind) (type_shown piece.kind) in
+    let type_line = ap on_one_line c.requires.type_name
+    ∙ on_one_line-shown (kind_type_name piece.kind) (type_shown piece.kind) in
     row_printed g.W.Write.contents (is_too_deep place.most_depth place.depth) place.is_inside row (shown_front piece)
     (is_some piece.fault ∷ [])
     c.args.printer.now c.push.new.self (sym c.is_too_deep.ensures ∙ c.if-is_too_deep.false)
     (subst (λ z. Prints g.W.Write.contents (z ∷ []) (row_line row ++ 10 ∷ []) c.args.printer.now c.push.new.self) fault
     c.in_ok-push.ensures)
     (row_line_of place.is_inside row (shown_front piece) refl c.in_ok-document_offset.ensures c.header_size.ensures
-    c.contents_size.ensures c.is_indefinite.ensures refl words_line mark_line
+    c.contents_size.ensures c.is_indefinite.ensures refl type_line mark_line
     (piece_shown (λ message. message.now) piece c.deref-2.result.now row.fault shown c.requires.right fault))

@@ -6,12 +6,12 @@ use Rattle.der_lines.proofs.lines.push_fault.Goals as goal
 
 pub returns : goal.returns
 returns g c =
-    let words = c.args.words.now in
-    let line = fault_line c.args.offset words in (
+    let message = c.args.message.now in
+    let line = fault_line c.args.offset message in (
       _,
       (
         _,
         c.in_ok-push_fault.ensures,
-        (line, refl, record { text = on_one_line words; line_is = refl; one = IsOneLine-on_one_line words }),
+        (line, refl, record { text = on_one_line message; line_is = refl; one = IsOneLine-on_one_line message }),
       ),
     )

@@ -2,7 +2,7 @@
 use Rattle.std.proofs.Common.{◌≡◌, ◌++◌, ◌<◌, ◌∙◌, ap, append-nil, arith, false, length, map, sym}
 use Rattle.std.proofs.lemmas.Grind.{common_steps}
 use Rattle.std.proofs.lemmas.List.{length-map}
-use Rattle.der_lines.specs.MarkText.{mark_text, words_text}
+use Rattle.der_lines.specs.MarkText.{mark_text, breaches_text}
 use Rattle.der_pieces.specs.Marks.{breach_of}
 use Rattle.der_lines.proofs.Dumps.{mark_put, mark_text-none}
 use Rattle.der_lines.proofs.lines.push_mark.Goals as goal
@@ -22,7 +22,7 @@ returns c =
     let some : 0 < length rules = grind (arith, common_steps) in
     let there : 0 < length (map breach_of rules) = omega (arith, some, length-map rules breach_of) in
     mark_put _ _ _ _ (map breach_of rules) there c.in_ok-extend_from_slice.ensures.items
-    (c.in_ok-push_words.ensures
-    ∙ ap (λ z. c.extend_from_slice.new.self.items ++ words_text false (map breach_of z)) c.deref.ensures.value)
+    (c.in_ok-push_rules.ensures
+    ∙ ap (λ z. c.extend_from_slice.new.self.items ++ breaches_text false (map breach_of z)) c.deref.ensures.value)
     c.in_ok-push.ensures.items
     ∙ ap (λ z. c.args.out.now.items ++ mark_text z) c.in_ok-rules.ensures

@@ -1,6 +1,6 @@
 -- For `show::Show::push_as_lines`: what it returns is right.
 use Rattle.der_rows.proofs.Printed.{IsWritten-lines}
-use Rattle.der_inputs.specs.Forms.{look_by}
+use Rattle.der_inputs.specs.Formats.{look_by}
 use Rattle.der_inputs.proofs.show.Show.push_as_lines.Goals as goal
 
 pub returns : goal.returns

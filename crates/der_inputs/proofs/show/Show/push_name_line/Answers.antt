@@ -1,6 +1,6 @@
 -- For `show::Show::push_name_line`: what it returns is right.
 use Rattle.der_rows.proofs.Printed.{IsWritten-lines}
-use Rattle.der_inputs.specs.Forms.{look_by}
+use Rattle.der_inputs.specs.Formats.{look_by}
 use Rattle.der_inputs.proofs.show.Show.push_name_line.Goals as goal
 
 pub returns : goal.returns

@@ -3,7 +3,7 @@ use Rattle.std.proofs.Common.{◌≡◌, ◌++◌, List, ℕ, length}
 use Rattle.der_rows.specs.Printing.{PrintsOctets}
 use Rattle.der_rows.proofs.printer.Printer.push_octets.Given as goal
 
--- those before the rest were printed
+-- the octets before the rest were printed
 abbrev pub invariant-loop-rest : goal.invariant-loop-rest
 invariant-loop-rest g l =
     (printed : List ℕ) × (l.fn.octets ≡ printed ++ l.rest)

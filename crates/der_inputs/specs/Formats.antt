@@ -7,8 +7,8 @@ use Rattle.der_io.specs.Characters.{equals_sign}
 use Rattle.der_io.specs.Escaped.{escaped}
 use Rattle.der_inputs.specs.Findings.{Finding}
 use Rattle.der_inputs.specs.Json.{IsJson}
-use Rattle.der_inputs.specs.declared.show.Form.{Form}
-use Rattle.der_inputs.specs.declared.show.Form.TheVariants.{Accounts, Json, Lines, Page}
+use Rattle.der_inputs.specs.declared.show.OutputFormat.{OutputFormat}
+use Rattle.der_inputs.specs.declared.show.OutputFormat.TheVariants.{Accounts, Json, Lines, Page}
 use Rattle.der_lines.specs.Dump.{IsDumpOf, IsLine, IsNote, IsRefusal}
 use Rattle.der_lines.specs.declared.document.Verdict.{Verdict}
 use Rattle.der_lines.specs.declared.document.Verdict.TheVariants.{AllRead}
@@ -66,10 +66,10 @@ IsAccount strict (Some octets) verdict text =
 IsAccount strict None verdict text =
     (why line : List ℕ) × IsRefusal why verdict line × IsShown false line text
 
--- what is written in this form of a finding in the file of this name, if it is shown: as JSON, which has all blocks, on
--- a page, as an account, or as lines, with colors or not
+-- what is written in this format of a finding in the file of this name, if it is shown: as JSON, which has all blocks,
+-- on a page, as an account, or as lines, with colors or not
 abbrev pub IsText :
-    Form → Bool → Bool → Option ℕ → Option (List ℕ) → Finding → Verdict → List ℕ → Type 0
+    OutputFormat → Bool → Bool → Option ℕ → Option (List ℕ) → Finding → Verdict → List ℕ → Type 0
 IsText Lines colored strict most file = IsLines colored strict most
 IsText Json colored strict most file = IsJson strict file
 IsText Page colored strict most file = IsSection strict most
@@ -83,30 +83,30 @@ abbrev pub IsTitleSection : List ℕ → List ℕ → Type 0
 IsTitleSection name text =
     (line : List ℕ) × (faults : List Bool) × IsTitle name line × Shows faults line [] [] text
 
--- the name above dumps in a form: JSON has it in each line
-abbrev pub IsName : Form → Bool → List ℕ → List ℕ → Type 0
+-- the name above dumps in a format: JSON has it in each line
+abbrev pub IsName : OutputFormat → Bool → List ℕ → List ℕ → Type 0
 IsName Lines colored name text = IsTitleLine colored name text
 IsName Accounts colored name text = IsTitleLine colored name text
 IsName Json colored name text = text ≡ []
 IsName Page colored name text = IsTitleSection name text
 
 -- what stands before texts, or behind them: the beginning of a page or its end, and else nothing
-abbrev pub IsFrameOf : Form → List ℕ → Type 0
+abbrev pub IsFrameOf : OutputFormat → List ℕ → Type 0
 IsFrameOf Page text = ⊤
 IsFrameOf Lines text = text ≡ []
 IsFrameOf Accounts text = text ≡ []
 IsFrameOf Json text = text ≡ []
 
 -- what is written of these texts: they, and around the sections of a page its beginning and its end
-abbrev pub IsFramed : Form → List ℕ → List ℕ → Type 0
+abbrev pub IsFramed : OutputFormat → List ℕ → List ℕ → Type 0
 IsFramed Page texts output = (beginning end : List ℕ) × (output ≡ beginning ++ (texts ++ end))
 IsFramed Lines texts output = output ≡ texts
 IsFramed Accounts texts output = output ≡ texts
 IsFramed Json texts output = output ≡ texts
 
 -- JSON where it is wanted, or else a page, or else accounts
-abbrev pub form_by : (json html text : Bool) → Form
-form_by true html text = Json
-form_by false true text = Page
-form_by false false true = Accounts
-form_by false false false = Lines
+abbrev pub format_by : (json html text : Bool) → OutputFormat
+format_by true html text = Json
+format_by false true text = Page
+format_by false false true = Accounts
+format_by false false false = Lines

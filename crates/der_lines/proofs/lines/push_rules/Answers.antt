@@ -1,10 +1,10 @@
--- For `lines::push_words`: its loop keeps its invariant and what it returns is right.
+-- For `lines::push_rules`: its loop keeps its invariant and what it returns is right.
 use Rattle.std.proofs.Common.{◌≡◌, ◌++◌, append-nil, arith, false, map, refl, subst, sym}
 use Rattle.std.proofs.lemmas.List.{take_all}
 use Rattle.der_pieces.specs.Marks.{breach_of}
-use Rattle.der_lines.specs.MarkText.{words_text}
+use Rattle.der_lines.specs.MarkText.{breaches_text}
 use Rattle.der_lines.proofs.Breach.{put_at}
-use Rattle.der_lines.proofs.lines.push_words.Goals as goal
+use Rattle.der_lines.proofs.lines.push_rules.Goals as goal
 
 pub loop-rule-init : goal.loop-rule-init
 loop-rule-init c = record { some = refl; put = sym (append-nil c.args.out.now.items) }
@@ -21,5 +21,5 @@ loop-rule-preserved c =
 pub returns : goal.returns
 returns c =
     let rules = c.args.rules.now in
-    subst (λ z. c.loop-rule.out.items ≡ c.args.out.now.items ++ words_text false (map breach_of z))
+    subst (λ z. c.loop-rule.out.items ≡ c.args.out.now.items ++ breaches_text false (map breach_of z))
     (take_all c.loop-rule.rule-index rules (omega arith)) c.loop-rule.invariant.put

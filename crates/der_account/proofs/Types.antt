@@ -1,15 +1,15 @@
--- Fields one by one, and the forms of fields inside others. For `kind`.
+-- Fields one by one, and the types of fields inside others. For `kind`.
 use Rattle.std.proofs.Common.{◌≡◌, ◌&&◌, ◌||◌, ◌∙◌, ◌∷◌, [], ℕ, Bool, List, true, false, ap, if◌then◌else◌, refl, sym}
 use Rattle.asn1_blocks.specs.declared.parsed.PlacedHeader.{PlacedHeader}
 use Rattle.asn1_outline.specs.Shapes.{Shapes, more_shapes, no_shapes}
-use Rattle.der_account.specs.Kinds.{Fields, Form, are_of, are_of_some, bit_string, each, is_of, no_more, one, optional, request_info, sequence, signed_kinds, some_sequence, tbs_certificate, tbs_list, time, validity_fields}
+use Rattle.der_account.specs.Kinds.{Fields, ElementType, are_of, are_of_some, bit_string, each, is_of, no_more, one, optional, request_info, sequence, signed_kinds, some_sequence, tbs_certificate, tbs_list, time, validity_fields}
 use Rattle.der_account.specs.Places.{begin_with, behind_first, contents, signed_fields}
 
 -- a field, and those behind it
-pub are_of-one : (form : Form) (fields : Fields) (shapes : Shapes) →
-    are_of (one form fields) shapes ≡ (begin_with form shapes && are_of fields (behind_first shapes))
-are_of-one form fields no_shapes = refl
-are_of-one form fields (more_shapes offset header items rest) = refl
+pub are_of-one : (wanted : ElementType) (fields : Fields) (shapes : Shapes) →
+    are_of (one wanted fields) shapes ≡ (begin_with wanted shapes && are_of fields (behind_first shapes))
+are_of-one wanted fields no_shapes = refl
+are_of-one wanted fields (more_shapes offset header items rest) = refl
 
 if-fields : (fields : Fields) (yes : Bool) (a b : Shapes) →
     (if yes then are_of fields a else are_of fields b) ≡ are_of fields (if yes then a else b)
@@ -17,12 +17,12 @@ if-fields fields true a b = refl
 if-fields fields false a b = refl
 
 -- an optional one, and those behind it
-pub are_of-optional : (form : Form) (fields : Fields) (shapes : Shapes) →
-    are_of (optional form fields) shapes
-    ≡ are_of fields (if begin_with form shapes then behind_first shapes else shapes)
-are_of-optional form fields no_shapes = refl
-are_of-optional form fields (more_shapes offset header items rest) =
-    if-fields fields (is_of form header items) rest (more_shapes offset header items rest)
+pub are_of-optional : (wanted : ElementType) (fields : Fields) (shapes : Shapes) →
+    are_of (optional wanted fields) shapes
+    ≡ are_of fields (if begin_with wanted shapes then behind_first shapes else shapes)
+are_of-optional wanted fields no_shapes = refl
+are_of-optional wanted fields (more_shapes offset header items rest) =
+    if-fields fields (is_of wanted header items) rest (more_shapes offset header items rest)
 
 and-true : (a : Bool) → (a && true) ≡ a
 and-true true = refl
