@@ -28,7 +28,7 @@ returns-in_err-push_number-clause-refused g c =
     let octets = c.args.octets.now in
     let j = c.decode_base127.new.index in
     let has = g.T.FromBigUint.has in
-    let (_, (done, are_all), _) = c.loop-index.invariant in
+    let (_, (done, are_all, _), _) = c.loop-index.invariant in
     let next = numbers_after-drop octets c.loop-index.index j c.in_ok-number.number c.in_ok-number.ensures.moved.0
     c.in_ok-number.ensures.found in
     let all = ap (λ z. done ++ z) (sym next) ∙ are_all in
