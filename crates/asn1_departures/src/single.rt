@@ -10,7 +10,7 @@ use crate::encodings::{are_encodings, is_indefinite, split_identifier};
 use crate::own::{identifier_found, length_found, type_found};
 use crate::rule::Rule;
 use asn1_blocks::parsed::PlacedHeader;
-use asn1_headers::front::Header;
+use asn1_headers::whole_header::Header;
 use std::alloc::{AllocError, Global};
 
 /// The rules of DER that the encoding at the front of the octets breaks, in the order of `departures`, which lists them

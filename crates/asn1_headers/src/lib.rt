@@ -2,7 +2,7 @@
 //! layer of `simple_asn1`, which is the crate for users.
 //!
 //! - [`header`]: identifier octets and length octets, read, sized and pushed; the classes; the count of headers;
-//! - [`front`]: the header at the front of octets;
+//! - [`whole_header`]: the whole header at the front of octets, in one value;
 //! - [`tags`]: the numbers of the tags of class Universal;
 //! - [`types`]: the names of types;
 //! - [`error`]: why octets were not read, why a block was not written.
@@ -14,7 +14,7 @@
 #![tactic(auto)]
 
 pub mod error;
-pub mod front;
 pub mod header;
 pub mod tags;
 pub mod types;
+pub mod whole_header;

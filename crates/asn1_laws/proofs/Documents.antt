@@ -188,26 +188,25 @@ mutual
     same = same;
   }
   IsCanonicalAt-in_tree a e b j i u x v at s d same (in_group {g = g} {bs = bs} t) =
-      let F = s.4 in
-      let whole = der_whole x Universal s.1 (group_tag g) s.2 s.3 at.small F d in
-      IsCanonicalAt-among_trees bs e b j i (u ++ (F.identifier ++ F.len)) s.2 v
-      (Stand-inside i u x v e Universal s.1 (group_tag g) s.2 s.3 F at)
-      (subst (λ z. EncodesAll z s.2 bs) (add-header_size u x Universal s.1 (group_tag g) s.2 s.3 F) s.5)
-      (whole.items (IsRightAlone-group g s.1 s.2 whole.alone.1))
-      (shortest_encoding-same_contents x Universal Universal s.1 true (group_tag g) (group_tag g) s.2 (all_canonical bs)
-      s.3 at.small F
-      same) t
+      let (_, bit, contents, size, F, items) = s in
+      let whole = der_whole x Universal bit (group_tag g) contents size at.small F d in
+      IsCanonicalAt-among_trees bs e b j i (u ++ (F.identifier ++ F.len)) contents v
+      (Stand-inside i u x v e Universal bit (group_tag g) contents size F at)
+      (subst (λ z. EncodesAll z contents bs) (add-header_size u x Universal bit (group_tag g) contents size F) items)
+      (whole.items (IsRightAlone-group g bit contents whole.alone.1))
+      (shortest_encoding-same_contents x Universal Universal bit true (group_tag g) (group_tag g) contents
+      (all_canonical bs) size at.small F same) t
   IsCanonicalAt-in_tree a e b j i u x v at s d same (in_explicit {class = c} {tag = n} {a = y} t) =
-      let F = s.4 in
-      let whole = der_whole x c true n s.2 s.3 at.small F d in
-      let G = IsEncoding-block s.2 (IsBlock-encodes (length u + s.3) s.2 y s.5) in
-      let one = AreDer-first s.2 s.2 [] G.class G.constructed G.tag G.contents G.header G.encoding
-      (sym (append-nil s.2))
-      (length-contents-lt x c true n s.2 s.3 F at.small) (whole.items refl) in
-      IsCanonicalAt-in_tree y e b j i (u ++ (F.identifier ++ F.len)) s.2 v
-      (Stand-inside i u x v e c true n s.2 s.3 F at)
-      (subst (λ z. Encodes z s.2 y) (add-header_size u x c true n s.2 s.3 F) s.5) one.der
-      (shortest_encoding-same_contents x c c true true n n s.2 (canonical y) s.3 at.small F same) t
+      let (_, _, contents, size, F, inner) = s in
+      let whole = der_whole x c true n contents size at.small F d in
+      let G = IsEncoding-block contents (IsBlock-encodes (length u + size) contents y inner) in
+      let one = AreDer-first contents contents [] G.class G.constructed G.tag G.contents G.header G.encoding
+      (sym (append-nil contents))
+      (length-contents-lt x c true n contents size F at.small) (whole.items refl) in
+      IsCanonicalAt-in_tree y e b j i (u ++ (F.identifier ++ F.len)) contents v
+      (Stand-inside i u x v e c true n contents size F at)
+      (subst (λ z. Encodes z contents y) (add-header_size u x c true n contents size F) inner) one.der
+      (shortest_encoding-same_contents x c c true true n n contents (canonical y) size at.small F same) t
 
   IsCanonicalAt-among_trees :
       (bs : Trees ℕ) (e : ℕ) (b : Tree ℕ) (j : ℕ) (i u x v : List ℕ) → Stand i u x v e → EncodesAll (length u) x bs →

@@ -84,14 +84,14 @@ NoneLeads-subidentifiers (b ∷ octets) begins h =
     by_rest ([], s) (inr high) =
         let ends : IsTrue (nat_lt b 128) = subst (NoneLeads (nat_lt b 128)) s h.1 in
         absurd (grind (arith, ends, high))
-    by_rest (n ∷ ns, s) (inr high) = (
-      low_bits_number (b ∷ s.0) ∷ ns,
+    by_rest (n ∷ ns, s) (inr high) = let (first, rest, whole, number, others) = s in (
+      low_bits_number (b ∷ first) ∷ ns,
       (
-        b ∷ s.0,
-        s.1,
-        ap (λ z. b ∷ z) s.2,
-        record { continued = IsContinued-cons b s.0 high s.3.continued; value = refl },
-        s.4,
+        b ∷ first,
+        rest,
+        ap (λ z. b ∷ z) whole,
+        record { continued = IsContinued-cons b first high number.continued; value = refl },
+        others,
       ),
     )
 

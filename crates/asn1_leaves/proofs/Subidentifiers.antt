@@ -14,12 +14,12 @@ use Rattle.asn1_headers.proofs.Shortest.{IsBase128-shortest}
 pub Subidentifiers-push : (ns octets last : List ℕ) (n : ℕ) → Subidentifiers ns octets → IsBase128 last n
     → Subidentifiers (ns ++ n ∷ []) (octets ++ last)
 Subidentifiers-push [] octets last n s t = (last, [], ap (λ z. z ++ last) s ∙ sym (append-nil last), t, refl)
-Subidentifiers-push (m ∷ ms) octets last n s t = (
-  s.0,
-  s.1 ++ last,
-  ap (λ z. z ++ last) s.2 ∙ append_assoc s.0 s.1 last,
-  s.3,
-  Subidentifiers-push ms s.1 last n s.4 t,
+Subidentifiers-push (m ∷ ms) octets last n (first, rest, whole, number, others) t = (
+  first,
+  rest ++ last,
+  ap (λ z. z ++ last) whole ∙ append_assoc first rest last,
+  number,
+  Subidentifiers-push ms rest last n others t,
 )
 
 -- where octets after the first subidentifier are none, neither are all of them
@@ -28,17 +28,18 @@ pub Subidentifiers-none_after : (first rest : List ℕ) (n : ℕ) → IsBase128 
     → Subidentifiers ns octets → ⊥
 Subidentifiers-none_after [] rest n t none octets e ns s = t.continued
 Subidentifiers-none_after (a ∷ first) rest n t none octets e [] s = absurd (omega (arith, ap length (sym s ∙ e)))
-Subidentifiers-none_after (a ∷ first) rest n t none octets e (m ∷ ms) s =
-    let p = IsContinued-unique (a ∷ first) s.0 rest s.1 t.continued s.3.continued (sym e ∙ s.2) in
-    none ms (subst (Subidentifiers ms) (sym p.1) s.4)
+Subidentifiers-none_after (a ∷ first) rest n t none octets e (m ∷ ms) (front, behind, whole, number, others) =
+    let p = IsContinued-unique (a ∷ first) front rest behind t.continued number.continued (sym e ∙ whole) in
+    none ms (subst (Subidentifiers ms) (sym p.1) others)
 
 -- octets that begin with no base-128 number are no subidentifiers
 Subidentifiers-none_first : (octets : List ℕ) → 0 < length octets → BeginsWithNo IsBase128 octets → (ns : List ℕ) →
     Subidentifiers ns octets → ⊥
 Subidentifiers-none_first octets some missing [] s = absurd (omega (arith, some, ap length s))
-Subidentifiers-none_first octets some missing (m ∷ ms) s =
-    missing m (length s.0)
-    (subst (λ z. IsBase128 z m) (sym (ap (λ z. take (length s.0) z) s.2 ∙ take_at s.0 s.1 (length s.0) refl)) s.3)
+Subidentifiers-none_first octets some missing (m ∷ ms) (first, rest, whole, number, others) =
+    let size = length first in
+    missing m size
+    (subst (λ z. IsBase128 z m) (sym (ap (λ z. take size z) whole ∙ take_at first rest size refl)) number)
 
 -- a fault of the first is one of all
 pub Subidentifiers-incomplete : (octets : List ℕ) (e : DecodeFault) → 0 < length octets →
@@ -54,14 +55,17 @@ IsContinued-not_empty (b ∷ first) p h = omega (arith, h)
 -- octets are the subidentifiers of one list of numbers
 pub Subidentifiers-unique : (ms ns octets : List ℕ) → Subidentifiers ms octets → Subidentifiers ns octets → ms ≡ ns
 Subidentifiers-unique [] [] octets s t = refl
-Subidentifiers-unique [] (n ∷ ns) octets s t =
-    absurd (IsContinued-not_empty t.0 t.3.continued (omega (arith, ap length (sym s ∙ t.2), length-append t.0 t.1)))
-Subidentifiers-unique (m ∷ ms) [] octets s t =
-    absurd (IsContinued-not_empty s.0 s.3.continued (omega (arith, ap length (sym t ∙ s.2), length-append s.0 s.1)))
-Subidentifiers-unique (m ∷ ms) (n ∷ ns) octets s t =
-    let p = IsContinued-unique s.0 t.0 s.1 t.1 s.3.continued t.3.continued (sym s.2 ∙ t.2) in
-    let e : m ≡ n = s.3.value ∙ ap low_bits_number p.0 ∙ sym t.3.value in
-    let r : ms ≡ ns = Subidentifiers-unique ms ns s.1 s.4 (subst (Subidentifiers ns) (sym p.1) t.4) in
+Subidentifiers-unique [] (n ∷ ns) octets none (first, rest, whole, number, others) =
+    absurd (IsContinued-not_empty first number.continued
+    (omega (arith, ap length (sym none ∙ whole), length-append first rest)))
+Subidentifiers-unique (m ∷ ms) [] octets (first, rest, whole, number, others) none =
+    absurd (IsContinued-not_empty first number.continued
+    (omega (arith, ap length (sym none ∙ whole), length-append first rest)))
+Subidentifiers-unique (m ∷ ms) (n ∷ ns) octets (first, rest, whole, number, others)
+    (first', rest', whole', number', others') =
+    let p = IsContinued-unique first first' rest rest' number.continued number'.continued (sym whole ∙ whole') in
+    let e : m ≡ n = number.value ∙ ap low_bits_number p.0 ∙ sym number'.value in
+    let r : ms ≡ ns = Subidentifiers-unique ms ns rest others (subst (Subidentifiers ns) (sym p.1) others') in
     cc
 
 -- an octet whose bit 8 is set, before others that begin with a number, is a part of it
@@ -97,15 +101,15 @@ Subidentifiers-unfinished : (b : ℕ) (octets : List ℕ) → octets ≡ [] → 
     Subidentifiers ns (b ∷ octets) →
     ⊥
 Subidentifiers-unfinished b octets none high [] s = omega (arith, ap length s)
-Subidentifiers-unfinished b octets none high (m ∷ ms) s =
-    IsContinued-unfinished b octets s.0 s.1 high none s.2 s.3.continued
+Subidentifiers-unfinished b octets none high (m ∷ ms) (first, rest, whole, number, others) =
+    IsContinued-unfinished b octets first rest high none whole number.continued
 
 Subidentifiers-none_behind_high : (b : ℕ) (octets : List ℕ) → ((ns : List ℕ) → Subidentifiers ns octets → ⊥) → 128 ≤ b →
     (ns : List ℕ)
     → Subidentifiers ns (b ∷ octets) → ⊥
 Subidentifiers-none_behind_high b octets none high [] s = omega (arith, ap length s)
-Subidentifiers-none_behind_high b octets none high (m ∷ ms) s =
-    Subidentifiers-still_none b octets s.0 s.1 ms high none s.2 s.3.continued s.4
+Subidentifiers-none_behind_high b octets none high (m ∷ ms) (first, rest, whole, number, others) =
+    Subidentifiers-still_none b octets first rest ms high none whole number.continued others
 
 -- one before octets that are subidentifiers makes others, where there are octets
 Subidentifiers-cons : (b c : ℕ) (octets : List ℕ) → (ns : List ℕ) × Subidentifiers ns (c ∷ octets)
@@ -116,14 +120,14 @@ Subidentifiers-cons b c octets (n ∷ ns, s) = elim (cases_lt b 128) [
     low_bits_number (b ∷ []) ∷ n ∷ ns,
     (b ∷ [], c ∷ octets, refl, record { continued = low; value = refl }, s),
   )
-  | inr high ↦ (
-    low_bits_number (b ∷ s.0) ∷ ns,
+  | inr high ↦ let (first, rest, whole, number, others) = s in (
+    low_bits_number (b ∷ first) ∷ ns,
     (
-      b ∷ s.0,
-      s.1,
-      ap (λ z. b ∷ z) s.2,
-      record { continued = IsContinued-cons b s.0 high s.3.continued; value = refl },
-      s.4,
+      b ∷ first,
+      rest,
+      ap (λ z. b ∷ z) whole,
+      record { continued = IsContinued-cons b first high number.continued; value = refl },
+      others,
     ),
   )
 ]

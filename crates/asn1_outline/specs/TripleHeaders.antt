@@ -24,7 +24,7 @@ pub record HasTripleHeaders (document : List ℕ) (whole content algorithm ident
   pub is_signature : IsUniversalAt document algorithm.end whole.end BIT_STRING signature
   pub to_the_end : signature.end ≡ whole.end
 
--- it begins with none
+-- the document begins with no triple
 abbrev pub HasNoTriple : List ℕ → Type 0
 HasNoTriple document = (w c a i s : PlacedHeader) → HasTripleHeaders document w c a i s → ⊥
 

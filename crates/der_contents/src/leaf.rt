@@ -14,7 +14,7 @@ use crate::value::{
 use asn1_blocks::contents::check_contents;
 use asn1_blocks::parsed::PlacedHeader;
 use asn1_headers::error::ASN1DecodeErr;
-use asn1_headers::front::Header;
+use asn1_headers::whole_header::Header;
 use asn1_headers::header::ASN1Class;
 use asn1_headers::tags::{
     BIT_STRING, BMP_STRING, BOOLEAN, ENUMERATED, GENERALIZED_TIME, IA5_STRING, INTEGER, NULL,

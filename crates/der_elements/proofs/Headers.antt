@@ -3,7 +3,7 @@ use Rattle.std.proofs.Common.{ℕ, List, drop, take, sym}
 use Rattle.std.proofs.lemmas.List.{take-append-drop}
 use Rattle.asn1_headers.specs.Front.{IsHeader}
 use Rattle.asn1_headers.specs.Front.{IsAtFront}
-use Rattle.asn1_headers.specs.declared.front.Header.{Header}
+use Rattle.asn1_headers.specs.declared.whole_header.Header.{Header}
 use Rattle.der_elements.specs.Headers.{StandsBehindHeader}
 
 -- a header that was read

@@ -3,7 +3,7 @@ use Rattle.std.proofs.Common.{◌≡◌, ℕ, ◌+◌, ◌≤◌, ◌&&◌, ◌=
 use Rattle.std.proofs.Common.{slice_range, refl, sym, ap, ◌∙◌, subst, arith}
 use Rattle.std.proofs.lemmas.Result.{IfOk-weaker}
 use Rattle.asn1_headers.specs.Front.{BeginsWithHeader, HasIndefiniteForm, IsAtFront}
-use Rattle.asn1_headers.specs.declared.front.Header.{Header}
+use Rattle.asn1_headers.specs.declared.whole_header.Header.{Header}
 use Rattle.asn1_headers.specs.declared.header.ASN1Class.TheVariants.{Universal}
 use Rattle.std.specs.Prelude.{◌↔◌, IfOk, IsTrue, Result}
 use Rattle.der_elements.specs.Ends.{begins_with_end, end_at, taken}

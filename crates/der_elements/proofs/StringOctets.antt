@@ -3,7 +3,7 @@ use Rattle.std.proofs.Common.{◌≡◌, ◌==◌, ℕ, Bool, true, false, List,
 use Rattle.std.proofs.Common.{refl, sym, ap, ◌∙◌, subst, eqb-true}
 use Rattle.std.specs.Prelude.{◌↔◌, IsTrue}
 use Rattle.asn1_headers.specs.Front.{BeginsWithHeader, HasIndefiniteForm, HasNoHeader, IsAtFront}
-use Rattle.asn1_headers.specs.declared.front.Header.{Header}
+use Rattle.asn1_headers.specs.declared.whole_header.Header.{Header}
 use Rattle.asn1_headers.specs.declared.header.ASN1Class.TheVariants.{Universal}
 use Rattle.der_elements.specs.Headers.{is_stray_form}
 use Rattle.der_elements.specs.Segments.{AreSegmentsOf}
@@ -74,7 +74,7 @@ module _ (element : List ℕ) (header : Header) (front : IsAtFront element heade
       are_octets = are;
     }
 
-    -- it holds these octets
+    -- the string holds these octets
     pub HoldsOctets-piece :
         (contents octets : List ℕ) → HasPiece tag header element contents → AreOctetsOf tag contents octets →
         HoldsOctets element octets

@@ -11,7 +11,7 @@ use Rattle.der_elements.specs.declared.cursor.End.{End}
 use Rattle.der_elements.specs.declared.cursor.Left.{Left}
 use Rattle.der_elements.specs.declared.cursor.Step.{Step}
 use Rattle.der_elements.specs.declared.cursor.Step.TheVariants.{Into, Out, Past}
-use Rattle.asn1_headers.specs.declared.front.Header.{Header}
+use Rattle.asn1_headers.specs.declared.whole_header.Header.{Header}
 
 -- where the contents octets end that are open, the innermost first
 abbrev pub ends_of : Cursor → List End

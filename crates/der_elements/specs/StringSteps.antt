@@ -1,7 +1,7 @@
 -- How the octets of a string are found, step by step. Private contracts alone name these.
 use Rattle.std.specs.Prelude.{◌≡◌, ℕ, Bool, true, false, List, drop, length}
 use Rattle.asn1_headers.specs.Front.{IsAtFront}
-use Rattle.asn1_headers.specs.declared.front.Header.{Header}
+use Rattle.asn1_headers.specs.declared.whole_header.Header.{Header}
 use Rattle.der_elements.specs.Headers.{is_stray_form}
 use Rattle.der_elements.specs.Segments.{AreSegmentsOf}
 

@@ -10,9 +10,9 @@ ghost use Rattle.der_elements.specs.Steps.{HasNoWhole, IsTaken};
 
 use crate::cursor::Step;
 use asn1_headers::error::ASN1DecodeErr;
-use asn1_headers::front::{Header, read_header};
 use asn1_headers::header::{ASN1Class, HeaderCount, identifier_at};
 use asn1_headers::tags::{SEQUENCE, SET};
+use asn1_headers::whole_header::{Header, read_header};
 use asn1_numbers::number::big_uint::BigUint;
 use std::alloc::{AllocError, Global};
 

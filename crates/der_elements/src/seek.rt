@@ -9,9 +9,9 @@ use crate::element::{begins_with_end, element_at};
 use crate::header::{find_header, has_tag, holds_encodings};
 use crate::sum::sum_of;
 use asn1_blocks::encoding::encoding_at;
-use asn1_headers::front::Header;
 use asn1_headers::header::ASN1Class;
 use asn1_headers::tags::{BIT_STRING, OCTET_STRING};
+use asn1_headers::whole_header::Header;
 use std::alloc::{AllocError, Global};
 
 // The tags of strings that may hold encodings.

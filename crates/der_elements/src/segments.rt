@@ -6,8 +6,8 @@ ghost use Rattle.der_elements.specs.Steps.{HasNoSegment, IsSegment};
 
 use crate::cursor::{Cursor, Left, Step};
 use crate::header::{has_tag, is_universal, size_of, whole_header};
-use asn1_headers::front::Header;
 use asn1_headers::tags;
+use asn1_headers::whole_header::Header;
 use std::alloc::{AllocError, Global};
 
 const BIT_STRING: u8 = tags::BIT_STRING as u8;

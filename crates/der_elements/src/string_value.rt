@@ -7,11 +7,11 @@ ghost use Rattle.der_elements.specs.StringSteps.{HasNoPiece, HasPiece};
 
 use crate::header::{find_header, has_stray_form, universal_tag};
 use crate::segments::joined_segments;
-use asn1_headers::front::Header;
 use asn1_headers::tags::{
     BIT_STRING, BMP_STRING, NUMERIC_STRING, OBJECT_DESCRIPTOR, OCTET_STRING, UNIVERSAL_STRING,
     UTF8_STRING,
 };
+use asn1_headers::whole_header::Header;
 use std::alloc::{AllocError, Global};
 
 /// Why an element holds no octets of a string.

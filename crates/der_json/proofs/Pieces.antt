@@ -6,7 +6,7 @@ use Rattle.std.specs.Prelude.{IfSome, Option, None, Some, option_map, if◌then�
 use Rattle.std.specs.Option.{is_some}
 use Rattle.asn1_headers.specs.Fault.{DecodeFault, incomplete}
 use Rattle.asn1_headers.specs.Front.{IsAtFront}
-use Rattle.asn1_headers.specs.declared.front.Header.{Header}
+use Rattle.asn1_headers.specs.declared.whole_header.Header.{Header}
 use Rattle.asn1_headers.specs.declared.header.ASN1Class.{ASN1Class}
 use Rattle.hex.specs.Hex.{encode_lower}
 use Rattle.serde_json.specs.Data.{Items, null, string}
@@ -150,16 +150,16 @@ module _ (left : List ℕ) (offset depth : ℕ) (rules : List Rule) (object : Ob
       header.tag (is_stray_form header.constructed (drop (length h.identifier) left)) (view object.value)
       (option_map string_bytes object.octets) (option_map fault_data object.fault) →
       IsRowOf left (header_front offset depth rules meaning header) (row_of object inside marks)
-  encoding_row header h size tag judged = of_encoding (record {
+  encoding_row header h size (class, constructed, tag_number, kind) judged = of_encoding (record {
     class = header.class;
     constructed = header.constructed;
     tag = header.tag;
     header = h;
     size = size;
-    class_is = tag.0;
-    constructed_is = tag.1;
-    tag_is = tag.2;
-    kind_is = tag.3;
+    class_is = class;
+    constructed_is = constructed;
+    tag_is = tag_number;
+    kind_is = kind;
     judged = judged;
   })
 
@@ -242,26 +242,26 @@ module _ (left : List ℕ) (offset depth : ℕ) (rules : List Rule) (object : Ob
       view object.value ≡ kind_json fault kind →
       option_map string_bytes object.octets ≡ kind_octets fault kind → IsKind left offset kind fault →
       IsRowOf left (kind_front offset depth rules false kind) (row_of object inside marks)
-  row_is (EndOfContents size) s t v d k = of_end (record {
+  row_is (EndOfContents size) s (class, constructed, tag_number, kind) v d k = of_end (record {
     type_name = refl;
     size = s;
-    class = t.0;
-    constructed = t.1;
-    tag = t.2;
-    kind = t.3;
+    class = class;
+    constructed = constructed;
+    tag = tag_number;
+    kind = kind;
     value = v;
     no_octets = d;
     fault = end_fault size k;
   })
-  row_is (Unreadable octets) s t v d (same, (found, is)) =
+  row_is (Unreadable octets) s (class, constructed, tag_number, kind) v d (same, (found, is)) =
       let (message, named) = fault_data-named offset object.offset found fault is in
       of_unreadable (record {
         type_name = refl;
         size = s ∙ ap (λ z. Some (length z)) same;
-        class = t.0;
-        constructed = t.1;
-        tag = t.2;
-        kind = t.3;
+        class = class;
+        constructed = constructed;
+        tag = tag_number;
+        kind = kind;
         value = v ∙ ap (λ z. string (encode_lower z)) same;
         no_octets = d;
         found = found;

@@ -4,7 +4,7 @@ use Rattle.std.specs.Prelude.{Option, None, Some, nat_lt, option_map, string_byt
 use Rattle.std.specs.Option.{is_some}
 use Rattle.hex.specs.Hex.{encode_lower}
 use Rattle.asn1_headers.specs.Names.{class_name, type_name}
-use Rattle.asn1_headers.specs.declared.front.Header.{Header}
+use Rattle.asn1_headers.specs.declared.whole_header.Header.{Header}
 use Rattle.asn1_leaves.specs.DottedDecimal.{dotted_decimal}
 use Rattle.serde_json.specs.Data.{Data, Items, Members, array, boolean as boolean_json, null, number, string, unsigned}
 use Rattle.serde_json.specs.View.{view}

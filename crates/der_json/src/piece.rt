@@ -14,7 +14,7 @@ use crate::fault::{Fault, placed};
 use crate::labels::{name_of, shown_of};
 use crate::object::{Object, Tag};
 use crate::value::{leaf_value, natural_value, octets_of_no_text, octets_value};
-use asn1_headers::front::Header;
+use asn1_headers::whole_header::Header;
 use der_contents::faults;
 use der_elements::header::holds_encodings;
 use der_elements::sum::sum_of;

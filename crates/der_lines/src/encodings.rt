@@ -14,7 +14,7 @@ use crate::values::{
     ValueStyle, cut_text, identifier_name, is_known_constructed, role_name, write_opened,
     write_role, write_value, write_value_name,
 };
-use asn1_headers::front::Header;
+use asn1_headers::whole_header::Header;
 use der_contents::faults::Fault;
 use der_contents::scalars::write_after_space;
 use der_contents::value::LeafValue;

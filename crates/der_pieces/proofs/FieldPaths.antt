@@ -28,12 +28,13 @@ pub EndsPath-reached :
     (old shapes : Shapes) (old_around around : Around) (walk : FieldWalk) (depth : ℕ) (frames : List Frame)
     (spot : Spot) → shapes ≡ old → around ≡ old_around → ∥ GoesOver shapes around walk ∥₁ →
     IsReached walk.shapes.now walk.all depth frames spot → EndsPath old old_around depth spot
-EndsPath-reached old shapes old_around around walk depth frames spot same_shapes same_around over r =
-    ∥∥₁_map₂ over r.3 (λ g path. (
+EndsPath-reached old shapes old_around around walk depth frames spot same_shapes same_around over
+    (spots, path_is, count, reached) =
+    ∥∥₁_map₂ over reached (λ g path. (
       walk.all,
-      r.0,
+      spots,
       subst (λ a. StandsAround a walk.all) same_around g.1,
-      r.2,
-      subst (IsPath old walk.all) r.1
+      count,
+      subst (IsPath old walk.all) path_is
           (subst (λ s. IsPath s walk.all (path_of frames)) (g.0 ∙ same_shapes) path),
     ))

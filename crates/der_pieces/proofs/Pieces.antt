@@ -7,7 +7,7 @@ use Rattle.asn1_departures.specs.declared.rule.Rule.{Rule}
 use Rattle.asn1_headers.specs.Fault.{DecodeFault}
 use Rattle.asn1_headers.specs.Front.{BeginsWithHeader, HasIndefiniteForm, IsAtFront}
 use Rattle.asn1_headers.specs.Header.{Encoding, IsLength}
-use Rattle.asn1_headers.specs.declared.front.Header.{Header}
+use Rattle.asn1_headers.specs.declared.whole_header.Header.{Header}
 use Rattle.asn1_headers.specs.declared.header.ASN1Class.{ASN1Class}
 use Rattle.der_pieces.specs.Fronts.{HasMeaning, IsFirst, IsJudged, Meaning, cut_short, of_cut, of_stray_form, of_whole, with_encodings, with_no_value, with_value, Front}
 use Rattle.der_elements.specs.Ends.{begins_with_end, taken}

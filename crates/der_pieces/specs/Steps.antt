@@ -9,7 +9,7 @@ use Rattle.der_elements.specs.declared.cursor.Step.{Step}
 use Rattle.der_elements.specs.declared.cursor.Step.TheVariants.{Into, Out, Past}
 use Rattle.asn1_departures.specs.Departures.{AreBroken}
 use Rattle.asn1_departures.specs.declared.rule.Rule.{Rule}
-use Rattle.asn1_headers.specs.declared.front.Header.{Header}
+use Rattle.asn1_headers.specs.declared.whole_header.Header.{Header}
 use Rattle.der_elements.specs.Steps.{ends_of}
 
 -- what the line of an encoding with the header and the meaning begins with

@@ -6,7 +6,7 @@ ghost use Rattle.der_pieces.specs.Steps.{AreRulesFound};
 
 use crate::place::Place;
 use asn1_departures::{Rule, broken_rules};
-use asn1_headers::front::Header;
+use asn1_headers::whole_header::Header;
 use der_values::{NamedBits, Role};
 use std::alloc::{AllocError, Global};
 

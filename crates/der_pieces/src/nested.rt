@@ -4,8 +4,8 @@ ghost use Rattle.der_pieces.specs.Fronts.{StandAt};
 ghost use Rattle.der_elements.specs.Steps.{Takes};
 
 use crate::place::Place;
-use asn1_headers::front::Header;
 use asn1_headers::tags;
+use asn1_headers::whole_header::Header;
 use der_contents::leaf::is_right;
 use der_elements::cursor::{Cursor, Left, Step};
 use der_elements::header::{holds_encodings, size_of, step_of, universal_tag, whole_header};

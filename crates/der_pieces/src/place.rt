@@ -3,9 +3,9 @@ ghost use Rattle.std.specs.Prelude.{◌≡◌, ◌+◌, ◌<◌, suc, IfOk, fals
 ghost use Rattle.der_pieces.specs.Fronts.{is_too_deep};
 
 use crate::style::Style;
-use asn1_headers::front::Header;
 use asn1_headers::header::ASN1Class;
 use asn1_headers::tags;
+use asn1_headers::whole_header::Header;
 use der_elements::header::universal_tag;
 use der_elements::sum::sum_of;
 use der_shapes::Spot;

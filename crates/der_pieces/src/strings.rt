@@ -6,12 +6,12 @@ ghost use Rattle.der_elements.specs.Segments.{AreSegmentsOf};
 ghost use Rattle.der_pieces.specs.Pieces.{IsJoined};
 
 use crate::place::Place;
-use asn1_headers::front::Header;
 use asn1_headers::header::ASN1Class;
 use asn1_headers::tags::{
     BIT_STRING, BMP_STRING, NUMERIC_STRING, OBJECT_DESCRIPTOR, OCTET_STRING, UNIVERSAL_STRING,
     UTF8_STRING,
 };
+use asn1_headers::whole_header::Header;
 use asn1_numbers::number::big_uint::BigUint;
 use der_contents::leaf::{Read, read_contents};
 use der_contents::value::LeafValue;

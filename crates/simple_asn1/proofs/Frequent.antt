@@ -36,7 +36,7 @@ take-front : (y v r rest : List ℕ) (c : ASN1Class) (j k : Bool) (n p m : ℕ) 
 take-front y v r rest c j k n p m f =
     sym (take-append_seam v r) ∙ ap (λ z. take (length v) z) f.whole ∙ ap (λ z. take z rest) f.size
 
--- it is the shortest
+-- octets with such a front are the shortest encoding
 shortest_encoding-front : (y v r rest : List ℕ) (c : ASN1Class) (j k : Bool) (n p m : ℕ) →
     HasCanonicalFront y v [] r rest c Universal j k n p m → y ≡ shortest_encoding c j n v
 shortest_encoding-front y v r rest c j k n p m f =

@@ -32,10 +32,10 @@ module _ (octets : List ℕ) (offset : ℕ) where
   -- a leaf at an offset has contents octets there
   pub HasLeafAt-leaf : (l : Leaf) → IsLeafAt octets offset l → HasLeafAt l
   HasLeafAt-leaf l (o, (x, at, d)) =
-      let s = Encodes-single 0 x (leaf o l) d.blocks in record {
-        contents = s.2;
-        universal = record { whole = x; at = at; constructed = s.1; header = s.3; encoding = s.4 };
-        meaning = s.5;
+      let (_, bit, contents, header, encoding, meaning) = Encodes-single 0 x (leaf o l) d.blocks in record {
+        contents = contents;
+        universal = record { whole = x; at = at; constructed = bit; header = header; encoding = encoding };
+        meaning = meaning;
       }
 
   -- one encoding stands there

@@ -384,23 +384,29 @@ module _ (x : List ℕ) (es : List Entry) (t ab : Tree ℕ) (c i s : Node) (is r
         let f = node-algorithm in
         let g = node-identifier in
         let q = node-signature in
-        let ew = subst (λ z. Encodes (tree_offset t) w.octets z) whole_is w.encoded.encoded in
-        let ef = subst (λ z. Encodes (tree_offset ab) f.octets z) algorithm_is f.encoded.encoded in
-        let eg = subst (λ z. Encodes (tree_offset (node_tree i)) g.octets z) identifier_is g.encoded.encoded in
-        let eq = subst (λ z. Encodes (tree_offset (node_tree s)) q.octets z) signature_is q.encoded.encoded in
+        let (_, whole_bit, whole_contents, whole_header, whole_encoding, _) =
+        subst (λ z. Encodes (tree_offset t) w.octets z) whole_is w.encoded.encoded in
+        let (_, algorithm_bit, algorithm_contents, algorithm_header, algorithm_encoding, _) =
+        subst (λ z. Encodes (tree_offset ab) f.octets z) algorithm_is f.encoded.encoded in
+        let (_, identifier_bit, identifier_contents, identifier_header, identifier_encoding, _) =
+        subst (λ z. Encodes (tree_offset (node_tree i)) g.octets z) identifier_is g.encoded.encoded in
+        let (_, signature_bit, signature_contents, signature_header, signature_encoding, _) =
+        subst (λ z. Encodes (tree_offset (node_tree s)) q.octets z) signature_is q.encoded.encoded in
         record {
-          whole = IsUniversal-entry x whole 0 w.depth 16 (entry_at es 0) w.octets ew.1 ew.2 ew.3 w.entry w.encoded ew.4
-              (omega arith);
+          whole = IsUniversal-entry x whole 0 w.depth 16 (entry_at es 0) w.octets whole_bit whole_contents
+              whole_header w.entry w.encoded whole_encoding (omega arith);
           three = w.entry.items;
           algorithm = IsUniversal-entry x algorithm (entry_at es 1).next f.depth 16 (entry_at es (entry_at es 1).next)
-              f.octets ef.1 ef.2 ef.3 f.entry f.encoded ef.4 (omega arith);
+              f.octets algorithm_bit algorithm_contents algorithm_header f.entry f.encoded algorithm_encoding
+              (omega arith);
           some = omega (arith, f.entry.items);
           identifier =
               IsUniversal-entry x i ((entry_at es 1).next + 1) g.depth 6 (entry_at es ((entry_at es 1).next + 1))
-              g.octets eg.1 eg.2 eg.3 g.entry g.encoded eg.4 (omega arith);
-          signature = IsUniversal-entry x s (entry_at es (entry_at es 1).next).next q.depth 3
-              (entry_at es (entry_at es (entry_at es 1).next).next) q.octets eq.1 eq.2 eq.3 q.entry q.encoded eq.4
+              g.octets identifier_bit identifier_contents identifier_header g.entry g.encoded identifier_encoding
               (omega arith);
+          signature = IsUniversal-entry x s (entry_at es (entry_at es 1).next).next q.depth 3
+              (entry_at es (entry_at es (entry_at es 1).next).next) q.octets signature_bit signature_contents
+              signature_header q.entry q.encoded signature_encoding (omega arith);
         }
 
 -- the entry of the second of three nodes has no items where nothing is inside it

@@ -12,8 +12,8 @@ use crate::header_record::header_record;
 use crate::putting::{all_put, not_enough, nothing_put, put_octets};
 use crate::record::{Block, Outcome};
 use crate::status::{NO_MEMORY, NO_SUCH_VALUE};
-use asn1_headers::front::read_header;
 use asn1_headers::header::identifier_at;
+use asn1_headers::whole_header::read_header;
 use simple_asn1::{ASN1DecodeErr, BigUint, HeaderCount, encoding_at};
 use std::alloc::{AllocError, Global};
 

@@ -5,7 +5,7 @@ ghost use Rattle.simple_asn1.specs.Places.{IsEncoding};
 ghost use Rattle.simple_asn1_c.specs.Records.{HasHeader};
 
 use crate::record::Block;
-use asn1_headers::front::read_header;
+use asn1_headers::whole_header::read_header;
 use asn1_outline::listing::capped;
 use simple_asn1::{ASN1Class, ASN1DecodeErr, HeaderCount, encode_class};
 use std::alloc::{AllocError, Global};

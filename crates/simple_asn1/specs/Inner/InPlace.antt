@@ -2,7 +2,7 @@
 use Rattle.std.specs.Prelude.{◌≡◌, ◌≢◌, ℕ, ◌+◌, ◌≤◌, ◌⊎◌, ◌++◌, Bool, true, false, List, length, take}
 use Rattle.asn1_headers.specs.declared.header.ASN1Class.{ASN1Class}
 use Rattle.asn1_headers.specs.declared.header.ASN1Class.TheVariants.{Universal}
-use Rattle.asn1_headers.specs.declared.front.Header.{Header}
+use Rattle.asn1_headers.specs.declared.whole_header.Header.{Header}
 use Rattle.asn1_headers.specs.Header.{shortest_identifier, shortest_length}
 use Rattle.asn1_blocks.specs.declared.block.GroupKind.{GroupKind}
 use Rattle.asn1_blocks.specs.declared.block.GroupKind.TheVariants.{Sequence, Set}

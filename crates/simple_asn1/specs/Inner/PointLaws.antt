@@ -18,7 +18,7 @@ pub point_read_back : (x y : Point) (bs rest : Trees ℕ) → shapes bs ≡ poin
     BeginsWithPoint bs y rest
     → (y ≡ x) × (rest ≡ no_trees)
 point_read_back x y no_trees rest e r = absurd r
-point_read_back x y (more_trees b no_trees) rest e r =
+point_read_back x y (more_trees b no_trees) rest e (is_point, _, _, none) =
     let f : shape b ≡ point_tree x = cc in
-    (point_tree-injective y x (sym r.0 ∙ f), r.3)
+    (point_tree-injective y x (sym is_point ∙ f), none)
 point_read_back x y (more_trees b (more_trees c cs)) rest e r = cc

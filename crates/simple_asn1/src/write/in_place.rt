@@ -8,11 +8,11 @@ ghost use Rattle.asn1_headers.specs.declared.header.ASN1Class.TheVariants.{Unive
 ghost use Rattle.asn1_headers.specs.declared.error.ASN1DecodeErr.TheVariants.{OutOfMemory};
 
 use asn1_headers::error::ASN1DecodeErr;
-use asn1_headers::front::{Header, read_header};
 use asn1_headers::header::{ASN1Class, HeaderCount, identifier_size, length_size};
 use asn1_headers::tags::{
     BIT_STRING, BOOLEAN, GENERALIZED_TIME, INTEGER, NULL, OBJECT_IDENTIFIER, SEQUENCE, SET,
 };
+use asn1_headers::whole_header::{Header, read_header};
 use asn1_leaves::contents::{bit_string, boolean, generalized_time, integer, object_identifier};
 use asn1_numbers::number::big_uint::BigUint;
 use smallvec::SmallVec;

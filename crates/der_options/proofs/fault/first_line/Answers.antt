@@ -21,12 +21,12 @@ IsOneLine-stripped line text (inl same) one = subst IsOneLine (sym same.0) one
 IsOneLine-stripped line text (inr e) one = (All-pop (λ b. b ≢ 10) line text (Some 13) e one).0
 
 IsOneLine-first_line : (text line rest : List ℕ) → IsFirstLine text line rest → IsOneLine line
-IsOneLine-first_line text line rest h =
-    let front : IsOneLine (take h.0 text) = IsOneLine-no_newline (take h.0 text) h.1 in
-    ⊎_elim (λ within. IsOneLine-stripped (take h.0 text) line (h.5 within) front)
-    (λ whole. let end : h.0 + length rest ≤ length text = h.3 in
-    subst IsOneLine (take_all h.0 text whole ∙ sym (h.4 (omega arith))) front)
-    (cases_lt h.0 (length text))
+IsOneLine-first_line text line rest (size, none, _, within, is_whole, is_stripped) =
+    let front : IsOneLine (take size text) = IsOneLine-no_newline (take size text) none in
+    ⊎_elim (λ less. IsOneLine-stripped (take size text) line (is_stripped less) front)
+    (λ whole. let end : size + length rest ≤ length text = within in
+    subst IsOneLine (take_all size text whole ∙ sym (is_whole (omega arith))) front)
+    (cases_lt size (length text))
 
 IsOneLine-unwrap_or :
     (s t : _) (line : Option (Bor (List ℕ))) (other : Bor (List ℕ)) → lines_steps s line t → IsOneLine other.now

@@ -1,9 +1,9 @@
--- For `front::short_header`: what it returns is right (`none`, `fault`, `found`).
+-- For `whole_header::short_header`: what it returns is right (`none`, `fault`, `found`).
 use Rattle.std.proofs.Common.{◌∷◌, [], inl, inr, refl, ap, length, take, arith, subst}
 use Rattle.std.proofs.lemmas.Result.{err_from_is_err_and}
 use Rattle.asn1_headers.specs.Header.{IsIdentifier}
 use Rattle.asn1_headers.proofs.FrontHeaders.{HeaderFault-no_identifier, IsIdentifier-take, IsIdentifier-low_tag, HasNoHeader-no_identifier}
-use Rattle.asn1_headers.proofs.front.short_header.Goals as goal
+use Rattle.asn1_headers.proofs.whole_header.short_header.Goals as goal
 
 pub returns-in_err-tag-clause-none : goal.returns-in_err-tag-clause-none
 returns-in_err-tag-clause-none c =

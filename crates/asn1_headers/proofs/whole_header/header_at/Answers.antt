@@ -1,4 +1,4 @@
--- For `front::header_at`: what it returns is right (`none`, `fault`, `found`, `form`).
+-- For `whole_header::header_at`: what it returns is right (`none`, `fault`, `found`, `form`).
 use Rattle.std.proofs.Common.{◌∙◌, inl, inr, take, drop, sym, arith}
 use Rattle.std.proofs.Math.Seq.{take-add}
 use Rattle.std.proofs.lemmas.List.{take-append-drop}
@@ -6,8 +6,8 @@ use Rattle.std.proofs.lemmas.Result.{err_from_is_err_and}
 use Rattle.asn1_headers.specs.Fault.{fault_of}
 use Rattle.asn1_headers.proofs.FrontHeaders.{HeaderFault-no_identifier, IsIdentifier-take, HeaderFault-no_length, HasNoHeader-no_identifier, HasNoHeader-no_length}
 use Rattle.asn1_headers.proofs.IndefiniteForms.{HasIndefiniteForm-iff_80, HasIndefiniteForm-not_primitive}
-use Rattle.asn1_headers.proofs.front.header_at.Goals as goal
-use Rattle.asn1_headers.proofs.front.header_at.Goals.{then-constructed, else-constructed}
+use Rattle.asn1_headers.proofs.whole_header.header_at.Goals as goal
+use Rattle.asn1_headers.proofs.whole_header.header_at.Goals.{then-constructed, else-constructed}
 
 pub returns-in_err-tag-clause-none : goal.returns-in_err-tag-clause-none
 returns-in_err-tag-clause-none c =

@@ -1,4 +1,4 @@
-// The header at the front of octets.
+// The whole header at the front of octets, as one value.
 ghost use Rattle.std.specs.Prelude.{◌≡◌, ◌↔◌, ◌+◌, ◌%◌, ◌<◌, ◌^◌, ◌⊎◌, ◌∷◌, List, ℕ, IfErr, IfOk, IsTrue};
 ghost use Rattle.asn1_headers.specs.declared.error.ASN1DecodeErr.TheVariants.{OutOfMemory};
 ghost use Rattle.asn1_headers.specs.Fault.{OutOfMemoryOr};
