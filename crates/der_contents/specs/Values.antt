@@ -64,7 +64,7 @@ abbrev pub IsMomentOf : ASN1Class → ℕ → List ℕ → List ℕ → Type 0
 IsMomentOf class tag contents shown =
     ((m : Moment) × IsLeaf class tag contents (utc_time m) × IsMomentText m [] shown)
     ⊎ ((m : Moment) × IsLeaf class tag contents (generalized_time m)
-    × ((digits : List ℕ) × AreFractionOf contents digits × IsMomentText m digits words))
+    × ((digits : List ℕ) × AreFractionOf contents digits × IsMomentText m digits shown))
 
 -- contents octets with the class and the tag, in which nothing is wrong, have the value
 abbrev pub IsValue : ASN1Class → ℕ → List ℕ → LeafValue → Type 0
