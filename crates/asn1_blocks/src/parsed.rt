@@ -5,8 +5,8 @@ ghost use Rattle.asn1_headers.specs.HeaderFault.{HeaderFault};
 ghost use Rattle.asn1_blocks.specs.Places.{HeaderFound};
 
 use asn1_headers::error::ASN1DecodeErr;
-use asn1_headers::whole_header::{Header, read_header};
 use asn1_headers::header::{ASN1Class, HeaderCount};
+use asn1_headers::whole_header::{Header, read_header};
 use asn1_numbers::number::big_uint::BigUint;
 use std::alloc::Global;
 

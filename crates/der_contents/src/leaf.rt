@@ -14,13 +14,13 @@ use crate::value::{
 use asn1_blocks::contents::check_contents;
 use asn1_blocks::parsed::PlacedHeader;
 use asn1_headers::error::ASN1DecodeErr;
-use asn1_headers::whole_header::Header;
 use asn1_headers::header::ASN1Class;
 use asn1_headers::tags::{
     BIT_STRING, BMP_STRING, BOOLEAN, ENUMERATED, GENERALIZED_TIME, IA5_STRING, INTEGER, NULL,
     OBJECT_IDENTIFIER, OCTET_STRING, PRINTABLE_STRING, TELETEX_STRING, UNIVERSAL_STRING, UTC_TIME,
     UTF8_STRING,
 };
+use asn1_headers::whole_header::Header;
 use asn1_leaves::contents::text::TextForm;
 use asn1_leaves::contents::{bit_string, boolean, generalized_time, integer, text, utc_time};
 use asn1_leaves::oid;

@@ -3,8 +3,8 @@ ghost use Rattle.std.specs.Prelude.{◌≡◌, ◌++◌, IfOk, OnOk, is_some, op
 ghost use Rattle.der_lines.specs.ValueText.{bits_octets, bits_text, colon_text, constructed_text, identifier_text, integer_text, joined_text, number_octets, octets_text, opened_text, parenthesized_if, spaced, spaced_if, tagged_text, unused_text, value_text};
 ghost use Rattle.der_contents.specs.Scalars.{quoted};
 
-use asn1_headers::whole_header::Header;
 use asn1_headers::tags::{CHARACTER_STRING, EMBEDDED_PDV, EXTERNAL, SEQUENCE, SET};
+use asn1_headers::whole_header::Header;
 use asn1_numbers::number::big_int::BigInt;
 use der_contents::scalars::{LEAST_HEX, write_after_space, write_as, write_hex, write_quoted};
 use der_contents::value::{Bits, Identifier, LeafValue, TaggedValue};
