@@ -1,7 +1,3 @@
 mod Decoded
 mod LineFronts
-mod Numbers
-mod Pairs
-mod Parts
-mod Times
 mod Utf8

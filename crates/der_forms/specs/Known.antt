@@ -10,11 +10,13 @@ use Rattle.base64.specs.declared.decode.DecodeError.{DecodeError}
 use Rattle.hex.specs.Hex.{decode_of as decode_hex}
 use Rattle.hex.specs.declared.error.FromHexError.{FromHexError}
 use Rattle.der_io.specs.Lines.{lines_of}
-use Rattle.der_forms.specs.Columns.{placed_digits, some_left_out}
+use Rattle.der_digits.specs.Columns.{placed_digits, some_left_out}
 use Rattle.der_forms.specs.Forms.{InputForm, objects, odd_digits, other_text, plain_octets, spelled}
-use Rattle.der_forms.specs.Forms.{all_of_some, begins, digits_of, has_columns, has_object, without_mark, without_spaces}
-use Rattle.der_forms.specs.Forms.{has_other_columns, is_printed}
-use Rattle.der_forms.specs.Sources.{source_digits}
+use Rattle.der_digits.specs.Words.{all_of_some, begins}
+use Rattle.der_digits.specs.Digits.{digits_of, has_columns, has_other_columns}
+use Rattle.der_forms.specs.Forms.{has_object, without_mark, without_spaces}
+use Rattle.der_forms.specs.Forms.{is_printed}
+use Rattle.der_digits.specs.Sources.{source_digits}
 
 abbrev pub of_hex_digits : Result (List ℕ) FromHexError → InputForm
 of_hex_digits (Ok octets) = spelled octets

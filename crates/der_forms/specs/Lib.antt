@@ -1,8 +1,6 @@
-pub mod Columns
 pub mod Decoded
 pub mod Forms
 pub mod Known
 pub mod Objects
 pub mod Shown
-pub mod Sources
 pub mod Texts

@@ -10,8 +10,9 @@ use Rattle.base64.specs.GeneralPurpose.{decode_of as decode_base64}
 use Rattle.der_forms.specs.declared.objects.Ending.{Ending}
 use Rattle.der_forms.specs.declared.objects.Ending.TheVariants.{Closed, Joined, Missing, OtherLabel}
 use Rattle.der_io.specs.Lines.{lines_of}
-use Rattle.der_forms.specs.Forms.{InputForm, begins, begins_object, has_words, without_indent, without_mark, without_spaces}
-use Rattle.der_forms.specs.Forms.{objects, odd_digits, other_text, plain_octets, spelled, up_to}
+use Rattle.der_forms.specs.Forms.{InputForm, begins_object, without_mark, without_spaces}
+use Rattle.der_digits.specs.Words.{begins, has_words, up_to, without_indent}
+use Rattle.der_forms.specs.Forms.{objects, odd_digits, other_text, plain_octets, spelled}
 use Rattle.der_forms.specs.Known.{form_is}
 use Rattle.der_forms.specs.Texts.{text_of}
 use Rattle.der_io.specs.Characters.{colon}

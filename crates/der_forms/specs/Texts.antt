@@ -4,7 +4,9 @@ use Rattle.std.specs.Prelude.{codes}
 use Rattle.std.specs.Char.{is_ascii_whitespace}
 use Rattle.std.specs.Char.Utf16.{utf16_lossy_chars}
 use Rattle.std.specs.Str.{encode_utf8_all}
-use Rattle.der_forms.specs.Forms.{all_of_some, begins, has_columns, has_words, is_text_octet, without_mark}
+use Rattle.der_digits.specs.Words.{all_of_some, begins, begins_by, has_words}
+use Rattle.der_digits.specs.Digits.{has_columns}
+use Rattle.der_forms.specs.Forms.{is_text_octet, without_mark}
 use Rattle.der_forms.specs.declared.breaks.Place.{Place}
 use Rattle.der_forms.specs.declared.breaks.Place.TheVariants.{Blank, Words, Opening, Label, Ended}
 use Rattle.der_io.specs.Characters.{carriage_return, hyphen, line_feed, space}
@@ -49,11 +51,6 @@ begins_begin text = begins (codes "-----BEGIN ") text
 
 abbrev pub begins_end : List ℕ → Bool
 begins_end text = begins (codes "-----END ") text
-
--- the text begins with an octet that passes the test
-abbrev pub begins_by : (ℕ → Bool) → List ℕ → Bool
-begins_by test [] = false
-begins_by test (b ∷ text) = test b
 
 -- white space or a hyphen, which may stand behind the label of an object in its line
 abbrev pub is_filler : ℕ → Bool

@@ -3,7 +3,8 @@ ghost use Rattle.std.specs.Prelude.{◌≡◌, ◌⊎◌, IfOk, IfErr, None, Som
 ghost use Rattle.base64.specs.GeneralPurpose.{decode_of as decode_base64};
 ghost use Rattle.base64.specs.Engines.{standard, url_safe_pad_indifferent};
 ghost use Rattle.std.specs.Result.{result_ok};
-ghost use Rattle.der_forms.specs.Forms.{all_of_some, is_printed, other_text, without_spaces};
+ghost use Rattle.der_digits.specs.Words.{all_of_some};
+ghost use Rattle.der_forms.specs.Forms.{is_printed, other_text, without_spaces};
 ghost use Rattle.der_forms.specs.Known.{are_words, fits_one, fits_three, fits_two, form_is, form_of_text, if_sequence, of_hex_digits};
 ghost use Rattle.hex.specs.Hex.{decode_of as decode_hex};
 ghost use Rattle.der_forms.specs.Known.{is_in_words, is_sequence, length_fits, of_base64, of_loose_base64, of_symbols};
@@ -15,7 +16,8 @@ use crate::lines::{Lines, is_pem, without_mark};
 use crate::objects::{PemFault, fault_of_end, next_object};
 use crate::text::text_of;
 use crate::unknown::{form_left_out, form_unknown};
-use crate::{base64_text, decoder, hex_decoder, hex_text, left_out, source_text};
+use crate::{base64_text, decoder};
+use der_digits::{hex_decoder, hex_text, left_out, source_text};
 use std::alloc::{AllocError, Global};
 use thiserror::Error;
 

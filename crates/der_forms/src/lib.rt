@@ -8,13 +8,9 @@
 mod base64_text;
 mod breaks;
 mod decoder;
-mod hex_decoder;
-mod hex_text;
 mod input;
-mod left_out;
 mod lines;
 mod objects;
-mod source_text;
 mod text;
 mod unknown;
 

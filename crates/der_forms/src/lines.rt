@@ -1,10 +1,12 @@
 // Lines of an input, and which of them begin and end objects.
 ghost use Rattle.std.specs.Prelude.{◌≡◌, MatchOption, codes, false, true};
 ghost use Rattle.std.specs.List.{list_all};
-ghost use Rattle.der_forms.specs.Forms.{begins, begins_object, has_object, has_words, is_text_octet, up_to, without_indent, without_mark};
+ghost use Rattle.der_digits.specs.Words.{begins, without_indent};
+ghost use Rattle.der_forms.specs.Forms.{begins_object, has_object, is_text_octet, without_mark};
 ghost use Rattle.der_forms.specs.Objects.{end_label_in, ends_object, label_in};
 ghost use Rattle.der_io.specs.Lines.{lines_of};
 
+use der_digits::words::{part_before, without_indent};
 use der_io::split_line;
 
 // How many characters `-----END ` has.
@@ -40,12 +42,6 @@ pub fn without_mark(input: &[u8]) -> &[u8]
     } else {
         input
     }
-}
-
-pub fn without_indent(line: &[u8]) -> &[u8]
-    ensures { result.now ≡ without_indent line.now }
-{
-    line.trim_ascii_start()
 }
 
 // PEM has a line that begins an object, and above it nothing but lines of text.
@@ -107,27 +103,6 @@ pub fn end_label_of(line: &[u8]) -> &[u8]
     let text = without_indent(line);
     let (_, after) = text.split_at(text.len().min(END_MARK));
     part_before(b"-----", after)
-}
-
-// Whether the words stand in the text.
-pub fn has_words(words: &[u8], text: &[u8]) -> bool
-    ensures { result ≡ has_words words.now text.now }
-{
-    part_before(words, text).len() < text.len()
-}
-
-// What stands before the words.
-pub fn part_before<'a>(words: &[u8], text: &'a [u8]) -> &'a [u8]
-    ensures { result.now ≡ up_to words.now text.now }
-{
-    let mut end = 0;
-    while end < text.len() {
-        if text[end..].starts_with(words) {
-            return &text[..end];
-        }
-        end += 1;
-    }
-    text
 }
 
 pub fn is_text(line: &[u8]) -> bool

@@ -11,10 +11,9 @@ ghost use Rattle.der_forms.specs.declared.objects.Ending.TheVariants.{Closed};
 ghost use Rattle.der_io.specs.Lines.{lines_of};
 
 use crate::decoder::Decoder;
-use crate::lines::{
-    Lines, end_label_of, has_words, is_end, label_of, part_before, tells_encryption,
-};
+use crate::lines::{Lines, end_label_of, is_end, label_of, tells_encryption};
 use base64::DecodeError;
+use der_digits::words::{has_words, part_before};
 use der_io::split_line;
 use std::alloc::{AllocError, Global};
 

@@ -5,8 +5,9 @@ ghost use Rattle.der_forms.specs.Texts.{has_begin, if_text as if_text_is, in_utf
 ghost use Rattle.der_forms.specs.Texts.{text_of as text_is, units_of};
 
 use crate::breaks::{unfolded, with_breaks};
-use crate::hex_text::is_in_columns;
-use crate::lines::{has_words, is_text};
+use crate::lines::is_text;
+use der_digits::hex_text::is_in_columns;
+use der_digits::words::has_words;
 use std::alloc::{AllocError, Global};
 
 /// What is read of an input: its octets, or where it is text in UTF-16 behind a byte order mark, this text in UTF-8. In

@@ -3,10 +3,10 @@ ghost use Rattle.std.specs.Prelude.{◌≡◌};
 ghost use Rattle.der_forms.specs.Forms.{other_text};
 ghost use Rattle.der_forms.specs.Shown.{shown};
 
-use crate::hex_text::{begins_prefix, digits_column, is_in_columns, may_separate};
 use crate::input::Form;
-use crate::left_out::leaves_out;
-use crate::lines::has_words;
+use der_digits::hex_text::{begins_prefix, digits_column, is_in_columns, may_separate};
+use der_digits::left_out::leaves_out;
+use der_digits::words::has_words;
 use der_io::split_line;
 
 // Text, with the first line that is in no form.

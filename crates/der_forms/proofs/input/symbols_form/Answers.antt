@@ -2,8 +2,8 @@
 use Rattle.std.proofs.Common.{◌≡◌, Ok, arith, length, refl}
 use Rattle.std.proofs.lemmas.Bool.Decides.{nat_tests}
 use Rattle.hex.specs.Hex.{decode_of}
-use Rattle.der_forms.proofs.Pairs.{all_of_some-decoded}
-use Rattle.der_forms.specs.Forms.{digits_of, has_columns}
+use Rattle.der_digits.proofs.SpelledDigits.{all_of_some-decoded}
+use Rattle.der_digits.specs.Digits.{digits_of, has_columns}
 use Rattle.der_io.specs.Lines.{lines_of}
 use Rattle.der_forms.proofs.input.symbols_form.Goals as goal
 

@@ -1,0 +1,5 @@
+mod Numbers
+mod Pairs
+mod Parts
+pub mod SpelledDigits
+mod Times

@@ -1,0 +1,34 @@
+-- What stands before words in a text, and behind them, for `lines` and `source_text`.
+use Rattle.std.proofs.Common.{◌≡◌, ◌+◌, ◌-◌, ◌<◌, ◌≤◌, ℕ, suc, Bool, true, false, List, [], ◌∷◌, drop, take, length, sym, ap, ◌∙◌, refl, arith}
+use Rattle.std.specs.Prelude.{codes}
+use Rattle.std.proofs.lemmas.Bool.{lt-ltb}
+use Rattle.std.proofs.lemmas.List.{take_all, length-drop}
+use Rattle.der_digits.specs.Words.{begins, up_to}
+use Rattle.der_digits.specs.Sources.{behind_equals}
+
+length-up_to_cons : (words : List ℕ) (b : ℕ) (text : List ℕ) (q : Bool) → begins words (b ∷ text) ≡ q
+    → length (up_to words text) ≤ length text → length (up_to words (b ∷ text)) ≤ suc (length text)
+length-up_to_cons words b text true e h =
+    let none : length (up_to words (b ∷ text)) ≡ 0 = rw e refl in
+    omega (arith, none)
+length-up_to_cons words b text false e h =
+    let same : length (up_to words (b ∷ text)) ≡ suc (length (up_to words text)) = rw e refl in
+    omega (arith, same, h)
+
+-- what stands before words is no longer than the text
+pub length-up_to-le : (words text : List ℕ) → length (up_to words text) ≤ length text
+length-up_to-le words [] = omega arith
+length-up_to-le words (b ∷ text) =
+    length-up_to_cons words b text (begins words (b ∷ text)) refl (length-up_to-le words text)
+
+-- where `=` stands, so much stands behind it
+pub behind_equals-some : (text part : List ℕ) → part ≡ up_to (codes "=") text → length part < length text
+    → take (length text - (length part + 1)) (drop (length part + 1) text) ≡ behind_equals text
+behind_equals-some text part e h =
+    let n : length part + 1 ≡ suc (length (up_to (codes "=") text)) = omega (arith, ap length e) in
+    let stands = lt-ltb (length (up_to (codes "=") text)) (length text) (omega (arith, h, ap length e)) in
+    let whole : behind_equals text ≡ drop (suc (length (up_to (codes "=") text))) text = rw stands refl in
+    take_all (length text - (length part + 1)) (drop (length part + 1) text)
+    (omega (arith, length-drop (length part + 1) text))
+    ∙ ap (λ m. drop m text) n
+    ∙ sym whole

@@ -1,0 +1,31 @@
+-- Words in a text: how it begins, and what stands before them.
+use Rattle.std.specs.Prelude.{ℕ, Bool, false, ◌==◌, nat_lt, List, [], ◌∷◌, drop, if◌then◌else◌, length}
+use Rattle.std.specs.Char.{is_ascii_whitespace}
+use Rattle.std.specs.List.{list_all, prefix_len, starts_with}
+
+-- the text begins so
+abbrev pub begins : List ℕ → List ℕ → Bool
+begins words text = starts_with (λ a b. a == b) text words
+
+-- the text begins with an octet that passes the test
+abbrev pub begins_by : (ℕ → Bool) → List ℕ → Bool
+begins_by test [] = false
+begins_by test (b ∷ text) = test b
+
+-- there is an octet, and each passes the test
+abbrev pub all_of_some : (ℕ → Bool) → List ℕ → Bool
+all_of_some test [] = false
+all_of_some test (b ∷ octets) = list_all test (b ∷ octets)
+
+-- the line without the white space at its front
+abbrev pub without_indent : List ℕ → List ℕ
+without_indent line = drop (prefix_len is_ascii_whitespace line) line
+
+-- what stands before these words, or all where they do not stand there
+abbrev pub up_to : List ℕ → List ℕ → List ℕ
+up_to words [] = []
+up_to words (b ∷ text) = if begins words (b ∷ text) then [] else b ∷ up_to words text
+
+-- the words stand in the text
+abbrev pub has_words : List ℕ → List ℕ → Bool
+has_words words text = nat_lt (length (up_to words text)) (length text)

@@ -1,0 +1,237 @@
+// Text in hex digits.
+ghost use Rattle.std.specs.Prelude.{◌≡◌, ◌++◌, ◌==◌, ◌∷◌, ◌<◌, [], length, IfOk, MatchOption, None, Ok, OnOk, drop};
+ghost use Rattle.std.specs.Char.{is_ascii_hexdigit};
+ghost use Rattle.std.specs.List.{list_all};
+ghost use Rattle.std.specs.Result.{result_ok};
+ghost use Rattle.hex.specs.Hex.{decode_of};
+ghost use Rattle.der_digits.specs.Words.{all_of_some};
+ghost use Rattle.der_digits.specs.Digits.{begins_prefix, begins_space, column_behind, column_of, digits_of, has_bits, has_columns, has_hex_offsets, has_octets, has_other_columns, is_binary, is_separator, offset_of, without_separators};
+ghost use Rattle.der_io.specs.Lines.{lines_of};
+
+use crate::words::part_before;
+use der_io::split_line;
+use hex::FromHexError;
+use std::alloc::{AllocError, Global};
+
+// Where the first pair of digits ends in what `od -t x1` and `od -A x -t x1` print.
+const OCTAL_PAIR_END: usize = 10;
+
+const HEX_PAIR_END: usize = 9;
+
+// Where the first eight bits stand in what `xxd -b` prints.
+const BITS_START: usize = 10;
+
+const BITS_END: usize = 18;
+
+// How many digits an offset has at least.
+const LEAST_OFFSET: usize = 6;
+
+/// What may be the digits of a text.
+pub fn digits_in(alloc: Global, text: &[u8]) -> Result<Vec<u8>, AllocError>
+    ensures { IfOk result (λ digits. digits.items ≡ digits_of (has_columns text.now) (lines_of text.now)) }
+{
+    let in_columns = is_in_columns(text);
+    let mut digits = Vec::new(alloc);
+    let mut rest = text;
+    while !rest.is_empty() {
+        let (line, after) = split_line(rest);
+        if in_columns {
+            push_digits(digits_column(line), &mut digits)?;
+        } else {
+            push_digits(line, &mut digits)?;
+        }
+        rest = after;
+    }
+    Ok(digits)
+}
+
+/// Whether the text comes in columns, with an offset before the digits.
+pub fn is_in_columns(text: &[u8]) -> bool
+    ensures { result ≡ has_columns text.now }
+{
+    text.starts_with(b"00000000: ")
+        || (text.starts_with(b"00000000  ") && text.contains(&b'|'))
+        || has_octets(text)
+        || has_hex_offsets(text)
+}
+
+// Whether the text comes in columns as `od -t x1` prints them.
+pub(crate) fn has_octets(text: &[u8]) -> bool
+    ensures { result ≡ has_octets text.now }
+{
+    text.starts_with(b"0000000 ") && begins_space(behind(OCTAL_PAIR_END, text))
+}
+
+// Whether the text comes in columns as `od -A x -t x1` prints them.
+fn has_hex_offsets(text: &[u8]) -> bool
+    ensures { result ≡ has_hex_offsets text.now }
+{
+    text.starts_with(b"000000 ") && begins_space(behind(HEX_PAIR_END, text))
+}
+
+// What stands behind so many characters.
+fn behind(count: usize, text: &[u8]) -> &[u8]
+    ensures { result.now ≡ drop count text.now }
+{
+    let (_, after) = text.split_at(text.len().min(count));
+    after
+}
+
+// Whether the text comes in columns of bits, as `xxd -b` prints them.
+fn has_bits(text: &[u8]) -> bool
+    ensures { result ≡ has_bits text.now }
+{
+    text.starts_with(b"00000000: ")
+        && text.len() >= BITS_END
+        && are_all_binary(&text[BITS_START..BITS_END])
+        && begins_space(&text[BITS_END..])
+}
+
+fn are_all_binary(text: &[u8]) -> bool
+    ensures { result ≡ list_all is_binary text.now }
+{
+    for b in text {
+        if !is_binary(*b) {
+            return false;
+        }
+    }
+    true
+}
+
+fn is_binary(b: u8) -> bool
+    ensures { result ≡ is_binary b }
+{
+    b == b'0' || b == b'1'
+}
+
+/// Whether the text comes in columns of another kind, as `hexdump` and `od` print them by default, and `xxd -b`.
+pub fn has_other_columns(text: &[u8]) -> bool
+    ensures { result ≡ has_other_columns text.now }
+{
+    (text.starts_with(b"0000000 ") && !has_octets(text))
+        || (text.starts_with(b"000000 ") && !has_hex_offsets(text))
+        || has_bits(text)
+}
+
+fn begins_space(text: &[u8]) -> bool
+    ensures { result ≡ begins_space text.now }
+{
+    match text.first() {
+        Some(b) => b.is_ascii_whitespace(),
+        None => true,
+    }
+}
+
+// The offset in a line: the hex digits at its front.
+pub(crate) fn offset_of(line: &[u8]) -> &[u8]
+    ensures { result.now ≡ offset_of line.now }
+{
+    let mut rest = line;
+    while !rest.is_empty() {
+        if !rest[0].is_ascii_hexdigit() {
+            return &line[..line.len() - rest.len()];
+        }
+        rest = &rest[1..];
+    }
+    line
+}
+
+/// The column of digits in a line.
+pub fn digits_column(line: &[u8]) -> &[u8]
+    ensures { result.now ≡ column_of line.now }
+{
+    let size = offset_of(line).len();
+    if size >= LEAST_OFFSET {
+        column_behind(behind(size, line))
+    } else {
+        line
+    }
+}
+
+// The column of digits behind an offset.
+fn column_behind(text: &[u8]) -> &[u8]
+    ensures { result.now ≡ column_behind text.now }
+{
+    if text.starts_with(b":") {
+        part_before(b"  ", &text[1..])
+    } else {
+        part_before(b"|", part_before(b">", text))
+    }
+}
+
+// Puts what is left of the text without its separators.
+pub(crate) fn push_digits(text: &[u8], digits: &mut Vec<u8>) -> Result<(), AllocError>
+    ensures { OnOk result (digits.new.items ≡ digits.old.items ++ without_separators text.now) }
+{
+    let mut rest = text;
+    while let Some((symbol, after)) = next_symbol(rest) {
+        digits.push(symbol)?;
+        rest = after;
+    }
+    Ok(())
+}
+
+// The first symbol of a text without its separators, and the text behind it.
+pub(crate) fn next_symbol(text: &[u8]) -> Option<(u8, &[u8])>
+    ensures { MatchOption result (without_separators text.now ≡ [])
+        (λ next. (without_separators text.now ≡ next.0 ∷ without_separators next.1.now)
+        × (length next.1.now < length text.now)) }
+{
+    let mut rest = text;
+    while !rest.is_empty() {
+        if begins_prefix(rest) {
+            rest = &rest[2..];
+        } else {
+            let symbol = rest[0];
+            rest = &rest[1..];
+            if !may_separate(symbol) {
+                return Some((symbol, rest));
+            }
+        }
+    }
+    None
+}
+
+/// Whether the text begins with what may stand before two digits.
+pub fn begins_prefix(text: &[u8]) -> bool
+    ensures { result ≡ begins_prefix text.now }
+{
+    text.starts_with(b"0x") || text.starts_with(b"\\x")
+}
+
+/// Whether the octet may stand between digits.
+pub fn may_separate(b: u8) -> bool
+    ensures { result ≡ is_separator b }
+{
+    b.is_ascii_whitespace() || b == b':' || b == b',' || b == b'-' || b == b'{' || b == b'}'
+}
+
+/// Whether there is a digit, and nothing else.
+pub fn are_digits(symbols: &[u8]) -> bool
+    ensures { result ≡ all_of_some is_ascii_hexdigit symbols.now }
+{
+    !symbols.is_empty() && are_all_digits(symbols)
+}
+
+fn are_all_digits(symbols: &[u8]) -> bool
+    ensures { result ≡ list_all is_ascii_hexdigit symbols.now }
+{
+    for b in symbols {
+        if !b.is_ascii_hexdigit() {
+            return false;
+        }
+    }
+    true
+}
+
+/// The octets that the digits spell, if their number is even.
+pub fn decode(alloc: Global, digits: &[u8]) -> Result<Option<Vec<u8>>, AllocError>
+    ensures { IfOk result (λ octets. MatchOption octets
+        (result_ok (decode_of digits.now) ≡ None) (λ v. decode_of digits.now ≡ Ok v.items)) }
+{
+    match hex::decode(alloc, digits) {
+        Ok(octets) => Ok(Some(octets)),
+        Err(FromHexError::OutOfMemory) => Err(AllocError),
+        Err(_) => Ok(None),
+    }
+}
