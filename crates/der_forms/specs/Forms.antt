@@ -6,17 +6,17 @@ use Rattle.der_digits.specs.Words.{begins, without_indent}
 use Rattle.der_io.specs.Characters.{space, tilde}
 
 -- what an input is
-pub data InputForm : Type 0 where
+pub data InputKind : Type 0 where
   -- objects of PEM (RFC 7468)
-  objects : InputForm
+  objects : InputKind
   -- text that spells octets, in hex digits or in base 64
-  spelled : List ℕ → InputForm
+  spelled : List ℕ → InputKind
   -- hex digits, of which one is left over
-  odd_digits : InputForm
+  odd_digits : InputKind
   -- any other text
-  other_text : InputForm
+  other_text : InputKind
   -- the octets of a document, as they are
-  plain_octets : InputForm
+  plain_octets : InputKind
 
 -- the input without the byte order mark of UTF-8 at its front
 abbrev pub without_mark : List ℕ → List ℕ

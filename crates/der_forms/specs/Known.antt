@@ -11,14 +11,14 @@ use Rattle.hex.specs.Hex.{decode_of as decode_hex}
 use Rattle.hex.specs.declared.error.FromHexError.{FromHexError}
 use Rattle.der_io.specs.Lines.{lines_of}
 use Rattle.der_digits.specs.Columns.{placed_digits, some_left_out}
-use Rattle.der_forms.specs.Forms.{InputForm, objects, odd_digits, other_text, plain_octets, spelled}
+use Rattle.der_forms.specs.Forms.{InputKind, objects, odd_digits, other_text, plain_octets, spelled}
 use Rattle.der_digits.specs.Words.{all_of_some, begins}
 use Rattle.der_digits.specs.Digits.{digits_of, has_columns, has_other_columns}
 use Rattle.der_forms.specs.Forms.{has_object, without_mark, without_spaces}
 use Rattle.der_forms.specs.Forms.{is_printed}
 use Rattle.der_digits.specs.Sources.{source_digits}
 
-abbrev pub of_hex_digits : Result (List ℕ) FromHexError → InputForm
+abbrev pub of_hex_digits : Result (List ℕ) FromHexError → InputKind
 of_hex_digits (Ok octets) = spelled octets
 of_hex_digits (Err e) = odd_digits
 
@@ -52,37 +52,37 @@ length_fits (n ∷ rest) =
 abbrev pub is_sequence : List ℕ → Bool
 is_sequence octets = begins (48 ∷ []) octets && length_fits (drop 1 octets)
 
-abbrev pub if_sequence : Option (List ℕ) → InputForm → InputForm
+abbrev pub if_sequence : Option (List ℕ) → InputKind → InputKind
 if_sequence None form = form
 if_sequence (Some octets) form = if is_sequence octets then spelled octets else form
 
 -- base 64 without its padding, or with `-` and `_` for `+` and `/` (RFC 4648, section 5), is told from words by its
 -- octets, which are one SEQUENCE
-abbrev pub of_loose_base64 : List ℕ → InputForm
+abbrev pub of_loose_base64 : List ℕ → InputKind
 of_loose_base64 symbols =
     if_sequence (result_ok (decode_base64 standard_pad_indifferent symbols))
     (if_sequence (result_ok (decode_base64 url_safe_pad_indifferent symbols)) other_text)
 
 -- base 64 with its padding is told from words by its first octet, that of a SEQUENCE
-abbrev pub of_base64 : Result (List ℕ) DecodeError → List ℕ → InputForm
+abbrev pub of_base64 : Result (List ℕ) DecodeError → List ℕ → InputKind
 of_base64 (Ok octets) symbols = if begins (48 ∷ []) octets then spelled octets else other_text
 of_base64 (Err e) symbols = of_loose_base64 symbols
 
 -- the digits that a form has, if it has some
-abbrev pub if_digits : Option (List ℕ) → InputForm → InputForm
+abbrev pub if_digits : Option (List ℕ) → InputKind → InputKind
 if_digits None form = form
 if_digits (Some digits) form =
     if all_of_some is_ascii_hexdigit digits then of_hex_digits (decode_hex digits) else form
 
 -- hex digits with separators between them; or a source; or else it may be base 64
-abbrev pub of_symbols : List ℕ → InputForm
+abbrev pub of_symbols : List ℕ → InputKind
 of_symbols text =
     if_digits (Some (digits_of (has_columns text) (lines_of text)))
     (if_digits (source_digits text)
     (of_base64 (decode_base64 standard (without_spaces text)) (without_spaces text)))
 
 -- columns with lines left out agree with their offsets
-abbrev pub form_of_text : List ℕ → InputForm
+abbrev pub form_of_text : List ℕ → InputKind
 form_of_text text =
     if has_other_columns text then other_text
     else if has_columns text && some_left_out (lines_of text) then if_digits (placed_digits text) other_text
@@ -97,12 +97,12 @@ is_in_words b = nat_le 128 b || (is_printed b && not (b == 12))
 abbrev pub are_words : List ℕ → Bool
 are_words octets = all_of_some is_in_words octets && is_utf8 octets
 
-abbrev pub form_behind_mark : List ℕ → InputForm
+abbrev pub form_behind_mark : List ℕ → InputKind
 form_behind_mark text =
     if has_object (lines_of text) then objects
     else if all_of_some is_printed text then form_of_text text
     else if are_words text then other_text else plain_octets
 
 -- the form of an input
-abbrev pub form_is : List ℕ → InputForm
+abbrev pub form_is : List ℕ → InputKind
 form_is input = form_behind_mark (without_mark input)

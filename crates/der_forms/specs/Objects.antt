@@ -10,7 +10,7 @@ use Rattle.base64.specs.GeneralPurpose.{decode_of as decode_base64}
 use Rattle.der_forms.specs.declared.objects.Ending.{Ending}
 use Rattle.der_forms.specs.declared.objects.Ending.TheVariants.{Closed, Joined, Missing, OtherLabel}
 use Rattle.der_io.specs.Lines.{lines_of}
-use Rattle.der_forms.specs.Forms.{InputForm, begins_object, without_mark, without_spaces}
+use Rattle.der_forms.specs.Forms.{InputKind, begins_object, without_mark, without_spaces}
 use Rattle.der_digits.specs.Words.{begins, has_words, up_to, without_indent}
 use Rattle.der_forms.specs.Forms.{objects, odd_digits, other_text, plain_octets, spelled}
 use Rattle.der_forms.specs.Known.{form_is}
@@ -113,7 +113,7 @@ abbrev pub first_of : List Object → Option (List ℕ)
 first_of [] = None
 first_of (object ∷ later) = if_closed object.ending object.octets
 
-abbrev pub document_in : InputForm → List ℕ → Option (List ℕ)
+abbrev pub document_in : InputKind → List ℕ → Option (List ℕ)
 document_in objects input = first_of (objects_of input)
 document_in (spelled octets) input = Some octets
 document_in odd_digits input = None

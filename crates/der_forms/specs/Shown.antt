@@ -1,13 +1,13 @@
 -- What a form is, and an object, as values of the definitions.
 use Rattle.std.specs.Option.{option_map}
 use Rattle.std.specs.Result.{result_ok}
-use Rattle.der_forms.specs.Forms.{InputForm, objects, odd_digits, other_text, plain_octets, spelled}
+use Rattle.der_forms.specs.Forms.{InputKind, objects, odd_digits, other_text, plain_octets, spelled}
 use Rattle.der_forms.specs.Objects.{Object}
-use Rattle.der_forms.specs.declared.input.Form.{Form}
-use Rattle.der_forms.specs.declared.input.Form.TheVariants.{Pem, Spelled, OddDigits, OtherColumns, LeftOut, Text, Der}
+use Rattle.der_forms.specs.declared.input.InputForm.{InputForm}
+use Rattle.der_forms.specs.declared.input.InputForm.TheVariants.{Pem, Spelled, OddDigits, OtherColumns, LeftOut, Text, Der}
 use Rattle.der_forms.specs.declared.objects.PemObject.{PemObject}
 
-abbrev pub shown : Form → InputForm
+abbrev pub shown : InputForm → InputKind
 shown Pem = objects
 shown (Spelled octets) = spelled octets.items
 shown OddDigits = odd_digits

@@ -23,7 +23,7 @@ use thiserror::Error;
 
 /// What an input is.
 #[derive(Debug, Drop, PartialEq)]
-pub enum Form {
+pub enum InputForm {
     /// Objects of PEM, which [`next_object`] takes.
     Pem,
     /// Text that spells these octets, in hex digits or in base64.
@@ -43,26 +43,26 @@ pub enum Form {
 
 /// What an input is, by its octets alone. Text in UTF-16, and PEM on one line, are first made text by [`text_of`]. The
 /// only error is that memory ran out.
-pub fn form_of(alloc: Global, input: &[u8]) -> Result<Form, AllocError>
+pub fn form_of(alloc: Global, input: &[u8]) -> Result<InputForm, AllocError>
     ensures { IfOk result (λ form. shown form ≡ form_is input.now) }
 {
     let text = without_mark(input);
     if is_pem(text) {
-        Ok(Form::Pem)
+        Ok(InputForm::Pem)
     } else if is_printed_text(text) {
         text_form(alloc, text)
     } else if are_words(text) {
         Ok(form_unknown(text))
     } else {
-        Ok(Form::Der)
+        Ok(InputForm::Der)
     }
 }
 
-fn text_form(alloc: Global, text: &[u8]) -> Result<Form, AllocError>
+fn text_form(alloc: Global, text: &[u8]) -> Result<InputForm, AllocError>
     ensures { IfOk result (λ form. shown form ≡ form_of_text text.now) }
 {
     if hex_text::has_other_columns(text) {
-        Ok(Form::OtherColumns)
+        Ok(InputForm::OtherColumns)
     } else if hex_text::is_in_columns(text) && left_out::are_some_left_out(text) {
         match left_out::digits_in(alloc, text)? {
             Some(digits) if hex_text::are_digits(&digits) => form_of_digits(alloc, &digits),
@@ -74,17 +74,17 @@ fn text_form(alloc: Global, text: &[u8]) -> Result<Form, AllocError>
 }
 
 // The form of text without lines left out.
-fn symbols_form(alloc: Global, text: &[u8]) -> Result<Form, AllocError>
+fn symbols_form(alloc: Global, text: &[u8]) -> Result<InputForm, AllocError>
     ensures { IfOk result (λ form. shown form ≡ of_symbols text.now) }
 {
     match hex_decoder::octets_in(alloc, text)? {
-        Some(octets) if !octets.is_empty() => Ok(Form::Spelled(octets)),
+        Some(octets) if !octets.is_empty() => Ok(InputForm::Spelled(octets)),
         _ => symbols_form_late(alloc, text),
     }
 }
 
 // The form of text whose digits are decoded when all are read.
-fn symbols_form_late(alloc: Global, text: &[u8]) -> Result<Form, AllocError>
+fn symbols_form_late(alloc: Global, text: &[u8]) -> Result<InputForm, AllocError>
     ensures { IfOk result (λ form. shown form ≡ of_symbols text.now) }
 {
     let digits = hex_text::digits_in(alloc, text)?;
@@ -97,47 +97,47 @@ fn symbols_form_late(alloc: Global, text: &[u8]) -> Result<Form, AllocError>
     }
 }
 
-fn form_of_digits(alloc: Global, digits: &[u8]) -> Result<Form, AllocError>
+fn form_of_digits(alloc: Global, digits: &[u8]) -> Result<InputForm, AllocError>
     ensures { IfOk result (λ form. shown form ≡ of_hex_digits (decode_hex digits.now)) }
 {
     match hex_text::decode(alloc, digits)? {
-        Some(octets) => Ok(Form::Spelled(octets)),
-        None => Ok(Form::OddDigits),
+        Some(octets) => Ok(InputForm::Spelled(octets)),
+        None => Ok(InputForm::OddDigits),
     }
 }
 
-fn base64_form(alloc: Global, text: &[u8]) -> Result<Form, AllocError>
+fn base64_form(alloc: Global, text: &[u8]) -> Result<InputForm, AllocError>
     ensures { IfOk result (λ form. shown form
         ≡ of_base64 (decode_base64 standard (without_spaces text.now)) (without_spaces text.now)) }
 {
     match decoder::octets_in(alloc, text)? {
-        Some(octets) if octets.starts_with(&[0x30]) => Ok(Form::Spelled(octets)),
+        Some(octets) if octets.starts_with(&[0x30]) => Ok(InputForm::Spelled(octets)),
         Some(_) => Ok(form_unknown(text)),
         None => base64_form_late(alloc, text),
     }
 }
 
 // The form of base64 whose symbols are decoded when all are read.
-fn base64_form_late(alloc: Global, text: &[u8]) -> Result<Form, AllocError>
+fn base64_form_late(alloc: Global, text: &[u8]) -> Result<InputForm, AllocError>
     ensures { IfOk result (λ form. shown form
         ≡ of_base64 (decode_base64 standard (without_spaces text.now)) (without_spaces text.now)) }
 {
     let symbols = base64_text::without_spaces(alloc, text)?;
     match base64_text::decode(alloc, &symbols)? {
-        Ok(octets) if octets.starts_with(&[0x30]) => Ok(Form::Spelled(octets)),
+        Ok(octets) if octets.starts_with(&[0x30]) => Ok(InputForm::Spelled(octets)),
         Ok(_) => Ok(form_unknown(text)),
         Err(_) => loose_base64_form(alloc, &symbols, text),
     }
 }
 
 // The form of base64 without its padding, or of base64url.
-fn loose_base64_form(alloc: Global, symbols: &[u8], text: &[u8]) -> Result<Form, AllocError>
+fn loose_base64_form(alloc: Global, symbols: &[u8], text: &[u8]) -> Result<InputForm, AllocError>
     ensures { IfOk result (λ form. shown form ≡ of_loose_base64 symbols.now) }
 {
     match base64_text::decode_unpadded(alloc, symbols)? {
         Some(octets) => {
             if is_sequence(&octets) {
-                return Ok(Form::Spelled(octets));
+                return Ok(InputForm::Spelled(octets));
             }
             url_form(alloc, symbols, text)
         }
@@ -146,14 +146,14 @@ fn loose_base64_form(alloc: Global, symbols: &[u8], text: &[u8]) -> Result<Form,
 }
 
 // The form of base64url.
-fn url_form(alloc: Global, symbols: &[u8], text: &[u8]) -> Result<Form, AllocError>
+fn url_form(alloc: Global, symbols: &[u8], text: &[u8]) -> Result<InputForm, AllocError>
     ensures { IfOk result (λ form. shown form
         ≡ if_sequence (result_ok (decode_base64 url_safe_pad_indifferent symbols.now)) other_text) }
 {
     match base64_text::decode_url(alloc, symbols)? {
         Some(octets) => {
             if is_sequence(&octets) {
-                return Ok(Form::Spelled(octets));
+                return Ok(InputForm::Spelled(octets));
             }
             Ok(form_unknown(text))
         }
@@ -315,13 +315,13 @@ fn document_in(alloc: Global, text: Vec<u8>) -> Result<Vec<u8>, FormFault>
     ensures fault { IfErr result (λ e. (e ≡ OutOfMemory) ⊎ (document_in_text text.items ≡ None)) }
 {
     match form_of(alloc, &text) {
-        Ok(Form::Pem) => first_object(alloc, &text),
-        Ok(Form::Spelled(octets)) => Ok(octets),
-        Ok(Form::OddDigits) => Err(FormFault::OddDigits),
-        Ok(Form::OtherColumns) => Err(FormFault::OtherColumns),
-        Ok(Form::LeftOut(line)) => Err(FormFault::LeftOut(line)),
-        Ok(Form::Text(line)) => Err(FormFault::Text(line)),
-        Ok(Form::Der) => Ok(text),
+        Ok(InputForm::Pem) => first_object(alloc, &text),
+        Ok(InputForm::Spelled(octets)) => Ok(octets),
+        Ok(InputForm::OddDigits) => Err(FormFault::OddDigits),
+        Ok(InputForm::OtherColumns) => Err(FormFault::OtherColumns),
+        Ok(InputForm::LeftOut(line)) => Err(FormFault::LeftOut(line)),
+        Ok(InputForm::Text(line)) => Err(FormFault::Text(line)),
+        Ok(InputForm::Der) => Ok(text),
         Err(_) => Err(FormFault::OutOfMemory),
     }
 }

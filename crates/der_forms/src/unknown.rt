@@ -3,14 +3,14 @@ ghost use Rattle.std.specs.Prelude.{◌≡◌};
 ghost use Rattle.der_forms.specs.Forms.{other_text};
 ghost use Rattle.der_forms.specs.Shown.{shown};
 
-use crate::input::Form;
+use crate::input::InputForm;
 use der_digits::hex_text::{begins_prefix, digits_column, is_in_columns, may_separate};
 use der_digits::left_out::leaves_out;
 use der_digits::words::has_words;
 use der_io::split_line;
 
 // Text, with the first line that is in no form.
-pub fn form_unknown(text: &[u8]) -> Form
+pub fn form_unknown(text: &[u8]) -> InputForm
     ensures { shown result ≡ other_text }
 {
     let in_columns = is_in_columns(text);
@@ -20,7 +20,7 @@ pub fn form_unknown(text: &[u8]) -> Form
     while !rest.is_empty() {
         let (line, after) = split_line(rest);
         if leaves_out(line) {
-            return Form::LeftOut(number);
+            return InputForm::LeftOut(number);
         }
         let column = if in_columns {
             digits_column(line)
@@ -31,18 +31,18 @@ pub fn form_unknown(text: &[u8]) -> Form
             && !has_symbols_alone(line)
             && !(is_source && may_be_in_source(line))
         {
-            return Form::Text(number);
+            return InputForm::Text(number);
         }
         rest = after;
         if !rest.is_empty() {
             number = number.saturating_add(1);
         }
     }
-    Form::Text(number)
+    InputForm::Text(number)
 }
 
 // Columns, with the first line that stands for others.
-pub fn form_left_out(text: &[u8]) -> Form
+pub fn form_left_out(text: &[u8]) -> InputForm
     ensures { shown result ≡ other_text }
 {
     let mut rest = text;
@@ -55,7 +55,7 @@ pub fn form_left_out(text: &[u8]) -> Form
         rest = after;
         number = number.saturating_add(1);
     }
-    Form::LeftOut(number)
+    InputForm::LeftOut(number)
 }
 
 // Whether hex digits, and what may stand between them, are all of the line.

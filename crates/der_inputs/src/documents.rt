@@ -7,7 +7,7 @@ ghost use Rattle.der_elements.specs.Elements.{HasContents, IsElement};
 ghost use Rattle.der_elements.specs.StringOctets.{HoldsNoOctets, HoldsOctets};
 
 use der_elements::{NoBlock, NoString, behind_header, block_at, string_octets};
-use der_forms::{Form, FormFault, PemFault, PemObject, document_of, form_of, text_of};
+use der_forms::{FormFault, InputForm, PemFault, PemObject, document_of, form_of, text_of};
 use std::alloc::{AllocError, Global};
 
 // A document of an input: its octets, or why they cannot be read, under its label, if it has one.
@@ -37,13 +37,13 @@ fn documents_in(alloc: Global, text: Vec<u8>) -> Result<Documents, AllocError>
     ensures { IfOk result (λ documents. findings_are documents ≡ findings_in text.items) }
 {
     match form_of(alloc, &text)? {
-        Form::Pem => Ok(Documents::Objects(text)),
-        Form::Spelled(octets) => Ok(Documents::One(unlabelled(Ok(octets)))),
-        Form::OddDigits => fault_document(alloc, &FormFault::OddDigits),
-        Form::OtherColumns => fault_document(alloc, &FormFault::OtherColumns),
-        Form::LeftOut(line) => fault_document(alloc, &FormFault::LeftOut(line)),
-        Form::Text(line) => fault_document(alloc, &FormFault::Text(line)),
-        Form::Der => Ok(Documents::One(unlabelled(Ok(text)))),
+        InputForm::Pem => Ok(Documents::Objects(text)),
+        InputForm::Spelled(octets) => Ok(Documents::One(unlabelled(Ok(octets)))),
+        InputForm::OddDigits => fault_document(alloc, &FormFault::OddDigits),
+        InputForm::OtherColumns => fault_document(alloc, &FormFault::OtherColumns),
+        InputForm::LeftOut(line) => fault_document(alloc, &FormFault::LeftOut(line)),
+        InputForm::Text(line) => fault_document(alloc, &FormFault::Text(line)),
+        InputForm::Der => Ok(Documents::One(unlabelled(Ok(text)))),
     }
 }
 
