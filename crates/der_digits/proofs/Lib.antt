@@ -1,5 +1,7 @@
 mod Numbers
 mod Pairs
 mod Parts
-pub mod SpelledDigits
+mod RowsRead
+mod SourcePairs
+mod Spelled
 mod Times

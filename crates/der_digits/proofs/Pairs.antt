@@ -1,6 +1,6 @@
--- Hex digits that are decoded in parts, for `hex_decoder`.
-use Rattle.std.proofs.Common.{◌≡◌, ◌∙◌, ◌+◌, ◌*◌, ◌%◌, ℕ, Bool, List, [], ◌∷◌, ◌++◌, ap, append_assoc, append-nil, arith, inl, inr, length, refl, sym}
-use Rattle.std.specs.Prelude.{Err, IfSome, None, Ok, Option, Result, Some, unwrap_or}
+-- Hex digits that are decoded in pairs, for `hex_decoder`.
+use Rattle.std.proofs.Common.{◌≡◌, ◌∙◌, ◌+◌, ◌*◌, ◌%◌, ℕ, List, [], ◌∷◌, ◌++◌, ap, arith, inl, inr, length, refl, sym}
+use Rattle.std.specs.Prelude.{Err, None, Ok, Option, Result, Some, unwrap_or}
 use Rattle.std.specs.Option.{option_and_then, option_map}
 use Rattle.std.specs.Result.{result_ok}
 use Rattle.std.proofs.lemmas.Bool.{cases_eq}
@@ -8,8 +8,6 @@ use Rattle.hex.proofs.HexLemmas.{decode_of-even, decode_of-odd}
 use Rattle.hex.specs.Hex.{decode_of, decode_pairs, digit_or_error, hex_digit_value, ◌>>=◌}
 use Rattle.hex.specs.declared.error.FromHexError.{FromHexError}
 use Rattle.der_digits.specs.Decoded.{octet_of, octets_of_pairs}
-use Rattle.der_digits.specs.Digits.{digits_of}
-use Rattle.der_io.specs.Lines.{lines_of}
 
 -- two digits, if they are some, and what those behind them spell
 decode_pair-ok :
@@ -63,10 +61,6 @@ pub decode_of-from_pairs :
 decode_of-from_pairs digits octets e =
     ok-from_some (decode_of digits) octets (decode_of-spelled digits ∙ e)
 
-pub octets_of_pairs-decoded :
-    (digits octets : List ℕ) → decode_of digits ≡ Ok octets → octets_of_pairs digits ≡ Some octets
-octets_of_pairs-decoded digits octets e = sym (decode_of-spelled digits) ∙ ap (λ r. result_ok r) e
-
 -- an octet before those of the digits behind it
 append-octet :
     (o : Option ℕ) (first : Option (List ℕ)) (rest all : Option (List ℕ)) (octets : List ℕ) →
@@ -96,58 +90,3 @@ octets_of_pairs-append (a ∷ b ∷ digits) more octets e =
     append-octet (octet_of a b) (octets_of_pairs digits) (octets_of_pairs more)
     (octets_of_pairs (digits ++ more)) octets
     e (octets_of_pairs-append digits more)
-
-option_map-append :
-    (a b : List ℕ) (o : Option (List ℕ)) →
-    option_map (λ others. (a ++ b) ++ others) o
-    ≡ option_map (λ others. a ++ others) (option_map (λ others. b ++ others) o)
-option_map-append a b (Some x) = ap Some (append_assoc a b x)
-option_map-append a b None = refl
-
--- digits are decoded
-pub octets_with-decoded :
-    (octets digits more rest : List ℕ) → decode_of digits ≡ Ok more →
-    option_map (λ others. (octets ++ more) ++ others) (octets_of_pairs rest)
-    ≡ option_map (λ others. octets ++ others) (octets_of_pairs (digits ++ rest))
-octets_with-decoded octets digits more rest e =
-    option_map-append octets more (octets_of_pairs rest)
-    ∙ ap (λ z. option_map (λ others. octets ++ others) z)
-    (sym (octets_of_pairs-append digits rest more (octets_of_pairs-decoded digits more e)))
-
--- the last are
-pub octets_with-last :
-    (octets digits last : List ℕ) → decode_of digits ≡ Ok last →
-    option_map (λ others. octets ++ others) (octets_of_pairs (digits ++ [])) ≡ Some (octets ++ last)
-octets_with-last octets digits last e =
-    rw (append-nil digits, octets_of_pairs-decoded digits last e) refl
-
--- none was read
-pub octets_with-none :
-    (octets digits more : List ℕ) → octets ≡ [] → digits ≡ [] →
-    option_map (λ others. octets ++ others) (octets_of_pairs (digits ++ more)) ≡ octets_of_pairs more
-octets_with-none octets digits more e f = rw (e, f) (sym (option_map-nil (octets_of_pairs more)))
-
--- a symbol is pushed
-pub octets_with-pushed :
-    (octets digits now rest : List ℕ) (symbol : ℕ) → now ≡ digits ++ symbol ∷ [] →
-    option_map (λ others. octets ++ others) (octets_of_pairs (now ++ rest))
-    ≡ option_map (λ others. octets ++ others) (octets_of_pairs (digits ++ symbol ∷ rest))
-octets_with-pushed octets digits now rest symbol e =
-    rw e (ap (λ z. option_map (λ others. octets ++ others) (octets_of_pairs z))
-    (append_assoc digits (symbol ∷ []) rest))
-
--- no line is left, and what a decoder has is what all digits spell
-pub decode_of-ended :
-    (b c : Bool) (octets digits rest text all : List ℕ) → length rest ≡ 0 → b ≡ c →
-    option_map (λ others. octets ++ others) (octets_of_pairs (digits ++ digits_of b (lines_of rest)))
-    ≡ octets_of_pairs (digits_of b (lines_of text)) →
-    option_map (λ others. octets ++ others) (octets_of_pairs (digits ++ [])) ≡ Some all →
-    decode_of (digits_of c (lines_of text)) ≡ Ok all
-decode_of-ended b c octets digits [] text all ended same read spelled =
-    rw (← same) (decode_of-from_pairs (digits_of b (lines_of text)) all (sym read ∙ spelled))
-decode_of-ended b c octets digits (x ∷ rest) text all ended same read spelled = absurd (omega (arith, ended))
-
-pub IfSome-weaker :
-    {A : Type 0} (o : Option A) (P Q : A → Type 0) → ((v : A) → P v → Q v) → IfSome o P → IfSome o Q
-IfSome-weaker (Some v) P Q turn is = turn v is
-IfSome-weaker None P Q turn is = is

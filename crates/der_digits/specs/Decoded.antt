@@ -1,5 +1,7 @@
--- What a decoder of hex digits has read. Private contracts alone name it.
-use Rattle.std.specs.Prelude.{◌+◌, ◌*◌, ◌++◌, ◌∷◌, ℕ, List, [], Option, Some, None}
+-- What a decoder of hex digits has read. Private contracts alone name these.
+use Rattle.std.specs.Prelude.{◌≡◌, ◌+◌, ◌*◌, ◌++◌, ◌∷◌, ℕ, Bool, true, false, List, [], Option, Some, None}
+use Rattle.std.specs.Char.{is_ascii_hexdigit}
+use Rattle.std.specs.List.{list_all}
 use Rattle.std.specs.Option.{option_and_then, option_map}
 use Rattle.der_digits.specs.declared.hex_decoder.HexDecoder.{HexDecoder}
 use Rattle.hex.specs.Hex.{hex_digit_value}
@@ -16,7 +18,23 @@ octets_of_pairs (digit ∷ []) = None
 octets_of_pairs (high ∷ low ∷ digits) =
     option_and_then (λ octet. option_map (λ octets. octet ∷ octets) (octets_of_pairs digits)) (octet_of high low)
 
--- the octets that a decoder has, and those that its digits spell with the others behind them
-abbrev pub octets_with : HexDecoder → List ℕ → Option (List ℕ)
-octets_with decoder others =
-    option_map (λ octets. decoder.octets.items ++ octets) (octets_of_pairs (decoder.digits.items ++ others))
+-- the digits spell the octets, and a last digit without a second one has this value
+abbrev pub ArePairs : List ℕ → Option ℕ → List ℕ → Type 0
+ArePairs octets None digits = octets_of_pairs digits ≡ Some octets
+ArePairs octets (Some value) digits =
+    (pairs : List ℕ) × (digit : ℕ) × (digits ≡ pairs ++ digit ∷ []) × (hex_digit_value digit ≡ Some value)
+    × (octets_of_pairs pairs ≡ Some octets)
+
+-- the decoder has read these digits
+abbrev pub HasRead : HexDecoder → List ℕ → Type 0
+HasRead decoder digits = ArePairs decoder.octets.items decoder.high digits
+
+-- the decoder has read these symbols, or one of them is no digit
+abbrev pub IsRead : Bool → HexDecoder → List ℕ → Type 0
+IsRead true decoder symbols = HasRead decoder symbols
+IsRead false decoder symbols = list_all is_ascii_hexdigit symbols ≡ false
+
+-- there are symbols that the decoder has read; or there are none, or one of them is no digit
+abbrev pub IsReadIf : Bool → HexDecoder → Option (List ℕ) → Type 0
+IsReadIf is_read decoder (Some symbols) = IsRead is_read decoder symbols
+IsReadIf is_read decoder None = is_read ≡ false

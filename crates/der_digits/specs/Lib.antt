@@ -1,5 +1,7 @@
 pub mod Columns
 pub mod Decoded
 pub mod Digits
+pub mod RowsRead
 pub mod Sources
+pub mod Spelled
 pub mod Words

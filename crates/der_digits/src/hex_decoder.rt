@@ -1,104 +1,106 @@
-// Hex digits that are decoded while they are read, so that not all are held.
-ghost use Rattle.std.specs.Prelude.{◌≡◌, ◌++◌, ◌∷◌, ◌<◌, ℕ, List, [], true, IfOk, IfSome, Ok, Some};
-ghost use Rattle.hex.specs.Hex.{decode_of};
-ghost use Rattle.der_digits.specs.Decoded.{octets_with};
-ghost use Rattle.der_digits.specs.Digits.{digits_of, has_columns, without_separators};
-ghost use Rattle.der_io.specs.Lines.{lines_of};
+// Hex digits that are decoded while they are read, so that they need not be held.
+ghost use Rattle.std.specs.Prelude.{◌≡◌, ◌<◌, unwrap_or, IfSome};
+ghost use Rattle.hex.specs.Hex.{hex_digit_value};
 
-use crate::hex_text::{decode, digits_column, is_in_columns, next_symbol};
-use der_io::split_line;
 use std::alloc::{AllocError, Global};
 
-// How many digits are decoded at once: an even number.
-const DIGITS_AT_ONCE: usize = 4096;
+/// What the hex digits of a text spell.
+#[derive(Debug, Drop)]
+pub enum Spelling {
+    /// These octets.
+    Octets(Vec<u8>),
+    /// The number of digits is odd.
+    Odd,
+    /// Nothing: there are no digits, or not digits alone.
+    Nothing,
+}
 
-// What the first digits spell, and those behind them.
+// The octets of the pairs of digits that were read, and the value of a last digit that has no second one yet.
 #[derive(Drop)]
 pub(crate) struct HexDecoder {
-    pub octets: Vec<u8>,
-    pub digits: Vec<u8>,
+    octets: Vec<u8>,
+    high: Option<u8>,
+    ghost is_value: { unwrap_or high 0 < 16 },
 }
 
 impl HexDecoder {
-    // Pushes a symbol. Returns `false` where a symbol so far is no digit.
-    fn push(&mut self, alloc: Global, symbol: u8) -> Result<bool, AllocError>
-        ensures { (rest : List ℕ) → IfOk result (λ is_hex.
-            is_hex ≡ true → octets_with self.new rest ≡ octets_with self.old (symbol ∷ rest)) }
-    {
-        self.digits.push(symbol)?;
-        if self.digits.len() < DIGITS_AT_ONCE {
-            return Ok(true);
-        }
-        self.decode_front(alloc)
-    }
+    ghost use Rattle.std.specs.Prelude.{◌≡◌, ◌++◌, ◌∷◌, ℕ, List, [], length, IfOk, Some};
+    ghost use Rattle.std.specs.Char.{is_ascii_hexdigit};
+    ghost use Rattle.der_digits.specs.Decoded.{HasRead, IsRead};
+    ghost use Rattle.der_digits.specs.Spelled.{IsSpelling};
 
-    // Decodes the digits. Returns `false` where a symbol among them is no digit.
-    fn decode_front(&mut self, alloc: Global) -> Result<bool, AllocError>
-        ensures { (rest : List ℕ) → IfOk result (λ is_hex.
-            is_hex ≡ true → octets_with self.new rest ≡ octets_with self.old rest) }
+    // A decoder that has read no digits.
+    pub(crate) fn new(alloc: Global) -> HexDecoder
+        ensures { HasRead result [] }
     {
-        match decode(alloc, &self.digits)? {
-            Some(octets) => {
-                self.octets.extend_from_slice(&octets)?;
-                self.digits.clear();
-                Ok(true)
-            }
-            None => Ok(false),
+        HexDecoder {
+            octets: Vec::new(alloc),
+            high: None,
         }
     }
 
-    // Pushes the symbols of a text without its separators. Returns `false` where a symbol so far is no digit.
-    fn read(&mut self, alloc: Global, text: &[u8]) -> Result<bool, AllocError>
-        ensures { (rest : List ℕ) → IfOk result (λ is_hex. is_hex ≡ true
-            → octets_with self.new rest ≡ octets_with self.old (without_separators text.now ++ rest)) }
+    // How many digits were read.
+    pub(crate) fn count(&self) -> usize
+        ensures { (digits : List ℕ) → HasRead self.now digits → result ≡ length digits }
     {
-        let mut left = text;
-        while let Some((symbol, after)) = next_symbol(left) {
-            if !self.push(alloc, symbol)? {
-                return Ok(false);
+        match self.high {
+            Some(_) => 2 * self.octets.len() + 1,
+            None => 2 * self.octets.len(),
+        }
+    }
+
+    // Reads a symbol. Returns `false` where it is no digit.
+    pub(crate) fn read(&mut self, symbol: u8) -> Result<bool, AllocError>
+        ensures digit { IfOk result (λ is_read. is_read ≡ is_ascii_hexdigit symbol) }
+        ensures read { (digits : List ℕ) → HasRead self.old digits
+            → IfOk result (λ is_read. IsRead is_read self.new (digits ++ symbol ∷ [])) }
+    {
+        let Some(value) = digit_value(symbol) else {
+            return Ok(false);
+        };
+        match self.high {
+            Some(high) => {
+                self.octets.push(16 * high + value)?;
+                self.high = None;
             }
-            left = after;
+            None => self.high = Some(value),
         }
         Ok(true)
     }
 
-    // What all digits spell. `None` says nothing of them: a symbol may be no digit.
-    fn finish(self, alloc: Global) -> Result<Option<Vec<u8>>, AllocError>
-        ensures { IfOk result (λ octets. IfSome octets (λ v. octets_with self [] ≡ Some v.items)) }
+    // Reads symbols. Returns `false` where one of them is no digit.
+    pub(crate) fn read_all(&mut self, symbols: &[u8]) -> Result<bool, AllocError>
+        ensures { (digits : List ℕ) → HasRead self.old digits
+            → IfOk result (λ are_read. IsRead are_read self.new (digits ++ symbols.now)) }
     {
-        let mut octets = self.octets;
-        match decode(alloc, &self.digits)? {
-            Some(last) => {
-                octets.extend_from_slice(&last)?;
-                Ok(Some(octets))
+        for symbol in symbols {
+            if !self.read(*symbol)? {
+                return Ok(false);
             }
-            None => Ok(None),
+        }
+        Ok(true)
+    }
+
+    // What the digits spell.
+    pub(crate) fn finish(self) -> Spelling
+        ensures { (digits : List ℕ) → HasRead self digits → IsSpelling result (Some digits) }
+    {
+        match self.high {
+            Some(_) => Spelling::Odd,
+            None if self.octets.is_empty() => Spelling::Nothing,
+            None => Spelling::Octets(self.octets),
         }
     }
 }
 
-/// The octets that the hex digits of a text spell. `None` says nothing of them: a symbol may be no digit.
-pub fn octets_in(alloc: Global, text: &[u8]) -> Result<Option<Vec<u8>>, AllocError>
-    ensures { IfOk result (λ octets. IfSome octets (λ v.
-        decode_of (digits_of (has_columns text.now) (lines_of text.now)) ≡ Ok v.items)) }
+fn digit_value(b: u8) -> Option<u8>
+    ensures value { result ≡ hex_digit_value b }
+    ensures bound { IfSome result (λ n. n < 16) }
 {
-    let in_columns = is_in_columns(text);
-    let mut decoder = HexDecoder {
-        octets: Vec::new(alloc),
-        digits: Vec::new(alloc),
-    };
-    let mut rest = text;
-    while !rest.is_empty() {
-        let (line, after) = split_line(rest);
-        let digits = if in_columns {
-            digits_column(line)
-        } else {
-            line
-        };
-        if !decoder.read(alloc, digits)? {
-            return Ok(None);
-        }
-        rest = after;
+    match b {
+        b'0'..=b'9' => Some(b - b'0'),
+        b'A'..=b'F' => Some(b - b'A' + 10),
+        b'a'..=b'f' => Some(b - b'a' + 10),
+        _ => None,
     }
-    decoder.finish(alloc)
 }

@@ -1,16 +1,14 @@
 // Text in hex digits.
-ghost use Rattle.std.specs.Prelude.{◌≡◌, ◌++◌, ◌==◌, ◌∷◌, ◌<◌, [], length, IfOk, MatchOption, None, Ok, OnOk, drop};
-ghost use Rattle.std.specs.Char.{is_ascii_hexdigit};
+ghost use Rattle.std.specs.Prelude.{◌≡◌, ◌++◌, ◌∷◌, ◌<◌, ℕ, List, [], length, if◌then◌else◌, IfOk, MatchOption, OnOk, Some, drop};
 ghost use Rattle.std.specs.List.{list_all};
-ghost use Rattle.std.specs.Result.{result_ok};
-ghost use Rattle.hex.specs.Hex.{decode_of};
-ghost use Rattle.der_digits.specs.Words.{all_of_some};
+ghost use Rattle.der_digits.specs.Decoded.{HasRead, IsRead};
 ghost use Rattle.der_digits.specs.Digits.{begins_prefix, begins_space, column_behind, column_of, digits_of, has_bits, has_columns, has_hex_offsets, has_octets, has_other_columns, is_binary, is_separator, offset_of, without_separators};
+ghost use Rattle.der_digits.specs.Spelled.{IsSpelling};
 ghost use Rattle.der_io.specs.Lines.{lines_of};
 
+use crate::hex_decoder::{HexDecoder, Spelling};
 use crate::words::part_before;
 use der_io::split_line;
-use hex::FromHexError;
 use std::alloc::{AllocError, Global};
 
 // Where the first pair of digits ends in what `od -t x1` and `od -A x -t x1` print.
@@ -26,23 +24,37 @@ const BITS_END: usize = 18;
 // How many digits an offset has at least.
 const LEAST_OFFSET: usize = 6;
 
-/// What may be the digits of a text.
-pub fn digits_in(alloc: Global, text: &[u8]) -> Result<Vec<u8>, AllocError>
-    ensures { IfOk result (λ digits. digits.items ≡ digits_of (has_columns text.now) (lines_of text.now)) }
+/// What the digits of a text spell.
+pub fn spelling_in(alloc: Global, text: &[u8]) -> Result<Spelling, AllocError>
+    ensures { IfOk result (λ spelling.
+        IsSpelling spelling (Some (digits_of (has_columns text.now) (lines_of text.now)))) }
 {
     let in_columns = is_in_columns(text);
-    let mut digits = Vec::new(alloc);
+    let mut decoder = HexDecoder::new(alloc);
     let mut rest = text;
     while !rest.is_empty() {
         let (line, after) = split_line(rest);
-        if in_columns {
-            push_digits(digits_column(line), &mut digits)?;
-        } else {
-            push_digits(line, &mut digits)?;
+        if !read_symbols(digits_part(in_columns, line), &mut decoder)? {
+            return Ok(Spelling::Nothing);
         }
         rest = after;
     }
-    Ok(digits)
+    Ok(decoder.finish())
+}
+
+// Reads what is left of a text without its separators. Returns `false` where a symbol is no digit.
+fn read_symbols(text: &[u8], decoder: &mut HexDecoder) -> Result<bool, AllocError>
+    ensures { (digits : List ℕ) → HasRead decoder.old digits
+        → IfOk result (λ are_read. IsRead are_read decoder.new (digits ++ without_separators text.now)) }
+{
+    let mut rest = text;
+    while let Some((symbol, after)) = next_symbol(rest) {
+        if !decoder.read(symbol)? {
+            return Ok(false);
+        }
+        rest = after;
+    }
+    Ok(true)
 }
 
 /// Whether the text comes in columns, with an offset before the digits.
@@ -136,6 +148,17 @@ pub(crate) fn offset_of(line: &[u8]) -> &[u8]
     line
 }
 
+/// The part of a line that has digits: in a text in columns, the column of these.
+pub fn digits_part(in_columns: bool, line: &[u8]) -> &[u8]
+    ensures { result.now ≡ (if in_columns then column_of line.now else line.now) }
+{
+    if in_columns {
+        digits_column(line)
+    } else {
+        line
+    }
+}
+
 /// The column of digits in a line.
 pub fn digits_column(line: &[u8]) -> &[u8]
     ensures { result.now ≡ column_of line.now }
@@ -172,7 +195,7 @@ pub(crate) fn push_digits(text: &[u8], digits: &mut Vec<u8>) -> Result<(), Alloc
 }
 
 // The first symbol of a text without its separators, and the text behind it.
-pub(crate) fn next_symbol(text: &[u8]) -> Option<(u8, &[u8])>
+fn next_symbol(text: &[u8]) -> Option<(u8, &[u8])>
     ensures { MatchOption result (without_separators text.now ≡ [])
         (λ next. (without_separators text.now ≡ next.0 ∷ without_separators next.1.now)
         × (length next.1.now < length text.now)) }
@@ -204,34 +227,4 @@ pub fn may_separate(b: u8) -> bool
     ensures { result ≡ is_separator b }
 {
     b.is_ascii_whitespace() || b == b':' || b == b',' || b == b'-' || b == b'{' || b == b'}'
-}
-
-/// Whether there is a digit, and nothing else.
-pub fn are_digits(symbols: &[u8]) -> bool
-    ensures { result ≡ all_of_some is_ascii_hexdigit symbols.now }
-{
-    !symbols.is_empty() && are_all_digits(symbols)
-}
-
-fn are_all_digits(symbols: &[u8]) -> bool
-    ensures { result ≡ list_all is_ascii_hexdigit symbols.now }
-{
-    for b in symbols {
-        if !b.is_ascii_hexdigit() {
-            return false;
-        }
-    }
-    true
-}
-
-/// The octets that the digits spell, if their number is even.
-pub fn decode(alloc: Global, digits: &[u8]) -> Result<Option<Vec<u8>>, AllocError>
-    ensures { IfOk result (λ octets. MatchOption octets
-        (result_ok (decode_of digits.now) ≡ None) (λ v. decode_of digits.now ≡ Ok v.items)) }
-{
-    match hex::decode(alloc, digits) {
-        Ok(octets) => Ok(Some(octets)),
-        Err(FromHexError::OutOfMemory) => Err(AllocError),
-        Err(_) => Ok(None),
-    }
 }

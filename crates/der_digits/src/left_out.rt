@@ -1,12 +1,15 @@
 // Hex digits in columns with lines left out, as `hexdump`, `od` and `xxd -a` print them.
-ghost use Rattle.std.specs.Prelude.{◌≡◌, ◌^◌, ◌++◌, ◌∷◌, ◌<◌, ℕ, List, if◌then◌else◌, IfOk, IfSome, MatchOption};
-ghost use Rattle.std.specs.Prelude.{None, OnOk, Some};
+ghost use Rattle.std.specs.Prelude.{◌≡◌, ◌^◌, ◌++◌, ◌∷◌, ◌<◌, ℕ, List, IfOk, IfSome};
 ghost use Rattle.std.specs.Char.{is_ascii_whitespace};
 ghost use Rattle.std.specs.List.{list_all};
-ghost use Rattle.der_digits.specs.Columns.{digits_after, digits_before as digits_before_is, digits_in_column, filled};
+ghost use Rattle.der_digits.specs.Columns.{digits_after, digits_before, digits_in_column, filled};
 ghost use Rattle.der_digits.specs.Columns.{leaves_out, number_after, placed_digits, scaled, some_left_out, times, worth};
+ghost use Rattle.der_digits.specs.Decoded.{HasRead, IsRead, IsReadIf};
+ghost use Rattle.der_digits.specs.RowsRead.{GoesOn};
+ghost use Rattle.der_digits.specs.Spelled.{IsSpelling};
 ghost use Rattle.der_io.specs.Lines.{lines_of};
 
+use crate::hex_decoder::{HexDecoder, Spelling};
 use crate::hex_text::{digits_column, has_octets, offset_of, push_digits};
 use crate::words::without_indent;
 use der_io::split_line;
@@ -49,23 +52,22 @@ pub fn are_some_left_out(text: &[u8]) -> bool
     false
 }
 
-// The digits of the lines that were read, those of the last of them, and whether lines like it are left out behind it.
+// A decoder that has read lines, the digits of the last of them, and whether lines like it are left out behind it.
 #[derive(Drop)]
-struct Rows {
-    digits: Vec<u8>,
+pub(crate) struct Rows {
+    decoder: HexDecoder,
     last: Vec<u8>,
     is_left_out: bool,
 }
 
-/// The digits of a text in columns, with those of lines that are left out. `None`: they do not agree with their
-/// offsets.
-pub fn digits_in(alloc: Global, text: &[u8]) -> Result<Option<Vec<u8>>, AllocError>
-    ensures { IfOk result (λ digits. MatchOption digits (placed_digits text.now ≡ None)
-        (λ v. placed_digits text.now ≡ Some v.items)) }
+/// What the digits of a text in columns spell, with those of lines that are left out: nothing where they do not agree
+/// with their offsets.
+pub fn spelling_in(alloc: Global, text: &[u8]) -> Result<Spelling, AllocError>
+    ensures { IfOk result (λ spelling. IsSpelling spelling (placed_digits text.now)) }
 {
     let is_octal = has_octets(text);
     let mut rows = Rows {
-        digits: Vec::new(alloc),
+        decoder: HexDecoder::new(alloc),
         last: Vec::new(alloc),
         is_left_out: false,
     };
@@ -73,28 +75,26 @@ pub fn digits_in(alloc: Global, text: &[u8]) -> Result<Option<Vec<u8>>, AllocErr
     while !rest.is_empty() {
         let (line, after) = split_line(rest);
         if !read_line(alloc, is_octal, line, &mut rows)? {
-            return Ok(None);
+            return Ok(Spelling::Nothing);
         }
         rest = after;
     }
     if rows.is_left_out {
-        return Ok(None);
+        return Ok(Spelling::Nothing);
     }
-    Ok(Some(rows.digits))
+    Ok(rows.decoder.finish())
 }
 
-// Reads a line; `false` where it does not agree with its offset.
+// Reads a line. Returns `false` where it does not agree with its offset, or a symbol is no digit.
 fn read_line(
     alloc: Global,
     is_octal: bool,
     line: &[u8],
     rows: &mut Rows,
 ) -> Result<bool, AllocError>
-    ensures { (lines : List (List ℕ)) → IfOk result (λ agrees.
-        digits_after is_octal rows.old.digits.items rows.old.last.items rows.old.is_left_out (line.now ∷ lines)
-        ≡ (if agrees
-        then digits_after is_octal rows.new.digits.items rows.new.last.items rows.new.is_left_out lines
-        else None)) }
+    ensures { (digits : List ℕ) (lines : List (List ℕ)) → HasRead rows.old.decoder digits
+        → IfOk result (λ is_read. GoesOn is_read is_octal rows.new lines
+        (digits_after is_octal digits rows.old.last.items rows.old.is_left_out (line.now ∷ lines))) }
 {
     if leaves_out(line) {
         rows.is_left_out = true;
@@ -104,14 +104,14 @@ fn read_line(
         return Ok(true);
     }
     let offset = number_in(is_octal, offset_of(line));
-    if !reach(offset, rows.is_left_out, &rows.last, &mut rows.digits)? {
+    if !reach(offset, rows.is_left_out, &rows.last, &mut rows.decoder)? {
         return Ok(false);
     }
     let last = digits_of(alloc, line)?;
-    rows.digits.extend_from_slice(&last)?;
+    let are_read = rows.decoder.read_all(&last)?;
     rows.last = last;
     rows.is_left_out = false;
-    Ok(true)
+    Ok(are_read)
 }
 
 // The digits in the column of a line.
@@ -165,53 +165,56 @@ fn worth(b: u8) -> usize
     usize::from(n)
 }
 
-// Pushes the digits that are left out before an offset; `false` where they do not agree with it.
+// Reads the digits that are left out before an offset. Returns `false` where they do not agree with it.
 fn reach(
     offset: Option<usize>,
     is_left_out: bool,
     last: &[u8],
-    digits: &mut Vec<u8>,
+    decoder: &mut HexDecoder,
 ) -> Result<bool, AllocError>
     requires { IfSome offset (λ n. n < 2 ^ 29) }
-    ensures { IfOk result (λ agrees. digits_before_is is_left_out digits.old.items last.now offset
-        ≡ (if agrees then Some digits.new.items else None)) }
+    ensures { (digits : List ℕ) → HasRead decoder.old digits
+        → IfOk result (λ agrees. IsReadIf agrees decoder.new (digits_before is_left_out digits last.now offset)) }
 {
     let Some(offset) = offset else {
         return Ok(false);
     };
     if is_left_out {
-        fill(offset, last, digits)
+        fill(offset, last, decoder)
     } else {
-        Ok(digits.len() == 2 * offset)
+        Ok(decoder.count() == 2 * offset)
     }
 }
 
-// Pushes the last digits as often as they come before an offset.
-fn fill(offset: usize, last: &[u8], digits: &mut Vec<u8>) -> Result<bool, AllocError>
+// Reads the last digits as often as they come before an offset. Returns `false` where they do not agree with it.
+fn fill(offset: usize, last: &[u8], decoder: &mut HexDecoder) -> Result<bool, AllocError>
     requires { offset < 2 ^ 29 }
-    ensures { IfOk result (λ agrees. filled digits.old.items last.now offset
-        ≡ (if agrees then Some digits.new.items else None)) }
+    ensures { (digits : List ℕ) → HasRead decoder.old digits
+        → IfOk result (λ agrees. IsReadIf agrees decoder.new (filled digits last.now offset)) }
 {
+    let before = decoder.count();
     let end = 2 * offset;
-    if last.is_empty() || end < digits.len() {
+    if last.is_empty() || end < before {
         return Ok(false);
     }
-    let count = (end - digits.len()) / last.len();
-    if digits.len() + count * last.len() != end {
+    let count = (end - before) / last.len();
+    if before + count * last.len() != end {
         return Ok(false);
     }
-    push_times(count, last, digits)?;
-    Ok(true)
+    read_times(count, last, decoder)
 }
 
-// Pushes the digits so many times.
-fn push_times(count: usize, last: &[u8], digits: &mut Vec<u8>) -> Result<(), AllocError>
-    ensures { OnOk result (digits.new.items ≡ digits.old.items ++ times count last.now) }
+// Reads the digits so many times. Returns `false` where a symbol is no digit.
+fn read_times(count: usize, last: &[u8], decoder: &mut HexDecoder) -> Result<bool, AllocError>
+    ensures { (digits : List ℕ) → HasRead decoder.old digits
+        → IfOk result (λ are_read. IsRead are_read decoder.new (digits ++ times count last.now)) }
 {
     let mut left = count;
     while left > 0 {
-        digits.extend_from_slice(last)?;
+        if !decoder.read_all(last)? {
+            return Ok(false);
+        }
         left -= 1;
     }
-    Ok(())
+    Ok(true)
 }

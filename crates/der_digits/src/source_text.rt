@@ -1,11 +1,13 @@
 // Octets as a source of a program spells them.
-ghost use Rattle.std.specs.Prelude.{◌≡◌, ◌++◌, [], IfOk, MatchOption, None, OnOk, Some};
-ghost use Rattle.std.specs.Char.{is_ascii_hexdigit};
-ghost use Rattle.der_digits.specs.Sources.{behind_equals as behind_equals_is, due_behind as due_behind_is, has_value};
-ghost use Rattle.der_digits.specs.Sources.{if_digit, if_ended as if_ended_is, is_between, pairs_after, source_digits};
+ghost use Rattle.std.specs.Prelude.{◌≡◌, ◌++◌, ◌∷◌, ◌<◌, ℕ, List, [], length, IfOk, IfSome};
+ghost use Rattle.der_digits.specs.Decoded.{HasRead};
+ghost use Rattle.der_digits.specs.Sources.{behind_equals as behind_equals_is, due_behind, has_value};
+ghost use Rattle.der_digits.specs.Sources.{if_digit, is_between, pairs_after, source_digits};
+ghost use Rattle.der_digits.specs.Spelled.{IsSpelling};
 ghost use Rattle.der_digits.specs.Words.{begins_by};
 ghost use Rattle.der_digits.specs.declared.source_text.Due.TheVariants.{Prefix as due_prefix};
 
+use crate::hex_decoder::{HexDecoder, Spelling};
 use crate::hex_text::begins_prefix;
 use crate::words::{has_words, part_before};
 use std::alloc::{AllocError, Global};
@@ -20,15 +22,15 @@ pub(crate) enum Due {
     Second,
 }
 
-/// The digits of the only array or string, if it has a prefix before each pair of them, and nothing else.
-pub fn digits_in(alloc: Global, text: &[u8]) -> Result<Option<Vec<u8>>, AllocError>
-    ensures { IfOk result (λ digits. MatchOption digits (source_digits text.now ≡ None)
-        (λ v. source_digits text.now ≡ Some v.items)) }
+/// What the digits of the only array or string spell, if it has a prefix before each pair of them, and nothing else.
+/// Where there is another, they spell nothing.
+pub fn spelling_in(alloc: Global, text: &[u8]) -> Result<Spelling, AllocError>
+    ensures { IfOk result (λ spelling. IsSpelling spelling (source_digits text.now)) }
 {
     let behind = behind_equals(text);
     let value = part_before(b";", behind);
     if has_value(&behind[value.len()..]) {
-        return Ok(None);
+        return Ok(Spelling::Nothing);
     }
     pairs_in(alloc, value)
 }
@@ -51,52 +53,43 @@ fn behind_equals(text: &[u8]) -> &[u8]
     }
 }
 
-fn pairs_in(alloc: Global, text: &[u8]) -> Result<Option<Vec<u8>>, AllocError>
-    ensures { IfOk result (λ digits. MatchOption digits (pairs_after [] due_prefix text.now ≡ None)
-        (λ v. pairs_after [] due_prefix text.now ≡ Some v.items)) }
+fn pairs_in(alloc: Global, text: &[u8]) -> Result<Spelling, AllocError>
+    ensures { IfOk result (λ spelling. IsSpelling spelling (pairs_after [] due_prefix text.now)) }
 {
-    let mut digits = Vec::new(alloc);
+    let mut decoder = HexDecoder::new(alloc);
     let mut due = Due::Prefix;
     let mut rest = text;
     while !rest.is_empty() {
-        let Some(next) = due_behind(due, rest) else {
-            return Ok(None);
+        let Some(next) = read_first(due, rest, &mut decoder)? else {
+            return Ok(Spelling::Nothing);
         };
-        push_if_digit(due, rest[0], &mut digits)?;
         due = next;
         rest = &rest[1..];
     }
-    Ok(if_ended(due, digits))
-}
-
-// The digits, where the text may end.
-fn if_ended(due: Due, digits: Vec<u8>) -> Option<Vec<u8>>
-    ensures { MatchOption result (if_ended_is due digits.items ≡ None)
-        (λ v. if_ended_is due digits.items ≡ Some v.items) }
-{
     match due {
-        Due::Prefix => Some(digits),
-        Due::Mark | Due::First | Due::Second => None,
+        Due::Prefix => Ok(decoder.finish()),
+        Due::Mark | Due::First | Due::Second => Ok(Spelling::Nothing),
     }
 }
 
-// What is due behind the first octet of the text; `None` where that octet is not due.
-fn due_behind(due: Due, text: &[u8]) -> Option<Due>
-    ensures { result ≡ due_behind_is due text.now }
+// What is due behind the first octet of the text, which is read where a digit is due; `None` where it is not due.
+fn read_first(due: Due, text: &[u8], decoder: &mut HexDecoder) -> Result<Option<Due>, AllocError>
+    requires { 0 < length text.now }
+    ensures due { IfOk result (λ next. next ≡ due_behind due text.now) }
+    ensures read { (b : ℕ) (later digits : List ℕ) → text.now ≡ b ∷ later → HasRead decoder.old digits
+        → IfOk result (λ next. IfSome next (λ _. HasRead decoder.new (digits ++ if_digit due b))) }
 {
     match due {
-        Due::Prefix => behind_prefix(text),
-        Due::Mark => Some(Due::First),
-        Due::First if begins_digit(text) => Some(Due::Second),
-        Due::First => None,
-        Due::Second if begins_digit(text) => Some(Due::Prefix),
-        Due::Second => None,
+        Due::Prefix => Ok(behind_prefix(text)),
+        Due::Mark => Ok(Some(Due::First)),
+        Due::First => Ok(decoder.read(text[0])?.then_some(Due::Second)),
+        Due::Second => Ok(decoder.read(text[0])?.then_some(Due::Prefix)),
     }
 }
 
 // What is due where a prefix may stand.
 fn behind_prefix(text: &[u8]) -> Option<Due>
-    ensures { result ≡ due_behind_is due_prefix text.now }
+    ensures { result ≡ due_behind due_prefix text.now }
 {
     if begins_prefix(text) {
         Some(Due::Mark)
@@ -104,28 +97,6 @@ fn behind_prefix(text: &[u8]) -> Option<Due>
         Some(Due::Prefix)
     } else {
         None
-    }
-}
-
-// Pushes the octet, where a digit is due.
-fn push_if_digit(due: Due, b: u8, digits: &mut Vec<u8>) -> Result<(), AllocError>
-    ensures { OnOk result (digits.new.items ≡ digits.old.items ++ if_digit due b) }
-{
-    match due {
-        Due::Prefix | Due::Mark => Ok(()),
-        Due::First | Due::Second => {
-            digits.push(b)?;
-            Ok(())
-        }
-    }
-}
-
-fn begins_digit(text: &[u8]) -> bool
-    ensures { result ≡ begins_by is_ascii_hexdigit text.now }
-{
-    match text.first() {
-        Some(b) => b.is_ascii_hexdigit(),
-        None => false,
     }
 }
 

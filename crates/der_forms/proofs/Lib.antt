@@ -1,3 +1,4 @@
 mod Decoded
 mod LineFronts
+mod Spellings
 mod Utf8

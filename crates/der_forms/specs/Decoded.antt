@@ -1,4 +1,4 @@
--- What a decoder of base 64 has read. Private contracts alone name it.
+-- What a decoder of base 64 has read. Private contracts alone name these.
 use Rattle.std.specs.Prelude.{◌≡◌, ◌%◌, ◌++◌, ℕ, List, length}
 use Rattle.base64.specs.Engines.{standard}
 use Rattle.base64.specs.GeneralPurpose.{IsBytes, encode_of}

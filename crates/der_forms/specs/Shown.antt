@@ -1,4 +1,5 @@
 -- What a form is, and an object, as values of the definitions.
+use Rattle.std.specs.Prelude.{Option, Some, None}
 use Rattle.std.specs.Option.{option_map}
 use Rattle.std.specs.Result.{result_ok}
 use Rattle.der_forms.specs.Forms.{InputKind, objects, odd_digits, other_text, plain_octets, spelled}
@@ -15,6 +16,11 @@ shown OtherColumns = other_text
 shown (LeftOut line) = other_text
 shown (Text line) = other_text
 shown Der = plain_octets
+
+-- the form, or another one where there is none
+abbrev pub shown_or : Option InputForm → InputKind → InputKind
+shown_or None other = other
+shown_or (Some form) other = shown form
 
 abbrev pub shown_object : PemObject → Object
 shown_object object = record {

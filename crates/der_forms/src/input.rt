@@ -1,15 +1,17 @@
 // What an input is, and the document that it has.
-ghost use Rattle.std.specs.Prelude.{◌≡◌, ◌⊎◌, IfOk, IfErr, None, Some};
+ghost use Rattle.std.specs.Prelude.{◌≡◌, ◌⊎◌, ℕ, List, Option, IfOk, IfErr, None, Some};
 ghost use Rattle.base64.specs.GeneralPurpose.{decode_of as decode_base64};
 ghost use Rattle.base64.specs.Engines.{standard, url_safe_pad_indifferent};
 ghost use Rattle.std.specs.Result.{result_ok};
+ghost use Rattle.der_digits.specs.Columns.{placed_digits};
+ghost use Rattle.der_digits.specs.Sources.{source_digits};
+ghost use Rattle.der_digits.specs.Spelled.{IsSpelling};
 ghost use Rattle.der_digits.specs.Words.{all_of_some};
-ghost use Rattle.der_forms.specs.Forms.{is_printed, other_text, without_spaces};
-ghost use Rattle.der_forms.specs.Known.{are_words, fits_one, fits_three, fits_two, form_is, form_of_text, if_sequence, of_hex_digits};
-ghost use Rattle.hex.specs.Hex.{decode_of as decode_hex};
+ghost use Rattle.der_forms.specs.Forms.{InputKind, is_printed, other_text, without_spaces};
+ghost use Rattle.der_forms.specs.Known.{are_words, fits_one, fits_three, fits_two, form_is, form_of_text, if_digits, if_sequence};
 ghost use Rattle.der_forms.specs.Known.{is_in_words, is_sequence, length_fits, of_base64, of_loose_base64, of_symbols};
 ghost use Rattle.der_forms.specs.Objects.{document_in_text, document_of as document_is, first_of, objects_of};
-ghost use Rattle.der_forms.specs.Shown.{shown};
+ghost use Rattle.der_forms.specs.Shown.{shown, shown_or};
 ghost use Rattle.der_forms.specs.declared.input.FormFault.TheVariants.{OutOfMemory};
 
 use crate::lines::{Lines, is_pem, without_mark};
@@ -17,7 +19,7 @@ use crate::objects::{PemFault, fault_of_end, next_object};
 use crate::text::text_of;
 use crate::unknown::{form_left_out, form_unknown};
 use crate::{base64_text, decoder};
-use der_digits::{hex_decoder, hex_text, left_out, source_text};
+use der_digits::{Spelling, hex_text, left_out, source_text};
 use std::alloc::{AllocError, Global};
 use thiserror::Error;
 
@@ -64,12 +66,19 @@ fn text_form(alloc: Global, text: &[u8]) -> Result<InputForm, AllocError>
     if hex_text::has_other_columns(text) {
         Ok(InputForm::OtherColumns)
     } else if hex_text::is_in_columns(text) && left_out::are_some_left_out(text) {
-        match left_out::digits_in(alloc, text)? {
-            Some(digits) if hex_text::are_digits(&digits) => form_of_digits(alloc, &digits),
-            _ => Ok(form_left_out(text)),
-        }
+        left_out_form(alloc, text)
     } else {
         symbols_form(alloc, text)
+    }
+}
+
+// The form of columns with lines left out.
+fn left_out_form(alloc: Global, text: &[u8]) -> Result<InputForm, AllocError>
+    ensures { IfOk result (λ form. shown form ≡ if_digits (placed_digits text.now) other_text) }
+{
+    match form_of_spelling(left_out::spelling_in(alloc, text)?) {
+        Some(form) => Ok(form),
+        None => Ok(form_left_out(text)),
     }
 }
 
@@ -77,32 +86,32 @@ fn text_form(alloc: Global, text: &[u8]) -> Result<InputForm, AllocError>
 fn symbols_form(alloc: Global, text: &[u8]) -> Result<InputForm, AllocError>
     ensures { IfOk result (λ form. shown form ≡ of_symbols text.now) }
 {
-    match hex_decoder::octets_in(alloc, text)? {
-        Some(octets) if !octets.is_empty() => Ok(InputForm::Spelled(octets)),
-        _ => symbols_form_late(alloc, text),
+    match form_of_spelling(hex_text::spelling_in(alloc, text)?) {
+        Some(form) => Ok(form),
+        None => source_form(alloc, text),
     }
 }
 
-// The form of text whose digits are decoded when all are read.
-fn symbols_form_late(alloc: Global, text: &[u8]) -> Result<InputForm, AllocError>
-    ensures { IfOk result (λ form. shown form ≡ of_symbols text.now) }
+// The form of text with other symbols than hex digits.
+fn source_form(alloc: Global, text: &[u8]) -> Result<InputForm, AllocError>
+    ensures { IfOk result (λ form. shown form ≡ if_digits (source_digits text.now)
+        (of_base64 (decode_base64 standard (without_spaces text.now)) (without_spaces text.now))) }
 {
-    let digits = hex_text::digits_in(alloc, text)?;
-    if hex_text::are_digits(&digits) {
-        return form_of_digits(alloc, &digits);
-    }
-    match source_text::digits_in(alloc, text)? {
-        Some(digits) if hex_text::are_digits(&digits) => form_of_digits(alloc, &digits),
-        _ => base64_form(alloc, text),
+    match form_of_spelling(source_text::spelling_in(alloc, text)?) {
+        Some(form) => Ok(form),
+        None => base64_form(alloc, text),
     }
 }
 
-fn form_of_digits(alloc: Global, digits: &[u8]) -> Result<InputForm, AllocError>
-    ensures { IfOk result (λ form. shown form ≡ of_hex_digits (decode_hex digits.now)) }
+// The form of text with hex digits alone, if it is one.
+fn form_of_spelling(spelling: Spelling) -> Option<InputForm>
+    ensures { (symbols : Option (List ℕ)) (other : InputKind) → IsSpelling spelling symbols
+        → if_digits symbols other ≡ shown_or result other }
 {
-    match hex_text::decode(alloc, digits)? {
-        Some(octets) => Ok(InputForm::Spelled(octets)),
-        None => Ok(InputForm::OddDigits),
+    match spelling {
+        Spelling::Octets(octets) => Some(InputForm::Spelled(octets)),
+        Spelling::Odd => Some(InputForm::OddDigits),
+        Spelling::Nothing => None,
     }
 }
 

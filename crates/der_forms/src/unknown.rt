@@ -4,7 +4,9 @@ ghost use Rattle.der_forms.specs.Forms.{other_text};
 ghost use Rattle.der_forms.specs.Shown.{shown};
 
 use crate::input::InputForm;
-use der_digits::hex_text::{begins_prefix, digits_column, is_in_columns, may_separate};
+use der_digits::hex_text::{
+    begins_prefix, digits_column, digits_part, is_in_columns, may_separate,
+};
 use der_digits::left_out::leaves_out;
 use der_digits::words::has_words;
 use der_io::split_line;
@@ -22,12 +24,7 @@ pub fn form_unknown(text: &[u8]) -> InputForm
         if leaves_out(line) {
             return InputForm::LeftOut(number);
         }
-        let column = if in_columns {
-            digits_column(line)
-        } else {
-            line
-        };
-        if !has_digits_alone(column)
+        if !has_digits_alone(digits_part(in_columns, line))
             && !has_symbols_alone(line)
             && !(is_source && may_be_in_source(line))
         {

@@ -1,13 +1,27 @@
 -- For `hex_decoder::HexDecoder::finish`: what it returns is right.
-use Rattle.std.proofs.Common.{◌≡◌, Ok, subst}
-use Rattle.hex.specs.Hex.{decode_of}
-use Rattle.der_digits.proofs.Pairs.{octets_with-last}
+use Rattle.std.proofs.Common.{◌≡◌, arith, length, subst}
+use Rattle.std.proofs.lemmas.Bool.Decides.{nat_tests}
+use Rattle.der_digits.specs.Decoded.{ArePairs}
+use Rattle.der_digits.proofs.Spelled.{decoded-none, decoded-odd, decoded-pairs}
 use Rattle.der_digits.proofs.hex_decoder.HexDecoder.finish.Goals as goal
 
 pub returns-in-Some : goal.returns-in-Some
-returns-in-Some c =
-    let last = c.in-Some.last.items in
-    let decoded : decode_of c.deref.result.now ≡ Ok last = rw c.in-Some.is at c.in_ok-last.ensures in
-    rw (c.in_ok-extend_from_slice-in-Some.ensures.items, c.deref-in-Some.ensures.value)
-    (octets_with-last c.args.self.octets.items c.args.self.digits.items last
-    (subst (λ z. decode_of z ≡ Ok last) c.deref.ensures.value decoded))
+returns-in-Some c = λ digits read.
+    decoded-odd c.args.self.octets.items digits c.in-Some.field-0
+    (subst (λ high. ArePairs c.args.self.octets.items high digits) c.in-Some.is read)
+
+pub returns-in-None : goal.returns-in-None
+returns-in-None c = λ digits read.
+    let is = c.is_empty.ensures in
+    let test = c.if-is_empty.true in
+    decoded-none digits c.args.self.octets.items
+    (subst (λ high. ArePairs c.args.self.octets.items high digits) c.in-None.is read) (grind (arith, nat_tests))
+
+pub returns-in-None-2 : goal.returns-in-None-2
+returns-in-None-2 c = λ digits read.
+    let some : length c.args.self.octets.items ≡ 0 → ⊥ = λ none.
+    let is = c.is_empty.ensures in
+    let test = c.if-is_empty.false in
+    absurd (grind (arith, nat_tests, none)) in
+    decoded-pairs digits c.args.self.octets.items
+    (subst (λ high. ArePairs c.args.self.octets.items high digits) c.in-None.is read) some
