@@ -1,25 +1,25 @@
--- What stands before words in a text, and behind them, for `lines` and `source_text`.
+-- What stands before a part of a text, and behind it, for `lines` and `source_text`.
 use Rattle.std.proofs.Common.{◌≡◌, ◌+◌, ◌-◌, ◌<◌, ◌≤◌, ℕ, suc, Bool, true, false, List, [], ◌∷◌, drop, take, length, sym, ap, ◌∙◌, refl, arith}
 use Rattle.std.specs.Prelude.{codes}
 use Rattle.std.proofs.lemmas.Bool.{lt-ltb}
 use Rattle.std.proofs.lemmas.List.{take_all, length-drop}
-use Rattle.der_digits.specs.Words.{begins, up_to}
+use Rattle.der_digits.specs.Search.{begins, up_to}
 use Rattle.der_digits.specs.Sources.{behind_equals}
 
-length-up_to_cons : (words : List ℕ) (b : ℕ) (text : List ℕ) (q : Bool) → begins words (b ∷ text) ≡ q
-    → length (up_to words text) ≤ length text → length (up_to words (b ∷ text)) ≤ suc (length text)
-length-up_to_cons words b text true e h =
-    let none : length (up_to words (b ∷ text)) ≡ 0 = rw e refl in
+length-up_to_cons : (part : List ℕ) (b : ℕ) (text : List ℕ) (q : Bool) → begins part (b ∷ text) ≡ q
+    → length (up_to part text) ≤ length text → length (up_to part (b ∷ text)) ≤ suc (length text)
+length-up_to_cons part b text true e h =
+    let none : length (up_to part (b ∷ text)) ≡ 0 = rw e refl in
     omega (arith, none)
-length-up_to_cons words b text false e h =
-    let same : length (up_to words (b ∷ text)) ≡ suc (length (up_to words text)) = rw e refl in
+length-up_to_cons part b text false e h =
+    let same : length (up_to part (b ∷ text)) ≡ suc (length (up_to part text)) = rw e refl in
     omega (arith, same, h)
 
--- what stands before words is no longer than the text
-pub length-up_to-le : (words text : List ℕ) → length (up_to words text) ≤ length text
-length-up_to-le words [] = omega arith
-length-up_to-le words (b ∷ text) =
-    length-up_to_cons words b text (begins words (b ∷ text)) refl (length-up_to-le words text)
+-- what stands before a part is no longer than the text
+pub length-up_to-le : (part text : List ℕ) → length (up_to part text) ≤ length text
+length-up_to-le part [] = omega arith
+length-up_to-le part (b ∷ text) =
+    length-up_to_cons part b text (begins part (b ∷ text)) refl (length-up_to-le part text)
 
 -- where `=` stands, so much stands behind it
 pub behind_equals-some : (text part : List ℕ) → part ≡ up_to (codes "=") text → length part < length text

@@ -73,10 +73,10 @@ pub decoded-not_reached :
     leaves_out line ≡ false → list_all is_ascii_whitespace line ≡ false →
     IsReadIf false decoder (digits_before is_left_out before last (number_after is_octal 0 (offset_of line))) →
     decoded (digits_after is_octal before last is_left_out (line ∷ lines)) ≡ None
-decoded-not_reached decoder is_octal is_left_out before last line lines some words wrong =
+decoded-not_reached decoder is_octal is_left_out before last line lines some written wrong =
     let column = digits_in_column line in
     let next : List ℕ → Option (List ℕ) = λ digits. digits_after is_octal (digits ++ column) column false lines in
-    rw (some, words)
+    rw (some, written)
     (decoded-and_then (digits_before is_left_out before last (number_after is_octal 0 (offset_of line))) next
     (λ digits e. decoded-behind is_octal (digits ++ column) column false lines
     (list_all-front digits column (subst (λ o. IsReadIf false decoder o) e wrong))))
@@ -102,7 +102,7 @@ pub GoesOn-reached :
     ((digits : List ℕ) → HasRead reached digits → IsRead are_read rows.decoder (digits ++ digits_in_column line)) →
     rows.last.items ≡ digits_in_column line → rows.is_left_out ≡ false →
     GoesOn are_read is_octal rows lines (digits_after is_octal before last is_left_out (line ∷ lines))
-GoesOn-reached are_read rows reached is_octal is_left_out before last line lines some words has read same behind =
-    rw (some, words)
+GoesOn-reached are_read rows reached is_octal is_left_out before last line lines some written has read same behind =
+    rw (some, written)
     (GoesOn-at are_read rows reached is_octal (digits_in_column line) lines
     (digits_before is_left_out before last (number_after is_octal 0 (offset_of line))) has read same behind)

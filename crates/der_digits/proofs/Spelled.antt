@@ -14,7 +14,7 @@ use Rattle.hex.specs.declared.error.FromHexError.TheVariants.{OddLength}
 use Rattle.der_digits.proofs.Pairs.{decode_of-from_pairs, octets_of_pairs-append}
 use Rattle.der_digits.specs.Decoded.{ArePairs, octets_of_pairs}
 use Rattle.der_digits.specs.Spelled.{decoded}
-use Rattle.der_digits.specs.Words.{all_of_some}
+use Rattle.der_digits.specs.Search.{all_of_some}
 
 is_ascii_hexdigit-hex : (c : ℕ) → is_hex_digit c ≡ true → is_ascii_hexdigit c ≡ true
 is_ascii_hexdigit-hex c h = grind (arith, nat_tests)

@@ -5,7 +5,7 @@ use Rattle.std.specs.Char.{is_ascii_whitespace}
 use Rattle.std.specs.List.{list_all}
 use Rattle.std.specs.Option.{option_and_then}
 use Rattle.der_io.specs.Lines.{lines_of}
-use Rattle.der_digits.specs.Words.{begins, without_indent}
+use Rattle.der_digits.specs.Search.{begins, without_indent}
 use Rattle.der_digits.specs.Digits.{column_of, has_octets, offset_of, without_separators}
 
 -- the line says that lines like the one before it are left out

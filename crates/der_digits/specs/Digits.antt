@@ -3,7 +3,7 @@ use Rattle.std.specs.Prelude.{ℕ, Bool, true, not, ◌==◌, ◌||◌, ◌&&◌
 use Rattle.std.specs.Prelude.{drop, length, take}
 use Rattle.std.specs.Char.{is_ascii_hexdigit, is_ascii_whitespace}
 use Rattle.std.specs.List.{list_all, list_any, prefix_len}
-use Rattle.der_digits.specs.Words.{begins, up_to}
+use Rattle.der_digits.specs.Search.{begins, up_to}
 use Rattle.der_io.specs.Characters.{colon, comma, hyphen, left_brace, right_brace, vertical_bar}
 
 -- the octet may stand between hex digits: white space, `:`, `,`, `-`, `{` and `}`

@@ -3,5 +3,5 @@ pub mod Decoded
 pub mod Digits
 pub mod RowsRead
 pub mod Sources
+pub mod Search
 pub mod Spelled
-pub mod Words

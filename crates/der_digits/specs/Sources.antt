@@ -4,7 +4,7 @@ use Rattle.std.specs.Prelude.{Option, Some, None, if◌then◌else◌, suc}
 use Rattle.std.specs.Char.{is_ascii_hexdigit, is_ascii_whitespace}
 use Rattle.std.specs.Option.{option_and_then}
 use Rattle.der_digits.specs.Digits.{begins_prefix}
-use Rattle.der_digits.specs.Words.{begins_by, has_words, up_to}
+use Rattle.der_digits.specs.Search.{begins_by, contains, up_to}
 use Rattle.der_digits.specs.declared.source_text.Due.{Due}
 use Rattle.der_digits.specs.declared.source_text.Due.TheVariants.{Prefix, Mark, First, Second}
 use Rattle.der_io.specs.Characters.{comma, left_brace, quotation_mark, right_brace}
@@ -45,7 +45,7 @@ pairs_after digits due (b ∷ text) =
 -- what stands behind the first `=`, or all where there is none
 abbrev pub behind_equals : List ℕ → List ℕ
 behind_equals text =
-    if has_words (codes "=") text then drop (suc (length (up_to (codes "=") text))) text else text
+    if contains (codes "=") text then drop (suc (length (up_to (codes "=") text))) text else text
 
 -- the value that the first statement of a source has
 abbrev pub first_value : List ℕ → List ℕ
@@ -57,7 +57,7 @@ later_text text = drop (length (first_value text)) (behind_equals text)
 
 -- another array or string begins in the text
 abbrev pub has_value : List ℕ → Bool
-has_value text = has_words (codes "{") text || has_words (codes "\"") text
+has_value text = contains (codes "{") text || contains (codes "\"") text
 
 -- the digits of the only array or string of a source
 abbrev pub source_digits : List ℕ → Option (List ℕ)

@@ -1,7 +1,7 @@
 -- What the hex digits of a text spell.
 use Rattle.std.specs.Prelude.{◌≡◌, ℕ, List, Option, Some, None, Result, Ok, Err, if◌then◌else◌}
 use Rattle.std.specs.Char.{is_ascii_hexdigit}
-use Rattle.der_digits.specs.Words.{all_of_some}
+use Rattle.der_digits.specs.Search.{all_of_some}
 use Rattle.der_digits.specs.declared.hex_decoder.Spelling.{Spelling}
 use Rattle.der_digits.specs.declared.hex_decoder.Spelling.TheVariants.{Octets, Odd, Nothing}
 use Rattle.hex.specs.Hex.{decode_of}

@@ -7,7 +7,7 @@ ghost use Rattle.der_digits.specs.Spelled.{IsSpelling};
 ghost use Rattle.der_io.specs.Lines.{lines_of};
 
 use crate::hex_decoder::{HexDecoder, Spelling};
-use crate::words::part_before;
+use crate::search::part_before;
 use der_io::split_line;
 use std::alloc::{AllocError, Global};
 

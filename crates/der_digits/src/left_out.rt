@@ -11,7 +11,7 @@ ghost use Rattle.der_io.specs.Lines.{lines_of};
 
 use crate::hex_decoder::{HexDecoder, Spelling};
 use crate::hex_text::{digits_column, has_octets, offset_of, push_digits};
-use crate::words::without_indent;
+use crate::search::without_indent;
 use der_io::split_line;
 use std::alloc::{AllocError, Global};
 

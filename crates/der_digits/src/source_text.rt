@@ -4,12 +4,12 @@ ghost use Rattle.der_digits.specs.Decoded.{HasRead};
 ghost use Rattle.der_digits.specs.Sources.{behind_equals as behind_equals_is, due_behind, has_value};
 ghost use Rattle.der_digits.specs.Sources.{if_digit, is_between, pairs_after, source_digits};
 ghost use Rattle.der_digits.specs.Spelled.{IsSpelling};
-ghost use Rattle.der_digits.specs.Words.{begins_by};
+ghost use Rattle.der_digits.specs.Search.{begins_by};
 ghost use Rattle.der_digits.specs.declared.source_text.Due.TheVariants.{Prefix as due_prefix};
 
 use crate::hex_decoder::{HexDecoder, Spelling};
 use crate::hex_text::begins_prefix;
-use crate::words::{has_words, part_before};
+use crate::search::{contains, part_before};
 use std::alloc::{AllocError, Global};
 
 // What is due next: `0x` or `\x`, or what may stand between octets; its second character; or the first or the second
@@ -38,7 +38,7 @@ pub fn spelling_in(alloc: Global, text: &[u8]) -> Result<Spelling, AllocError>
 fn has_value(text: &[u8]) -> bool
     ensures { result ≡ has_value text.now }
 {
-    has_words(b"{", text) || has_words(b"\"", text)
+    contains(b"{", text) || contains(b"\"", text)
 }
 
 // What stands behind the first `=`, or all where there is none.

@@ -5,7 +5,7 @@ use Rattle.std.specs.Char.{is_ascii_hexdigit}
 use Rattle.hex.specs.Hex.{decode_of}
 use Rattle.hex.specs.declared.error.FromHexError.{FromHexError}
 use Rattle.der_digits.specs.Spelled.{decoded}
-use Rattle.der_digits.specs.Words.{all_of_some}
+use Rattle.der_digits.specs.Search.{all_of_some}
 use Rattle.der_forms.specs.Forms.{InputKind}
 use Rattle.der_forms.specs.Known.{if_digits, of_hex_digits}
 

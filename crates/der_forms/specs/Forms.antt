@@ -2,7 +2,7 @@
 use Rattle.std.specs.Prelude.{ℕ, Bool, true, false, ◌||◌, ◌&&◌, nat_le, List, [], ◌∷◌, drop, if◌then◌else◌, codes}
 use Rattle.std.specs.Char.{is_ascii_whitespace}
 use Rattle.std.specs.List.{list_all}
-use Rattle.der_digits.specs.Words.{begins, without_indent}
+use Rattle.der_digits.specs.Search.{begins, without_indent}
 use Rattle.der_io.specs.Characters.{space, tilde}
 
 -- what an input is

@@ -12,7 +12,7 @@ use Rattle.hex.specs.declared.error.FromHexError.{FromHexError}
 use Rattle.der_io.specs.Lines.{lines_of}
 use Rattle.der_digits.specs.Columns.{placed_digits, some_left_out}
 use Rattle.der_forms.specs.Forms.{InputKind, objects, odd_digits, other_text, plain_octets, spelled}
-use Rattle.der_digits.specs.Words.{all_of_some, begins}
+use Rattle.der_digits.specs.Search.{all_of_some, begins}
 use Rattle.der_digits.specs.Digits.{digits_of, has_columns, has_other_columns}
 use Rattle.der_forms.specs.Forms.{has_object, without_mark, without_spaces}
 use Rattle.der_forms.specs.Forms.{is_printed}

@@ -11,7 +11,7 @@ use Rattle.der_forms.specs.declared.objects.Ending.{Ending}
 use Rattle.der_forms.specs.declared.objects.Ending.TheVariants.{Closed, Joined, Missing, OtherLabel}
 use Rattle.der_io.specs.Lines.{lines_of}
 use Rattle.der_forms.specs.Forms.{InputKind, begins_object, without_mark, without_spaces}
-use Rattle.der_digits.specs.Words.{begins, has_words, up_to, without_indent}
+use Rattle.der_digits.specs.Search.{begins, contains, up_to, without_indent}
 use Rattle.der_forms.specs.Forms.{objects, odd_digits, other_text, plain_octets, spelled}
 use Rattle.der_forms.specs.Known.{form_is}
 use Rattle.der_forms.specs.Texts.{text_of}
@@ -67,7 +67,7 @@ end_label_in line = up_to (codes "-----") (drop 9 (without_indent line))
 -- how a line ends an object with this label
 abbrev pub ending_by : List ℕ → List ℕ → Ending
 ending_by label line =
-    if has_words (codes "-----BEGIN ") line then Joined
+    if contains (codes "-----BEGIN ") line then Joined
     else if bytes_eq (end_label_in line) label then Closed else OtherLabel
 
 -- how an object ends that begins before the lines with this label

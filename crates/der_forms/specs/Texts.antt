@@ -4,7 +4,7 @@ use Rattle.std.specs.Prelude.{codes}
 use Rattle.std.specs.Char.{is_ascii_whitespace}
 use Rattle.std.specs.Char.Utf16.{utf16_lossy_chars}
 use Rattle.std.specs.Str.{encode_utf8_all}
-use Rattle.der_digits.specs.Words.{all_of_some, begins, begins_by, has_words}
+use Rattle.der_digits.specs.Search.{all_of_some, begins, begins_by, contains}
 use Rattle.der_digits.specs.Digits.{has_columns}
 use Rattle.der_forms.specs.Forms.{is_text_octet, without_mark}
 use Rattle.der_forms.specs.declared.breaks.Place.{Place}
@@ -109,7 +109,7 @@ unfolded place (b ∷ text) =
 
 -- text, in which an object of PEM begins somewhere; not the characters beside a column of digits
 abbrev pub has_begin : List ℕ → Bool
-has_begin text = all_of_some is_text_octet text && (has_words (codes "-----BEGIN ") text && not (has_columns text))
+has_begin text = all_of_some is_text_octet text && (contains (codes "-----BEGIN ") text && not (has_columns text))
 
 abbrev pub with_lines : List ℕ → List ℕ
 with_lines text = if has_begin text then unfolded Blank (with_breaks (without_mark text)) else text

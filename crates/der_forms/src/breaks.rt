@@ -1,7 +1,7 @@
 // The line breaks of PEM that came on one line, or with its line breaks spelled.
 ghost use Rattle.std.specs.Prelude.{◌≡◌, ◌++◌, ◌||◌, codes, if◌then◌else◌, true, IfOk, OnOk};
 ghost use Rattle.std.specs.Char.{is_ascii_whitespace};
-ghost use Rattle.der_digits.specs.Words.{begins, begins_by};
+ghost use Rattle.der_digits.specs.Search.{begins, begins_by};
 ghost use Rattle.der_forms.specs.Texts.{begins_begin, begins_end, behind_label as behind_label_is, behind_opening as behind_opening_is, behind_words as behind_words_is, broken, is_filler, lacks_break as lacks_break_is, more_hyphens as more_hyphens_is, octet_or_break, place_behind as place_behind_is, unfolded as unfolded_is, with_breaks as with_breaks_are};
 ghost use Rattle.der_forms.specs.declared.breaks.Place.TheVariants.{Blank as blank, Label as label, Words as words};
 

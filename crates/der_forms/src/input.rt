@@ -6,7 +6,7 @@ ghost use Rattle.std.specs.Result.{result_ok};
 ghost use Rattle.der_digits.specs.Columns.{placed_digits};
 ghost use Rattle.der_digits.specs.Sources.{source_digits};
 ghost use Rattle.der_digits.specs.Spelled.{IsSpelling};
-ghost use Rattle.der_digits.specs.Words.{all_of_some};
+ghost use Rattle.der_digits.specs.Search.{all_of_some};
 ghost use Rattle.der_forms.specs.Forms.{InputKind, is_printed, other_text, without_spaces};
 ghost use Rattle.der_forms.specs.Known.{are_words, fits_one, fits_three, fits_two, form_is, form_of_text, if_digits, if_sequence};
 ghost use Rattle.der_forms.specs.Known.{is_in_words, is_sequence, length_fits, of_base64, of_loose_base64, of_symbols};

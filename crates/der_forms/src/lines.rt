@@ -1,12 +1,12 @@
 // Lines of an input, and which of them begin and end objects.
 ghost use Rattle.std.specs.Prelude.{◌≡◌, MatchOption, codes, false, true};
 ghost use Rattle.std.specs.List.{list_all};
-ghost use Rattle.der_digits.specs.Words.{begins, without_indent};
+ghost use Rattle.der_digits.specs.Search.{begins, without_indent};
 ghost use Rattle.der_forms.specs.Forms.{begins_object, has_object, is_text_octet, without_mark};
 ghost use Rattle.der_forms.specs.Objects.{end_label_in, ends_object, label_in};
 ghost use Rattle.der_io.specs.Lines.{lines_of};
 
-use der_digits::words::{part_before, without_indent};
+use der_digits::search::{part_before, without_indent};
 use der_io::split_line;
 
 // How many characters `-----END ` has.

@@ -13,7 +13,7 @@ ghost use Rattle.der_io.specs.Lines.{lines_of};
 use crate::decoder::Decoder;
 use crate::lines::{Lines, end_label_of, is_end, label_of, tells_encryption};
 use base64::DecodeError;
-use der_digits::words::{has_words, part_before};
+use der_digits::search::{contains, part_before};
 use der_io::split_line;
 use std::alloc::{AllocError, Global};
 
@@ -196,7 +196,7 @@ fn behind_end<'a>(lines: Lines<'a>) -> Lines<'a>
 fn ending_of(label: &[u8], line: &[u8]) -> Ending
     ensures { result ≡ ending_by label.now line.now }
 {
-    if has_words(b"-----BEGIN ", line) {
+    if contains(b"-----BEGIN ", line) {
         Ending::Joined
     } else if end_label_of(line) == label {
         Ending::Closed

@@ -7,7 +7,7 @@ ghost use Rattle.der_forms.specs.Texts.{text_of as text_is, units_of};
 use crate::breaks::{unfolded, with_breaks};
 use crate::lines::is_text;
 use der_digits::hex_text::is_in_columns;
-use der_digits::words::has_words;
+use der_digits::search::contains;
 use std::alloc::{AllocError, Global};
 
 /// What is read of an input: its octets, or where it is text in UTF-16 behind a byte order mark, this text in UTF-8. In
@@ -43,7 +43,7 @@ fn unmarked(alloc: Global, text: Vec<u8>) -> Result<Vec<u8>, AllocError>
 fn has_begin(text: &[u8]) -> bool
     ensures { result ≡ has_begin text.now }
 {
-    !text.is_empty() && is_text(text) && has_words(b"-----BEGIN ", text) && !is_in_columns(text)
+    !text.is_empty() && is_text(text) && contains(b"-----BEGIN ", text) && !is_in_columns(text)
 }
 
 fn in_utf8(alloc: Global, input: Vec<u8>) -> Result<Vec<u8>, AllocError>

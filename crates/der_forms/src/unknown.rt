@@ -8,7 +8,7 @@ use der_digits::hex_text::{
     begins_prefix, digits_column, digits_part, is_in_columns, may_separate,
 };
 use der_digits::left_out::leaves_out;
-use der_digits::words::has_words;
+use der_digits::search::contains;
 use der_io::split_line;
 
 // Text, with the first line that is in no form.
@@ -16,7 +16,7 @@ pub fn form_unknown(text: &[u8]) -> InputForm
     ensures { shown result ≡ other_text }
 {
     let in_columns = is_in_columns(text);
-    let is_source = has_words(b"= {", text) || has_words(b"= \"", text);
+    let is_source = contains(b"= {", text) || contains(b"= \"", text);
     let mut rest = text;
     let mut number: usize = 1;
     while !rest.is_empty() {

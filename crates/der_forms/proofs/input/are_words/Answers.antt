@@ -1,6 +1,6 @@
 -- For `input::are_words`: what it returns is right.
 use Rattle.std.proofs.Common.{◌≡◌, true, refl, sym, ◌∙◌}
-use Rattle.der_digits.specs.Words.{all_of_some}
+use Rattle.der_digits.specs.Search.{all_of_some}
 use Rattle.der_forms.specs.Known.{are_words, is_in_words}
 use Rattle.der_forms.proofs.Utf8.{is_ok-utf8}
 use Rattle.std.specs.Str.{is_utf8}

@@ -1,11 +1,11 @@
--- Words in a text: how it begins, and what stands before them.
+-- Parts of a text: how it begins, and what stands before a part.
 use Rattle.std.specs.Prelude.{ℕ, Bool, false, ◌==◌, nat_lt, List, [], ◌∷◌, drop, if◌then◌else◌, length}
 use Rattle.std.specs.Char.{is_ascii_whitespace}
 use Rattle.std.specs.List.{list_all, prefix_len, starts_with}
 
 -- the text begins so
 abbrev pub begins : List ℕ → List ℕ → Bool
-begins words text = starts_with (λ a b. a == b) text words
+begins part text = starts_with (λ a b. a == b) text part
 
 -- the text begins with an octet that passes the test
 abbrev pub begins_by : (ℕ → Bool) → List ℕ → Bool
@@ -21,11 +21,11 @@ all_of_some test (b ∷ octets) = list_all test (b ∷ octets)
 abbrev pub without_indent : List ℕ → List ℕ
 without_indent line = drop (prefix_len is_ascii_whitespace line) line
 
--- what stands before these words, or all where they do not stand there
+-- what stands before the part, or all where it does not stand there
 abbrev pub up_to : List ℕ → List ℕ → List ℕ
-up_to words [] = []
-up_to words (b ∷ text) = if begins words (b ∷ text) then [] else b ∷ up_to words text
+up_to part [] = []
+up_to part (b ∷ text) = if begins part (b ∷ text) then [] else b ∷ up_to part text
 
--- the words stand in the text
-abbrev pub has_words : List ℕ → List ℕ → Bool
-has_words words text = nat_lt (length (up_to words text)) (length text)
+-- the part stands in the text
+abbrev pub contains : List ℕ → List ℕ → Bool
+contains part text = nat_lt (length (up_to part text)) (length text)

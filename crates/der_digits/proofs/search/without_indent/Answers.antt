@@ -1,6 +1,6 @@
--- For `words::without_indent`: what it returns is right.
+-- For `search::without_indent`: what it returns is right.
 use Rattle.std.proofs.lemmas.Str.Ascii.{trim_ascii_start_is}
-use Rattle.der_digits.proofs.words.without_indent.Goals as goal
+use Rattle.der_digits.proofs.search.without_indent.Goals as goal
 
 pub returns : goal.returns
 returns c = trim_ascii_start_is c.args.line.now c.trim_ascii_start.result.now c.trim_ascii_start.ensures.value
