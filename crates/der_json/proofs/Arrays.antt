@@ -9,77 +9,77 @@ use Rattle.der_pieces.specs.Marks.{are_some}
 
 module _ {A : Type 0} (json : A → Data) where
   -- one more, behind others
-  texts_later : (xs : List A) (x : A) →
+  texts-append_later : (xs : List A) (x : A) →
       texts json true (xs ++ x ∷ []) ≡ texts json true xs ++ (comma_if true ++ compact_text (json x))
-  texts_later [] x = ap (λ z. 44 ∷ z) (append-nil (compact_text (json x)))
-  texts_later (y ∷ xs) x =
-      ap (λ z. 44 ∷ (compact_text (json y) ++ z)) (texts_later xs x)
+  texts-append_later [] x = ap (λ z. 44 ∷ z) (append-nil (compact_text (json x)))
+  texts-append_later (y ∷ xs) x =
+      ap (λ z. 44 ∷ (compact_text (json y) ++ z)) (texts-append_later xs x)
       ∙ ap (λ z. 44 ∷ z) (sym
       (append_assoc (compact_text (json y)) (texts json true xs) (comma_if true ++ compact_text (json x))))
 
-  pub texts_more : (xs : List A) (x : A)
+  pub texts-append : (xs : List A) (x : A)
       → texts json false (xs ++ x ∷ []) ≡ texts json false xs ++ (comma_if (are_some xs) ++ compact_text (json x))
-  texts_more [] x = append-nil (compact_text (json x))
-  texts_more (y ∷ xs) x =
-      ap (λ z. compact_text (json y) ++ z) (texts_later xs x)
+  texts-append [] x = append-nil (compact_text (json x))
+  texts-append (y ∷ xs) x =
+      ap (λ z. compact_text (json y) ++ z) (texts-append_later xs x)
       ∙ sym (append_assoc (compact_text (json y)) (texts json true xs) (comma_if true ++ compact_text (json x)))
 
-  array_later : (xs : List A) → items_text true (items_of json xs) ≡ texts json true xs ++ 93 ∷ []
-  array_later [] = refl
-  array_later (x ∷ xs) =
-      ap (λ z. 44 ∷ (compact_text (json x) ++ z)) (array_later xs)
+  items_text-items_of_later : (xs : List A) → items_text true (items_of json xs) ≡ texts json true xs ++ 93 ∷ []
+  items_text-items_of_later [] = refl
+  items_text-items_of_later (x ∷ xs) =
+      ap (λ z. 44 ∷ (compact_text (json x) ++ z)) (items_text-items_of_later xs)
       ∙ ap (λ z. 44 ∷ z) (sym (append_assoc (compact_text (json x)) (texts json true xs) (93 ∷ [])))
 
-  pub array_is : (xs : List A) → items_text false (items_of json xs) ≡ texts json false xs ++ 93 ∷ []
-  array_is [] = refl
-  array_is (x ∷ xs) =
-      ap (λ z. compact_text (json x) ++ z) (array_later xs)
+  pub items_text-items_of : (xs : List A) → items_text false (items_of json xs) ≡ texts json false xs ++ 93 ∷ []
+  items_text-items_of [] = refl
+  items_text-items_of (x ∷ xs) =
+      ap (λ z. compact_text (json x) ++ z) (items_text-items_of_later xs)
       ∙ sym (append_assoc (compact_text (json x)) (texts json true xs) (93 ∷ []))
 
   -- one more was put, behind a comma where others stand before it
-  pub one_text :
+  pub texts-append_put :
       (xs : List A) (x : A) (later : Bool) (before middle comma after : List ℕ) → later ≡ are_some xs →
       middle ≡ before ++ texts json false xs → comma ≡ middle ++ comma_if later →
       after ≡ comma ++ compact_text (json x) →
       after ≡ before ++ texts json false (xs ++ x ∷ [])
-  one_text xs x later before middle comma after some m c e =
+  texts-append_put xs x later before middle comma after some m c e =
       e ∙ (ap (λ z. z ++ compact_text (json x)) (c ∙ (ap (λ z. z ++ comma_if later) m))
       ∙ (append_assoc (before ++ texts json false xs) (comma_if later) (compact_text (json x))
       ∙ append_assoc before (texts json false xs) (comma_if later ++ compact_text (json x))
       ∙ ap (λ z. before ++ z)
-      (ap (λ z. texts json false xs ++ (comma_if z ++ compact_text (json x))) some ∙ sym (texts_more xs x))))
+      (ap (λ z. texts json false xs ++ (comma_if z ++ compact_text (json x))) some ∙ sym (texts-append xs x))))
 
   -- all were, and the closing bracket
-  pub all_texts : (xs : List A) (before middle after : List ℕ) → middle ≡ before ++ texts json false xs →
+  pub items_text-put : (xs : List A) (before middle after : List ℕ) → middle ≡ before ++ texts json false xs →
       after ≡ middle ++ 93 ∷ []
       → after ≡ before ++ items_text false (items_of json xs)
-  all_texts xs before middle after m e =
+  items_text-put xs before middle after m e =
       e ∙ (ap (λ z. z ++ 93 ∷ []) m ∙ (append_assoc before (texts json false xs) (93 ∷ [])
-      ∙ ap (λ z. before ++ z) (sym (array_is xs))))
+      ∙ ap (λ z. before ++ z) (sym (items_text-items_of xs))))
 
-pub some_more : {A : Type 0} → (xs : List A) (x : A) → true ≡ are_some (xs ++ x ∷ [])
-some_more [] x = refl
-some_more (y ∷ xs) x = refl
+pub are_some-append : {A : Type 0} → (xs : List A) (x : A) → true ≡ are_some (xs ++ x ∷ [])
+are_some-append [] x = refl
+are_some-append (y ∷ xs) x = refl
 
 -- three texts put one after another
-pub joined : (out x y z a b c : List ℕ) → a ≡ out ++ x → b ≡ a ++ y → c ≡ b ++ z → c ≡ out ++ (x ++ (y ++ z))
-joined out x y z a b c d e f =
+pub append-three : (out x y z a b c : List ℕ) → a ≡ out ++ x → b ≡ a ++ y → c ≡ b ++ z → c ≡ out ++ (x ++ (y ++ z))
+append-three out x y z a b c d e f =
     f ∙ (ap (λ v. v ++ z) (e ∙ ap (λ v. v ++ y) d) ∙ (append_assoc (out ++ x) y z ∙ append_assoc out x (y ++ z)))
 
 -- one more was put of those at an index
-pub one_read :
+pub texts-append_read :
     {A B : Type 0} (json : B → Data) (meaning : A → B) (xs : List A) (i : ℕ) (d : A) (later : Bool)
     (before middle comma after : List ℕ) → i < length xs → later ≡ are_some (map meaning (take i xs)) →
     middle ≡ before ++ texts json false (map meaning (take i xs)) → comma ≡ middle ++ comma_if later →
     after ≡ comma ++ compact_text (json (meaning (get_or xs i d))) →
     (true ≡ are_some (map meaning (take (i + 1) xs)))
     × (after ≡ before ++ texts json false (map meaning (take (i + 1) xs)))
-one_read json meaning xs i d later before middle comma after within some m c e =
+texts-append_read json meaning xs i d later before middle comma after within some m c e =
     let meanings = map meaning (take i xs) in
     let x = get_or xs i d in
     let more : map meaning (take (i + 1) xs) ≡ meanings ++ meaning x ∷ [] =
     ap (map meaning) (take_more xs i d within) ∙ map-append meaning (take i xs) (x ∷ []) in (
-      some_more meanings (meaning x) ∙ ap are_some (sym more),
-      one_text json meanings (meaning x) later before middle comma after some m c e
+      are_some-append meanings (meaning x) ∙ ap are_some (sym more),
+      texts-append_put json meanings (meaning x) later before middle comma after some m c e
           ∙ ap (λ z. before ++ texts json false z) (sym more),
     )

@@ -28,11 +28,12 @@ use Rattle.der_json.specs.Json.{AreShown, Departed, IsJudged, IsOpenedValue, IsR
 use Rattle.asn1_departures.specs.declared.rule.Rule.{Rule}
 use Rattle.der_json.specs.Rows.{IsHeaderTag, IsTagOf, joined_json, kind_json, kind_octets, kind_size, leaf_json, leaf_octets, opened_json, row_of, placed_data, value_octets, wrong_octets}
 use Rattle.der_json.specs.declared.object.Object.{Object}
-use Rattle.der_json.proofs.Values.{value_shown}
+use Rattle.der_json.proofs.Values.{AreShown-value}
 
-primitive_closed : (class : ASN1Class) (constructed : Bool) (tag : ℕ) → is_gone_into class constructed tag ≡ false →
+is_gone_into-not_constructed : (class : ASN1Class) (constructed : Bool) (tag : ℕ)
+    → is_gone_into class constructed tag ≡ false →
     is_gone_into class false tag ≡ false
-primitive_closed class constructed tag e =
+is_gone_into-not_constructed class constructed tag e =
     subst (λ z. is_gone_into class z tag ≡ false) (is_gone_into-primitive class constructed tag e) e
 
 -- what the fault tells
@@ -55,83 +56,85 @@ fault_data-nameless offset at (Some f) (o, code) = (
 )
 
 -- a fault of a piece stands where the piece does
-there_by : (Is : PieceFault → Type 0) (offset : ℕ) (fault : Option PieceFault) →
+IsFault-offset : (Is : PieceFault → Type 0) (offset : ℕ) (fault : Option PieceFault) →
     ((f : PieceFault) → Is f → f.offset ≡ offset)
     → IsFault Is fault → IfSome fault (λ f. f.offset ≡ offset)
-there_by Is offset None turn none = absurd none
-there_by Is offset (Some f) turn is = turn f is
+IsFault-offset Is offset None turn none = absurd none
+IsFault-offset Is offset (Some f) turn is = turn f is
 
-there_none : (offset : ℕ) (fault : Option PieceFault) → fault ≡ None → IfSome fault (λ f. f.offset ≡ offset)
-there_none offset fault none = subst (λ z. IfSome z (λ f. f.offset ≡ offset)) (sym none) tt
+IfSome-no_fault : (offset : ℕ) (fault : Option PieceFault) → fault ≡ None → IfSome fault (λ f. f.offset ≡ offset)
+IfSome-no_fault offset fault none = subst (λ z. IfSome z (λ f. f.offset ≡ offset)) (sym none) tt
 
-there_named : (offset : ℕ) (found : DecodeFault) (fault : Option PieceFault) → IsFault (IsNamed offset found) fault
+IsFault-named_offset : (offset : ℕ) (found : DecodeFault) (fault : Option PieceFault)
+    → IsFault (IsNamed offset found) fault
     → IfSome fault (λ f. f.offset ≡ offset)
-there_named offset found fault = there_by (IsNamed offset found) offset fault (λ f is. is.0)
+IsFault-named_offset offset found fault = IsFault-offset (IsNamed offset found) offset fault (λ f is. is.0)
 
-meaning_there :
+IsMeaning-offset :
     (class : ASN1Class) (tag : ℕ) (contents : List ℕ) (offset : ℕ) (value : Option LeafValue)
     (fault : Option PieceFault) → IsMeaning class tag contents offset value fault →
     IfSome fault (λ f. f.offset ≡ offset)
-meaning_there class tag contents offset None fault (u, (found, wrong, is)) = there_named offset found fault is
-meaning_there class tag contents offset (Some value) fault (is, none) = there_none offset fault none
+IsMeaning-offset class tag contents offset None fault (u, (found, wrong, is)) =
+    IsFault-named_offset offset found fault is
+IsMeaning-offset class tag contents offset (Some value) fault (is, none) = IfSome-no_fault offset fault none
 
-pub fault_there :
+pub IsKind-offset :
     (left : List ℕ) (offset : ℕ) (kind : PieceKind) (fault : Option PieceFault) → IsKind left offset kind fault →
     IfSome fault (λ f. f.offset ≡ offset)
-fault_there left offset (EndOfContents size) fault (inl (two, none)) = there_none offset fault none
-fault_there left offset (EndOfContents size) fault (inr (zero, is)) = there_named offset incomplete fault is
-fault_there left offset (Unreadable octets) fault (same, (found, is)) = there_named offset found fault is
-fault_there left offset (Cut header contents) fault (h, l, e, is) = there_named offset incomplete fault is
-fault_there left offset (Opened header contents joined) fault (h, whole, o, e, j, inl (stray, is)) =
-    there_by (IsNameless offset) offset fault (λ f is. is.0) is
-fault_there left offset (Opened header contents joined) fault (h, whole, o, e, j, inr (stray, none)) =
-    there_none offset fault none
-fault_there left offset (Leaf header contents value) fault (h, whole, o, e, inl (stray, none, is)) =
-    there_by (IsNameless offset) offset fault (λ f is. is.0) is
-fault_there left offset (Leaf header contents value) fault (h, whole, o, e, inr (stray, is)) =
-    meaning_there header.class header.tag _ offset value fault is
+IsKind-offset left offset (EndOfContents size) fault (inl (two, none)) = IfSome-no_fault offset fault none
+IsKind-offset left offset (EndOfContents size) fault (inr (zero, is)) = IsFault-named_offset offset incomplete fault is
+IsKind-offset left offset (Unreadable octets) fault (same, (found, is)) = IsFault-named_offset offset found fault is
+IsKind-offset left offset (Cut header contents) fault (h, l, e, is) = IsFault-named_offset offset incomplete fault is
+IsKind-offset left offset (Opened header contents joined) fault (h, whole, o, e, j, inl (stray, is)) =
+    IsFault-offset (IsNameless offset) offset fault (λ f is. is.0) is
+IsKind-offset left offset (Opened header contents joined) fault (h, whole, o, e, j, inr (stray, none)) =
+    IfSome-no_fault offset fault none
+IsKind-offset left offset (Leaf header contents value) fault (h, whole, o, e, inl (stray, none, is)) =
+    IsFault-offset (IsNameless offset) offset fault (λ f is. is.0) is
+IsKind-offset left offset (Leaf header contents value) fault (h, whole, o, e, inr (stray, is)) =
+    IsMeaning-offset header.class header.tag _ offset value fault is
 
-mapped_some : {A B : Type 0} → (f : A → B) (o : Option A) (y : B) → option_map f o ≡ Some y → is_some o ≡ true
-mapped_some f None y e = absurd (cc e)
-mapped_some f (Some x) y e = refl
+is_some-option_map : {A B : Type 0} → (f : A → B) (o : Option A) (y : B) → option_map f o ≡ Some y → is_some o ≡ true
+is_some-option_map f None y e = absurd (cc e)
+is_some-option_map f (Some x) y e = refl
 
 -- the octets that mean nothing
-wrong_named :
+wrong_octets-named :
     (offset : ℕ) (found : DecodeFault) (fault : Option PieceFault) (contents : List ℕ) →
     IsFault (IsNamed offset found) fault → wrong_octets fault contents ≡ Some (encode_lower contents)
-wrong_named offset found None contents none = absurd none
-wrong_named offset found (Some f) contents (o, code) =
-    ap (λ z. if z then Some (encode_lower contents) else None) (mapped_some (λ t. t.now) f.code _ code)
+wrong_octets-named offset found None contents none = absurd none
+wrong_octets-named offset found (Some f) contents (o, code) =
+    ap (λ z. if z then Some (encode_lower contents) else None) (is_some-option_map (λ t. t.now) f.code _ code)
 
-wrong_nameless :
+wrong_octets-nameless :
     (offset : ℕ) (fault : Option PieceFault) (contents : List ℕ) → IsFault (IsNameless offset) fault →
     wrong_octets fault contents ≡ None
-wrong_nameless offset None contents none = absurd none
-wrong_nameless offset (Some f) contents (o, code) =
+wrong_octets-nameless offset None contents none = absurd none
+wrong_octets-nameless offset (Some f) contents (o, code) =
     ap (λ z. if is_some z then Some (encode_lower contents) else None) code
 
 -- what is shown of an encoding that is gone into
-null_there : (Is : PieceFault → Type 0) (fault : Option PieceFault) (joined : Option Joined) → IsFault Is fault →
+opened_json-fault : (Is : PieceFault → Type 0) (fault : Option PieceFault) (joined : Option Joined) → IsFault Is fault →
     opened_json fault joined ≡ null
-null_there Is None joined none = absurd none
-null_there Is (Some f) joined some = refl
+opened_json-fault Is None joined none = absurd none
+opened_json-fault Is (Some f) joined some = refl
 
-joined_opened :
+IsOpenedValue-joined :
     (header : Header) (contents : List ℕ) (joined : Option Joined) → IfSome joined (IsJoined header contents) →
     IsOpenedValue header.class header.tag contents header.is_indefinite (joined_json joined)
-joined_opened header contents None none = of_none refl
-joined_opened header contents (Some j) (u, segments, closed, is) =
+IsOpenedValue-joined header contents None none = of_none refl
+IsOpenedValue-joined header contents (Some j) (u, segments, closed, is) =
     of_segments u j.contents.items segments 0 (value_octets j.contents.items j.value)
-    (value_shown 0 header.class header.tag j.contents.items j.value closed is)
+    (AreShown-value 0 header.class header.tag j.contents.items j.value closed is)
 
-size_by :
+if-taken :
     (indefinite : Bool) (n m there : ℕ) → (indefinite ≡ false → n ≡ min m there) →
     (if indefinite then None else Some n) ≡ (if indefinite then None else Some (taken indefinite m there))
-size_by true n m there e = refl
-size_by false n m there e = ap Some (e refl)
+if-taken true n m there e = refl
+if-taken false n m there e = ap Some (e refl)
 
-slice_size : (left : List ℕ) (a b : ℕ) → a ≤ b → b ≤ length left → a + length (slice_range left a b) ≡ b
-slice_size left a b l m =
+add-length_slice_range : (left : List ℕ) (a b : ℕ) → a ≤ b → b ≤ length left → a + length (slice_range left a b) ≡ b
+add-length_slice_range left a b l m =
     let d : length (drop a left) ≡ length left - a = length-drop a left in
     let t : length (take (b - a) (drop a left)) ≡ b - a = length-take-le (b - a) (drop a left) (omega (arith, d, m)) in
     omega (arith, t, l)
@@ -141,7 +144,7 @@ module _ (left : List ℕ) (offset depth : ℕ) (rules : List Rule) (object : Ob
     (fault : Option PieceFault)
     (fault_is : option_map fault_data object.fault ≡ option_map (placed_data object.offset) fault) where
   -- an encoding with the header
-  encoding_row :
+  IsRowOf-encoding :
       {meaning : Option Meaning} (header : Header) (h : IsAtFront left header) →
       object.size ≡ (if header.is_indefinite then None
       else Some (taken header.is_indefinite (header.size + header.announced) (length left))) →
@@ -150,7 +153,7 @@ module _ (left : List ℕ) (offset depth : ℕ) (rules : List Rule) (object : Ob
       header.tag (is_stray_form header.constructed (drop (length h.identifier) left)) (view object.value)
       (option_map string_bytes object.octets) (option_map fault_data object.fault) →
       IsRowOf left (header_front offset depth rules meaning header) (row_of object inside marks)
-  encoding_row header h size (class, constructed, tag_number, kind) judged = of_encoding (record {
+  IsRowOf-encoding header h size (class, constructed, tag_number, kind) judged = of_encoding (record {
     class = header.class;
     constructed = header.constructed;
     tag = header.tag;
@@ -163,20 +166,20 @@ module _ (left : List ℕ) (offset depth : ℕ) (rules : List Rule) (object : Ob
     judged = judged;
   })
 
-  no_fault : fault ≡ None → option_map fault_data object.fault ≡ None
-  no_fault none = fault_is ∙ ap (option_map (placed_data object.offset)) none
+  option_map-no_fault : fault ≡ None → option_map fault_data object.fault ≡ None
+  option_map-no_fault none = fault_is ∙ ap (option_map (placed_data object.offset)) none
 
-  end_fault :
+  fault_data-end :
       (size : ℕ) → ((size ≡ 2) × (fault ≡ None)) ⊎ ((size ≡ 0) × IsFault (IsNamed offset incomplete) fault) →
       ((size ≡ 2) × (option_map fault_data object.fault ≡ None))
       ⊎ ((size ≡ 0)
       × ((text : List ℕ) × (option_map fault_data object.fault ≡ Some (named_fault object.offset incomplete text))))
-  end_fault size (inl (two, none)) = inl (two, no_fault none)
-  end_fault size (inr (zero, is)) =
+  fault_data-end size (inl (two, none)) = inl (two, option_map-no_fault none)
+  fault_data-end size (inr (zero, is)) =
       let (message, named) = fault_data-named offset object.offset incomplete fault is in
       inr (zero, (message, fault_is ∙ named))
 
-  opened_judged :
+  IsJudged-opened :
       {meaning : Option Meaning} (header : Header) (stray : Bool) (contents : List ℕ) (joined : Option Joined) →
       is_gone_into header.class header.constructed header.tag ≡ true →
       contents ≡ slice_range left header.size
@@ -185,17 +188,17 @@ module _ (left : List ℕ) (offset depth : ℕ) (rules : List Rule) (object : Ob
       view object.value ≡ opened_json fault joined → option_map string_bytes object.octets ≡ None →
       IsJudged left (header_front offset depth rules meaning header) object.offset header.class header.constructed
       header.tag stray (view object.value) (option_map string_bytes object.octets) (option_map fault_data object.fault)
-  opened_judged header stray contents joined o e j (inl (is, there)) v d =
+  IsJudged-opened header stray contents joined o e j (inl (is, there)) v d =
       let (message, named) = fault_data-nameless offset object.offset fault there in
-      of_stray_form is (v ∙ null_there (IsNameless offset) fault joined there) d message (fault_is ∙ named)
-  opened_judged header stray contents joined o e j (inr (is, none)) v d =
+      of_stray_form is (v ∙ opened_json-fault (IsNameless offset) fault joined there) d message (fault_is ∙ named)
+  IsJudged-opened header stray contents joined o e j (inr (is, none)) v d =
       with_encodings o
       (subst (λ z. IsOpenedValue header.class header.tag z header.is_indefinite (view object.value)) e
       (subst (IsOpenedValue header.class header.tag contents header.is_indefinite)
-      (sym (v ∙ ap (λ z. opened_json z joined) none)) (joined_opened header contents joined j)))
-      d (no_fault none)
+      (sym (v ∙ ap (λ z. opened_json z joined) none)) (IsOpenedValue-joined header contents joined j)))
+      d (option_map-no_fault none)
 
-  meaning_shown :
+  AreShown-meaning :
       (header : Header) (contents : List ℕ) (value : Option LeafValue) →
       is_gone_into header.class header.constructed header.tag ≡ false →
       IsMeaning header.class header.tag contents offset value fault →
@@ -203,18 +206,18 @@ module _ (left : List ℕ) (offset depth : ℕ) (rules : List Rule) (object : Ob
       option_map string_bytes object.octets ≡ leaf_octets fault contents value →
       AreShown object.offset header.class header.tag contents (view object.value)
       (option_map string_bytes object.octets) (option_map fault_data object.fault)
-  meaning_shown header contents None o (u, (found, wrong, is)) v d =
+  AreShown-meaning header contents None o (u, (found, wrong, is)) v d =
       let (message, named) = fault_data-named offset object.offset found fault is in
-      with_no_value u found message wrong v (d ∙ wrong_named offset found fault contents is) (fault_is ∙ named)
-  meaning_shown header contents (Some value) o (is, none) v d =
+      with_no_value u found message wrong v (d ∙ wrong_octets-named offset found fault contents is) (fault_is ∙ named)
+  AreShown-meaning header contents (Some value) o (is, none) v d =
       subst (AreShown object.offset header.class header.tag contents (view object.value)
-      (option_map string_bytes object.octets)) (sym (no_fault none))
+      (option_map string_bytes object.octets)) (sym (option_map-no_fault none))
       (subst (λ z. AreShown object.offset header.class header.tag contents (view object.value) z None) (sym d)
       (subst (λ z. AreShown object.offset header.class header.tag contents z (value_octets contents value) None) (sym v)
-      (value_shown object.offset header.class header.tag contents value
-      (primitive_closed header.class header.constructed header.tag o) is)))
+      (AreShown-value object.offset header.class header.tag contents value
+      (is_gone_into-not_constructed header.class header.constructed header.tag o) is)))
 
-  leaf_judged :
+  IsJudged-leaf :
       {meaning : Option Meaning} (header : Header) (h : IsAtFront left header) (contents : List ℕ)
       (value : Option LeafValue) →
       is_gone_into header.class header.constructed header.tag ≡ false →
@@ -225,24 +228,24 @@ module _ (left : List ℕ) (offset depth : ℕ) (rules : List Rule) (object : Ob
       IsJudged left (header_front offset depth rules meaning header) object.offset header.class header.constructed
       header.tag (is_stray_form header.constructed (drop (length h.identifier) left)) (view object.value)
       (option_map string_bytes object.octets) (option_map fault_data object.fault)
-  leaf_judged header h contents value o e (inl (stray, none, there)) v d =
+  IsJudged-leaf header h contents value o e (inl (stray, none, there)) v d =
       let (message, named) = fault_data-nameless offset object.offset fault there in
       of_stray_form stray (v ∙ ap (leaf_json contents) none)
-      (d ∙ (ap (leaf_octets fault contents) none ∙ wrong_nameless offset fault contents there)) message
+      (d ∙ (ap (leaf_octets fault contents) none ∙ wrong_octets-nameless offset fault contents there)) message
       (fault_is ∙ named)
-  leaf_judged header h contents value o e (inr (stray, is)) v d =
+  IsJudged-leaf header h contents value o e (inr (stray, is)) v d =
       let all = slice_range left header.size (header.size + header.announced) in
       with_contents o
-      (meaning_shown header all value o is (v ∙ ap (λ z. leaf_json z value) e)
+      (AreShown-meaning header all value o is (v ∙ ap (λ z. leaf_json z value) e)
       (d ∙ ap (λ z. leaf_octets fault z value) e))
 
   -- the object of a piece of each kind
-  pub row_is :
+  pub IsRowOf-kind :
       (kind : PieceKind) → object.size ≡ kind_size kind → IsTagOf kind object.tag →
       view object.value ≡ kind_json fault kind →
       option_map string_bytes object.octets ≡ kind_octets fault kind → IsKind left offset kind fault →
       IsRowOf left (kind_front offset depth rules false kind) (row_of object inside marks)
-  row_is (EndOfContents size) s (class, constructed, tag_number, kind) v d k = of_end (record {
+  IsRowOf-kind (EndOfContents size) s (class, constructed, tag_number, kind) v d k = of_end (record {
     type_name = refl;
     size = s;
     class = class;
@@ -251,9 +254,9 @@ module _ (left : List ℕ) (offset depth : ℕ) (rules : List Rule) (object : Ob
     kind = kind;
     value = v;
     no_octets = d;
-    fault = end_fault size k;
+    fault = fault_data-end size k;
   })
-  row_is (Unreadable octets) s (class, constructed, tag_number, kind) v d (same, (found, is)) =
+  IsRowOf-kind (Unreadable octets) s (class, constructed, tag_number, kind) v d (same, (found, is)) =
       let (message, named) = fault_data-named offset object.offset found fault is in
       of_unreadable (record {
         type_name = refl;
@@ -268,33 +271,33 @@ module _ (left : List ℕ) (offset depth : ℕ) (rules : List Rule) (object : Ob
         text = message;
         fault = fault_is ∙ named;
       })
-  row_is (Cut header contents) s t v d (h, l, e, is) =
+  IsRowOf-kind (Cut header contents) s t v d (h, l, e, is) =
       let (message, named) = fault_data-named offset object.offset incomplete fault is in
       let n : length (drop header.size left) ≡ length left - header.size = length-drop header.size left in
       let there : length contents.now ≡ length (drop header.size left) = ap length e in
-      encoding_row header h
-      (s ∙ size_by header.is_indefinite _ (header.size + header.announced) (length left)
+      IsRowOf-encoding header h
+      (s ∙ if-taken header.is_indefinite _ (header.size + header.announced) (length left)
       (λ _. omega (arith, n, there, l, h.within)))
       t
       (cut_short l
       (v ∙ ap (λ z. if is_gone_into header.class header.constructed header.tag then null else string (encode_lower z))
       e)
       d message (fault_is ∙ named))
-  row_is (Opened header contents joined) s t v d (h, whole, o, e, j, is) =
+  IsRowOf-kind (Opened header contents joined) s t v d (h, whole, o, e, j, is) =
       let all = header.size + header.announced in
-      encoding_row header h
-      (s ∙ size_by header.is_indefinite _ all (length left)
+      IsRowOf-encoding header h
+      (s ∙ if-taken header.is_indefinite _ all (length left)
       (λ definite. let n : length contents.now ≡ length (slice_range left header.size (min all (length left))) =
       ap length (e ∙ ap (λ z. slice_range left header.size (taken z all (length left))) definite) in
       let m : header.size + length (slice_range left header.size (min all (length left))) ≡ min all (length left) =
-      slice_size left header.size (min all (length left)) (omega (arith, whole)) (omega arith) in
+      add-length_slice_range left header.size (min all (length left)) (omega (arith, whole)) (omega arith) in
       omega (arith, n, m)))
-      t (opened_judged header _ contents.now joined o e j is v d)
-  row_is (Leaf header contents value) s t v d (h, whole, o, e, is) =
+      t (IsJudged-opened header _ contents.now joined o e j is v d)
+  IsRowOf-kind (Leaf header contents value) s t v d (h, whole, o, e, is) =
       let all = header.size + header.announced in
       let n : length contents.now ≡ length (slice_range left header.size all) = ap length e in
       let m : header.size + length (slice_range left header.size all) ≡ all =
-      slice_size left header.size all (omega arith) whole in
-      encoding_row header h
-      (s ∙ size_by header.is_indefinite _ all (length left) (λ _. omega (arith, n, m, whole)))
-      t (leaf_judged header h contents.now value o e is v d)
+      add-length_slice_range left header.size all (omega arith) whole in
+      IsRowOf-encoding header h
+      (s ∙ if-taken header.is_indefinite _ all (length left) (λ _. omega (arith, n, m, whole)))
+      t (IsJudged-leaf header h contents.now value o e is v d)

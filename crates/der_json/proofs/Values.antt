@@ -22,188 +22,193 @@ use Rattle.der_contents.proofs.Values.{Encodes-leaf, Encodes-tagged, Encodes-unk
 use Rattle.der_json.specs.Json.{AreShown, IsIdentifierValue, IsLeafValue, IsValueOf, as_text, as_time, in_their_form, in_notation, is_text_type, of_block, of_characters, of_no_text, of_other_type, other_value, whole_json, with_value, without_characters}
 use Rattle.der_json.specs.Rows.{value_json, value_octets}
 
-and_false : (b : Bool) → (b && false) ≡ false
-and_false true = refl
-and_false false = refl
+and-false : (b : Bool) → (b && false) ≡ false
+and-false true = refl
+and-false false = refl
 
 -- the tag of a leaf
-leaf_no_text : (l : Leaf) → has_text (leaf_tag l) ≡ false
-leaf_no_text (boolean b) = refl
-leaf_no_text (integer n) = refl
-leaf_no_text (bit_string n v) = refl
-leaf_no_text (octet_string v) = refl
-leaf_no_text null_leaf = refl
-leaf_no_text (object_identifier ns) = refl
-leaf_no_text (text utf8 cs) = refl
-leaf_no_text (text printable cs) = refl
-leaf_no_text (text teletex cs) = refl
-leaf_no_text (text ia5 cs) = refl
-leaf_no_text (text universal cs) = refl
-leaf_no_text (text bmp cs) = refl
-leaf_no_text (utc_time m) = refl
-leaf_no_text (generalized_time m) = refl
+has_text-leaf_tag : (l : Leaf) → has_text (leaf_tag l) ≡ false
+has_text-leaf_tag (boolean b) = refl
+has_text-leaf_tag (integer n) = refl
+has_text-leaf_tag (bit_string n v) = refl
+has_text-leaf_tag (octet_string v) = refl
+has_text-leaf_tag null_leaf = refl
+has_text-leaf_tag (object_identifier ns) = refl
+has_text-leaf_tag (text utf8 cs) = refl
+has_text-leaf_tag (text printable cs) = refl
+has_text-leaf_tag (text teletex cs) = refl
+has_text-leaf_tag (text ia5 cs) = refl
+has_text-leaf_tag (text universal cs) = refl
+has_text-leaf_tag (text bmp cs) = refl
+has_text-leaf_tag (utc_time m) = refl
+has_text-leaf_tag (generalized_time m) = refl
 
-leaf_no_enumerated : (l : Leaf) → (leaf_tag l == ENUMERATED) ≡ false
-leaf_no_enumerated (boolean b) = refl
-leaf_no_enumerated (integer n) = refl
-leaf_no_enumerated (bit_string n v) = refl
-leaf_no_enumerated (octet_string v) = refl
-leaf_no_enumerated null_leaf = refl
-leaf_no_enumerated (object_identifier ns) = refl
-leaf_no_enumerated (text utf8 cs) = refl
-leaf_no_enumerated (text printable cs) = refl
-leaf_no_enumerated (text teletex cs) = refl
-leaf_no_enumerated (text ia5 cs) = refl
-leaf_no_enumerated (text universal cs) = refl
-leaf_no_enumerated (text bmp cs) = refl
-leaf_no_enumerated (utc_time m) = refl
-leaf_no_enumerated (generalized_time m) = refl
+eqb-leaf_tag_enumerated : (l : Leaf) → (leaf_tag l == ENUMERATED) ≡ false
+eqb-leaf_tag_enumerated (boolean b) = refl
+eqb-leaf_tag_enumerated (integer n) = refl
+eqb-leaf_tag_enumerated (bit_string n v) = refl
+eqb-leaf_tag_enumerated (octet_string v) = refl
+eqb-leaf_tag_enumerated null_leaf = refl
+eqb-leaf_tag_enumerated (object_identifier ns) = refl
+eqb-leaf_tag_enumerated (text utf8 cs) = refl
+eqb-leaf_tag_enumerated (text printable cs) = refl
+eqb-leaf_tag_enumerated (text teletex cs) = refl
+eqb-leaf_tag_enumerated (text ia5 cs) = refl
+eqb-leaf_tag_enumerated (text universal cs) = refl
+eqb-leaf_tag_enumerated (text bmp cs) = refl
+eqb-leaf_tag_enumerated (utc_time m) = refl
+eqb-leaf_tag_enumerated (generalized_time m) = refl
 
 -- a tag of no leaf is that of no UniversalString and no BMPString
-or_false : (a b : Bool) → (a || b) ≡ false → (a ≡ false) × (b ≡ false)
-or_false true b e = absurd (false≢true (sym e))
-or_false false b e = (refl, e)
+or-false : (a b : Bool) → (a || b) ≡ false → (a ≡ false) × (b ≡ false)
+or-false true b e = absurd (false≢true (sym e))
+or-false false b e = (refl, e)
 
-both_false : (a b : Bool) → a ≡ false → b ≡ false → (a || b) ≡ false
-both_false true b e f = absurd (false≢true (sym e))
-both_false false b e f = f
+or-both_false : (a b : Bool) → a ≡ false → b ≡ false → (a || b) ≡ false
+or-both_false true b e f = absurd (false≢true (sym e))
+or-both_false false b e f = f
 
-no_leaf_narrow : (tag : ℕ) → is_leaf_tag tag ≡ false → is_wide_tag tag ≡ false
-no_leaf_narrow tag none =
-    let strings = (or_false _ (is_string_tag tag) none).1 in
-    let (others, bmp_no) = or_false _ (tag == BMP_STRING) strings in
-    both_false (tag == UNIVERSAL_STRING) (tag == BMP_STRING) (or_false _ (tag == UNIVERSAL_STRING) others).1 bmp_no
+is_wide_tag-no_leaf : (tag : ℕ) → is_leaf_tag tag ≡ false → is_wide_tag tag ≡ false
+is_wide_tag-no_leaf tag none =
+    let strings = (or-false _ (is_string_tag tag) none).1 in
+    let (others, bmp_no) = or-false _ (tag == BMP_STRING) strings in
+    or-both_false (tag == UNIVERSAL_STRING) (tag == BMP_STRING) (or-false _ (tag == UNIVERSAL_STRING) others).1 bmp_no
 
 module _ (class : ASN1Class) (tag : ℕ) (contents : List ℕ) (u : class ≡ Universal) where
-  type_text : (b : Bool) → has_text tag ≡ b → is_text_type class tag ≡ b
-  type_text b e = subst (λ z. is_text_type z tag ≡ b) (sym u) e
+  is_text_type-universal : (b : Bool) → has_text tag ≡ b → is_text_type class tag ≡ b
+  is_text_type-universal b e = subst (λ z. is_text_type z tag ≡ b) (sym u) e
 
-  no_other : (tag == ENUMERATED) ≡ false → other_value class tag contents ≡ None
-  no_other e =
+  other_value-none : (tag == ENUMERATED) ≡ false → other_value class tag contents ≡ None
+  other_value-none e =
       subst (λ z. other_value z tag contents ≡ None) (sym u)
       (ap (λ z. if z then Some (whole_json (signed_number contents)) else None) e)
 
-  narrow : is_wide_tag tag ≡ false → has_wide_characters class tag contents ≡ false
-  narrow e =
+  has_wide_characters-narrow : is_wide_tag tag ≡ false → has_wide_characters class tag contents ≡ false
+  has_wide_characters-narrow e =
       subst (λ z. has_wide_characters z tag contents ≡ false) (sym u)
-      (ap (λ z. not (length contents == 0) && z) e ∙ and_false (not (length contents == 0)))
+      (ap (λ z. not (length contents == 0) && z) e ∙ and-false (not (length contents == 0)))
 
-no_text_tagged : (class : ASN1Class) (tag : ℕ) → class ≢ Universal → is_text_type class tag ≡ false
-no_text_tagged Universal tag other = absurd (other refl)
-no_text_tagged Application tag other = refl
-no_text_tagged ContextSpecific tag other = refl
-no_text_tagged Private tag other = refl
+is_text_type-other_class : (class : ASN1Class) (tag : ℕ) → class ≢ Universal → is_text_type class tag ≡ false
+is_text_type-other_class Universal tag other = absurd (other refl)
+is_text_type-other_class Application tag other = refl
+is_text_type-other_class ContextSpecific tag other = refl
+is_text_type-other_class Private tag other = refl
 
-narrow_tagged : (class : ASN1Class) (tag : ℕ) (contents : List ℕ) → class ≢ Universal →
+has_wide_characters-other_class : (class : ASN1Class) (tag : ℕ) (contents : List ℕ) → class ≢ Universal →
     has_wide_characters class tag contents ≡ false
-narrow_tagged Universal tag contents other = absurd (other refl)
-narrow_tagged Application tag contents other = refl
-narrow_tagged ContextSpecific tag contents other = refl
-narrow_tagged Private tag contents other = refl
+has_wide_characters-other_class Universal tag contents other = absurd (other refl)
+has_wide_characters-other_class Application tag contents other = refl
+has_wide_characters-other_class ContextSpecific tag contents other = refl
+has_wide_characters-other_class Private tag contents other = refl
 
-no_other_tagged : (class : ASN1Class) (tag : ℕ) (contents : List ℕ) → class ≢ Universal →
+other_value-other_class : (class : ASN1Class) (tag : ℕ) (contents : List ℕ) → class ≢ Universal →
     other_value class tag contents ≡ None
-no_other_tagged Universal tag contents other = absurd (other refl)
-no_other_tagged Application tag contents other = refl
-no_other_tagged ContextSpecific tag contents other = refl
-no_other_tagged Private tag contents other = refl
+other_value-other_class Universal tag contents other = absurd (other refl)
+other_value-other_class Application tag contents other = refl
+other_value-other_class ContextSpecific tag contents other = refl
+other_value-other_class Private tag contents other = refl
 
 -- the text of an object identifier
-dotted_is : {A : Type 0} (f : A → List ℕ) (dotted : Option A) (n : List ℕ) → IfSome dotted (λ d. f d ≡ n) →
+unwrap_or-dotted : {A : Type 0} (f : A → List ℕ) (dotted : Option A) (n : List ℕ) → IfSome dotted (λ d. f d ≡ n) →
     unwrap_or (option_map f dotted) n ≡ n
-dotted_is f None n none = refl
-dotted_is f (Some d) n e = e
+unwrap_or-dotted f None n none = refl
+unwrap_or-dotted f (Some d) n e = e
 
-identifier_by : (contents components : List ℕ) (identifier : Identifier) (b : Bool) →
+IsIdentifierValue-by_size : (contents components : List ℕ) (identifier : Identifier) (b : Bool) →
     nat_lt 1024 (length contents) ≡ b → IsIdentifier components identifier →
     IsIdentifierValue contents components (if b then null
     else string (unwrap_or (option_map string_bytes identifier.dotted) (dotted_decimal identifier.components)))
-identifier_by contents components identifier true e is = inl (ltb-true 1024 (length contents) e, refl)
-identifier_by contents components identifier false e (short, dotted) =
+IsIdentifierValue-by_size contents components identifier true e is = inl (ltb-true 1024 (length contents) e, refl)
+IsIdentifierValue-by_size contents components identifier false e (short, dotted) =
     inr (
       ltb-false 1024 (length contents) e,
       (
         unwrap_or (option_map string_bytes identifier.dotted) (dotted_decimal identifier.components),
         refl,
-        λ s. dotted_is string_bytes identifier.dotted (dotted_decimal identifier.components) dotted
+        λ s. unwrap_or-dotted string_bytes identifier.dotted (dotted_decimal identifier.components) dotted
             ∙ ap dotted_decimal (short s),
       ),
     )
 
 module _ (offset : ℕ) (class : ASN1Class) (tag : ℕ) (contents : List ℕ) where
   -- a leaf
-  leaf_shown : (l : Leaf) (json : Data) → IsLeaf class tag contents l →
+  AreShown-leaf : (l : Leaf) (json : Data) → IsLeaf class tag contents l →
       has_wide_characters class tag contents ≡ false → IsLeafValue contents l json →
       AreShown offset class tag contents json None None
-  leaf_shown l json (u, t, means) wide is =
-      with_value (type_text class tag contents u false (subst (λ z. has_text z ≡ false) (sym t) (leaf_no_text l))) wide
+  AreShown-leaf l json (u, t, means) wide is =
+      with_value (is_text_type-universal class tag contents u false
+      (subst (λ z. has_text z ≡ false) (sym t) (has_text-leaf_tag l))) wide
       (leaf 0 l) (λ all header e. Encodes-leaf all contents class false tag header e l (u, t, means))
       (of_block
-      (no_other class tag contents u (subst (λ z. (z == ENUMERATED) ≡ false) (sym t) (leaf_no_enumerated l))) is)
+      (other_value-none class tag contents u
+      (subst (λ z. (z == ENUMERATED) ≡ false) (sym t) (eqb-leaf_tag_enumerated l))) is)
       refl refl
 
-  plain_shown : (l : Leaf) (json : Data) → is_wide_tag (leaf_tag l) ≡ false → IsLeaf class tag contents l →
+  AreShown-plain_leaf : (l : Leaf) (json : Data) → is_wide_tag (leaf_tag l) ≡ false → IsLeaf class tag contents l →
       IsLeafValue contents l json → AreShown offset class tag contents json None None
-  plain_shown l json e (u, t, means) is =
-      leaf_shown l json (u, t, means)
-      (narrow class tag contents u (subst (λ z. is_wide_tag z ≡ false) (sym t) e)) is
+  AreShown-plain_leaf l json e (u, t, means) is =
+      AreShown-leaf l json (u, t, means)
+      (has_wide_characters-narrow class tag contents u (subst (λ z. is_wide_tag z ≡ false) (sym t) e)) is
 
   -- what stays as it came
-  other_shown : (json : Data) → class ≡ Universal → is_leaf_tag tag ≡ false → is_gone_into class false tag ≡ false →
+  AreShown-other : (json : Data) → class ≡ Universal → is_leaf_tag tag ≡ false → is_gone_into class false tag ≡ false →
       has_text tag ≡ false → IsValueOf class tag contents (unknown class false 0 tag contents) json →
       AreShown offset class tag contents json None None
-  other_shown json u none closed has is =
-      with_value (type_text class tag contents u false has) (narrow class tag contents u (no_leaf_narrow tag none))
+  AreShown-other json u none closed has is =
+      with_value (is_text_type-universal class tag contents u false has)
+      (has_wide_characters-narrow class tag contents u (is_wide_tag-no_leaf tag none))
       (unknown class false 0 tag contents)
       (λ all header e. Encodes-unknown all contents class false tag header e u none closed) is refl refl
 
 -- each value
-pub value_shown :
+pub AreShown-value :
     (offset : ℕ) (class : ASN1Class) (tag : ℕ) (contents : List ℕ) (value : LeafValue) →
     is_gone_into class false tag ≡ false → IsValue class tag contents value →
     AreShown offset class tag contents (value_json contents value) (value_octets contents value) None
-value_shown offset class tag contents (Boolean b) o is =
-    plain_shown offset class tag contents (boolean b) _ refl is refl
-value_shown offset class tag contents (Integer n) o (inl is) =
-    plain_shown offset class tag contents (integer n) _ refl is refl
-value_shown offset class tag contents (Integer n) o (inr (u, ten, same)) =
-    other_shown offset class tag contents _ u (subst (λ z. is_leaf_tag z ≡ false) (sym ten) refl) o
+AreShown-value offset class tag contents (Boolean b) o is =
+    AreShown-plain_leaf offset class tag contents (boolean b) _ refl is refl
+AreShown-value offset class tag contents (Integer n) o (inl is) =
+    AreShown-plain_leaf offset class tag contents (integer n) _ refl is refl
+AreShown-value offset class tag contents (Integer n) o (inr (u, ten, same)) =
+    AreShown-other offset class tag contents _ u (subst (λ z. is_leaf_tag z ≡ false) (sym ten) refl) o
     (subst (λ z. has_text z ≡ false) (sym ten) refl)
     (of_other_type
     (subst (λ z. other_value z tag contents ≡ Some (whole_json n)) (sym u)
     (subst (λ z. other_value Universal z contents ≡ Some (whole_json n)) (sym ten)
     (ap (λ z. Some (whole_json z)) (sym same)))))
-value_shown offset class tag contents (Bits bits) o is =
-    plain_shown offset class tag contents (bit_string bits.count bits.octets.items) _ refl is refl
-value_shown offset class tag contents (Octets shown) o is =
-    plain_shown offset class tag contents (octet_string contents) _ refl is refl
-value_shown offset class tag contents Null o is = plain_shown offset class tag contents null_leaf _ refl is refl
-value_shown offset class tag contents (OfIdentifier identifier) o (components, is, same) =
-    plain_shown offset class tag contents (object_identifier components) _ refl is
-    (identifier_by contents components identifier (nat_lt 1024 (length contents)) refl same)
-value_shown offset class tag contents (Text characters) o (wide, (kind, is)) =
-    leaf_shown offset class tag contents (text kind (chars (string_bytes characters))) _ is wide
+AreShown-value offset class tag contents (Bits bits) o is =
+    AreShown-plain_leaf offset class tag contents (bit_string bits.count bits.octets.items) _ refl is refl
+AreShown-value offset class tag contents (Octets shown) o is =
+    AreShown-plain_leaf offset class tag contents (octet_string contents) _ refl is refl
+AreShown-value offset class tag contents Null o is =
+    AreShown-plain_leaf offset class tag contents null_leaf _ refl is refl
+AreShown-value offset class tag contents (OfIdentifier identifier) o (components, is, same) =
+    AreShown-plain_leaf offset class tag contents (object_identifier components) _ refl is
+    (IsIdentifierValue-by_size contents components identifier (nat_lt 1024 (length contents)) refl same)
+AreShown-value offset class tag contents (Text characters) o (wide, (kind, is)) =
+    AreShown-leaf offset class tag contents (text kind (chars (string_bytes characters))) _ is wide
     (string_bytes characters, refl, refl)
-value_shown offset class tag contents (WideText form characters) o wide =
+AreShown-value offset class tag contents (WideText form characters) o wide =
     in_their_form wide (string_bytes characters) refl refl refl
-value_shown offset class tag contents (OtherText characters) o ((u, none, has), is, same) =
+AreShown-value offset class tag contents (OtherText characters) o ((u, none, has), is, same) =
     as_text u has (of_characters is (ap string same) refl) refl
-value_shown offset class tag contents (Notation shown) o ((u, none, has), is) =
+AreShown-value offset class tag contents (Notation shown) o ((u, none, has), is) =
     as_text u has (in_notation is (string_bytes shown) refl refl) refl
-value_shown offset class tag contents (Moment shown) o (inl (m, is, same)) =
-    plain_shown offset class tag contents (utc_time m) _ refl is (string_bytes shown, same, refl)
-value_shown offset class tag contents (Moment shown) o (inr (m, is, (digits, fraction, same))) =
-    plain_shown offset class tag contents (generalized_time m) _ refl is
+AreShown-value offset class tag contents (Moment shown) o (inl (m, is, same)) =
+    AreShown-plain_leaf offset class tag contents (utc_time m) _ refl is (string_bytes shown, same, refl)
+AreShown-value offset class tag contents (Moment shown) o (inr (m, is, (digits, fraction, same))) =
+    AreShown-plain_leaf offset class tag contents (generalized_time m) _ refl is
     (digits, string_bytes shown, fraction, same, refl)
-value_shown offset class tag contents (BerTime shown) o time = as_time time (string_bytes shown) refl refl refl
-value_shown offset class tag contents (Other shown) o ((u, none, has), other) =
-    other_shown offset class tag contents _ u none o has (of_block (no_other class tag contents u other) refl)
-value_shown offset class tag contents (Tagged value) o other =
-    with_value (no_text_tagged class tag other) (narrow_tagged class tag contents other)
+AreShown-value offset class tag contents (BerTime shown) o time = as_time time (string_bytes shown) refl refl refl
+AreShown-value offset class tag contents (Other shown) o ((u, none, has), other) =
+    AreShown-other offset class tag contents _ u none o has
+    (of_block (other_value-none class tag contents u other) refl)
+AreShown-value offset class tag contents (Tagged value) o other =
+    with_value (is_text_type-other_class class tag other) (has_wide_characters-other_class class tag contents other)
     (unknown class false 0 tag contents)
     (λ all header e. Encodes-tagged all contents class false tag header e other o)
-    (of_block (no_other_tagged class tag contents other) refl) refl refl
-value_shown offset class tag contents (NoText shown) o (inl (wide, (kind, characters, is))) =
+    (of_block (other_value-other_class class tag contents other) refl) refl refl
+AreShown-value offset class tag contents (NoText shown) o (inl (wide, (kind, characters, is))) =
     without_characters wide refl refl refl
-value_shown offset class tag contents (NoText shown) o (inr ((u, none, has), others)) =
+AreShown-value offset class tag contents (NoText shown) o (inr ((u, none, has), others)) =
     as_text u has (of_no_text others refl refl) refl

@@ -24,21 +24,22 @@ use Rattle.der_json.specs.Rows.{AreListed, AreRowsAt, IsArray, IsNestedJson, IsO
 use Rattle.der_pieces.specs.Marks.{are_some, breach_of}
 use Rattle.der_json.specs.declared.object.Object.{Object}
 use Rattle.der_json.specs.declared.rows.Problems.{Problems}
-use Rattle.der_json.proofs.Arrays.{all_texts, one_text, some_more}
-use Rattle.der_json.proofs.Pieces.{fault_there}
+use Rattle.der_json.proofs.Arrays.{items_text-put, texts-append_put, are_some-append}
+use Rattle.der_json.proofs.Pieces.{IsKind-offset}
 use Rattle.der_json.proofs.ShownText.{IsBreak-row, shown_text-append, shown_text-more}
 use Rattle.der_json.specs.Shown.{shown_text}
 
 -- what stands inside contents octets
-inside_by :
+IsInside-nested :
     (documents : ℕ) (here : Place) (contents : List ℕ) (offset deep : ℕ) (nested : Option Nested)
     (inside : Option Items) (marks : List Departed) → here.documents ≡ documents → deep ≡ suc here.depth →
     IfSome nested (λ n. (0 < here.documents) × StandAt contents n.before n.octets.now) →
     IsNestedJson here offset nested inside marks → IsInside (AreInside documents) contents offset deep inside marks
-inside_by documents here contents offset deep None inside marks d e holding (is, none) =
+IsInside-nested documents here contents offset deep None inside marks d e holding (is, none) =
     subst (λ z. IsInside (AreInside documents) contents offset deep z marks) (sym is) none
-inside_by zero here contents offset deep (Some n) inside marks d e (more, stand) is = absurd (omega (arith, more, d))
-inside_by (suc k) here contents offset deep (Some n) inside marks d e (more, stand)
+IsInside-nested zero here contents offset deep (Some n) inside marks d e (more, stand) is =
+    absurd (omega (arith, more, d))
+IsInside-nested (suc k) here contents offset deep (Some n) inside marks d e (more, stand)
     (items, is, (rows, are, json, marked)) =
     let fewer : here.documents - 1 ≡ k = omega (arith, d) in
     let moved : AreRows (AreInside k) true n.octets.now (offset + n.before) deep rows =
@@ -67,14 +68,14 @@ pub record RowsTo (strict : Bool) (place : Place) (octets : List ℕ) (walk : Wa
   pub first_is : option_map fault_data found.first ≡ first_fault rows
   pub text_is : Appends a b (shown_text (texts row_json false rows))
 
-pub rows_none :
+pub RowsTo-none :
     (strict : Bool) (place : Place) (octets : List ℕ) (walk : Walk) (found : Problems) (a : Option (List ℕ)) →
     walk.cursor.octets.now ≡ octets →
     walk.place ≡ place →
     ((fronts : List Front) (faults : List ℕ) → IsAhead walk.cursor fronts faults → AreFrontsOf octets fronts faults) →
     found_departures found ≡ [] → option_map fault_data found.first ≡ None →
     RowsTo strict place octets walk false found a a
-rows_none strict place octets walk found a o p ahead none no_fault = record {
+RowsTo-none strict place octets walk found a o p ahead none no_fault = record {
   fronts = [];
   faults = [];
   rows = [];
@@ -89,28 +90,30 @@ rows_none strict place octets walk found a o p ahead none no_fault = record {
   text_is = Appends-nil a;
 }
 
-marks_more : (rs : List Row) (r : Row) → marks_of (rs ++ r ∷ []) ≡ marks_of rs ++ mark_of r
-marks_more [] r = append-nil (mark_of r)
-marks_more (x ∷ xs) r =
-    ap (λ z. mark_of x ++ z) (marks_more xs r) ∙ sym (append_assoc (mark_of x) (marks_of xs) (mark_of r))
+marks_of-append : (rs : List Row) (r : Row) → marks_of (rs ++ r ∷ []) ≡ marks_of rs ++ mark_of r
+marks_of-append [] r = append-nil (mark_of r)
+marks_of-append (x ∷ xs) r =
+    ap (λ z. mark_of x ++ z) (marks_of-append xs r) ∙ sym (append_assoc (mark_of x) (marks_of xs) (mark_of r))
 
-offsets_more : (rs : List Row) (r : Row) → fault_offsets (rs ++ r ∷ []) ≡ fault_offsets rs ++ data_offset r.fault
-offsets_more [] r = append-nil (data_offset r.fault)
-offsets_more (x ∷ xs) r =
-    ap (λ z. data_offset x.fault ++ z) (offsets_more xs r)
+fault_offsets-append : (rs : List Row) (r : Row)
+    → fault_offsets (rs ++ r ∷ []) ≡ fault_offsets rs ++ data_offset r.fault
+fault_offsets-append [] r = append-nil (data_offset r.fault)
+fault_offsets-append (x ∷ xs) r =
+    ap (λ z. data_offset x.fault ++ z) (fault_offsets-append xs r)
     ∙ sym (append_assoc (data_offset x.fault) (fault_offsets xs) (data_offset r.fault))
 
-earlier_after : (a b c : Option FaultData) → earlier_of (earlier_of a b) c ≡ earlier_of a (earlier_of b c)
-earlier_after None b c = refl
-earlier_after (Some x) b c = refl
+earlier_of-assoc : (a b c : Option FaultData) → earlier_of (earlier_of a b) c ≡ earlier_of a (earlier_of b c)
+earlier_of-assoc None b c = refl
+earlier_of-assoc (Some x) b c = refl
 
-earlier_none : (a : Option FaultData) → a ≡ earlier_of a None
-earlier_none None = refl
-earlier_none (Some x) = refl
+earlier_of-None : (a : Option FaultData) → a ≡ earlier_of a None
+earlier_of-None None = refl
+earlier_of-None (Some x) = refl
 
-first_more : (rs : List Row) (r : Row) → earlier_of (first_fault rs) r.fault ≡ first_fault (rs ++ r ∷ [])
-first_more [] r = earlier_none r.fault
-first_more (x ∷ xs) r = earlier_after x.fault (first_fault xs) r.fault ∙ ap (earlier_of x.fault) (first_more xs r)
+first_fault-append : (rs : List Row) (r : Row) → earlier_of (first_fault rs) r.fault ≡ first_fault (rs ++ r ∷ [])
+first_fault-append [] r = earlier_of-None r.fault
+first_fault-append (x ∷ xs) r =
+    earlier_of-assoc x.fault (first_fault xs) r.fault ∙ ap (earlier_of x.fault) (first_fault-append xs r)
 
 data_offset-placed :
     (base offset at : ℕ) (fault : Option PieceFault) (shown : Option FaultData) →
@@ -122,7 +125,7 @@ data_offset-placed base offset at (Some f) shown e o there =
     ap data_offset e ∙ ap (λ z. z ∷ []) (o ∙ ap (λ z. base + z) (sym there))
 
 -- one more
-pub rows_more :
+pub RowsTo-append :
     (strict : Bool) (place : Place) (octets : List ℕ) (old new : Walk) (piece : Piece) (object : Object)
     (inside : Option Items) (listed marks : List Departed) (later : Bool) (found next : Problems)
     (a b comma c : Option (List ℕ))
@@ -137,7 +140,7 @@ pub rows_more :
     option_map fault_data next.first
     ≡ earlier_of (option_map fault_data found.first) (option_map fault_data object.fault) →
     RowsTo strict place octets new true next a c
-rows_more strict place octets old new piece object inside listed marks later found next a b comma c p s o all nested
+RowsTo-append strict place octets old new piece object inside listed marks later found next a b comma c p s o all nested
     put_comma put mm nn =
     let g = front_of p.levels piece in
     let row = row_of object inside marks in
@@ -156,7 +159,7 @@ rows_more strict place octets old new piece object inside listed marks later fou
       has_spare_bits = piece.breaches.has_spare_bits;
       rules = o.rules;
       no_list = λ out. p.no_list ((p.inside ∙ ap (λ z. z.is_inside) s.same_place) ∙ out);
-      inside = inside_by place.documents piece.place
+      inside = IsInside-nested place.documents piece.place
           (slice_range p.left (kind_header piece.kind) (kind_header piece.kind + kind_contents piece.kind))
           (object.offset + object.header) (suc object.depth) piece.nested inside marks
           (p.documents ∙ ap (λ z. z.documents) s.same_place) (ap suc o.depth_is) p.holding nested;
@@ -172,33 +175,33 @@ rows_more strict place octets old new piece object inside listed marks later fou
           (subst (AreFrontsOf octets (s.fronts ++ g ∷ more)) (sym (append_assoc s.faults own others))
           (s.goes_on (g ∷ more) (own ++ others) (p.ahead more others ahead)));
       each = all_zipped_more (IsRowAt place octets) s.fronts s.rows g row s.each is;
-      faults_are = offsets_more s.rows row
+      faults_are = fault_offsets-append s.rows row
           ∙ (ap (λ z. z ++ data_offset row.fault) s.faults_are
           ∙ (ap (λ z. map (λ y. place.base + y) s.faults ++ z)
           (data_offset-placed place.base piece.offset object.offset piece.fault row.fault o.fault_is offset
-          (fault_there p.left piece.offset piece.kind piece.fault p.kind))
+          (IsKind-offset p.left piece.offset piece.kind piece.fault p.kind))
           ∙ sym (map-append (λ y. place.base + y) s.faults own)));
-      some = some_more s.rows row;
+      some = are_some-append s.rows row;
       marks_are = λ is_strict.
           mm is_strict
           ∙ (ap (λ z. found_departures found ++ (marks_at object.offset (map breach_of object.not_der.items) ++ z))
           (all is_strict)
-          ∙ (ap (λ z. z ++ mark_of row) (s.marks_are is_strict) ∙ sym (marks_more s.rows row)));
-      first_is = nn ∙ (ap (λ z. earlier_of z row.fault) s.first_is ∙ first_more s.rows row);
+          ∙ (ap (λ z. z ++ mark_of row) (s.marks_are is_strict) ∙ sym (marks_of-append s.rows row)));
+      first_is = nn ∙ (ap (λ z. earlier_of z row.fault) s.first_is ∙ first_fault-append s.rows row);
       text_is = subst (Appends a c)
           (shown_text-more before own_text later (IsBreak-row row)
-          ∙ ap shown_text (one_text row_json s.rows row later [] before (before ++ comma_if later) _ s.some
+          ∙ ap shown_text (texts-append_put row_json s.rows row later [] before (before ++ comma_if later) _ s.some
           refl refl refl))
           (Appends-trans a comma c (shown_text before ++ comma_if later) (shown_text own_text)
           (Appends-trans a b comma (shown_text before) (comma_if later) s.text_is put_comma) put);
     }
 
 -- all
-pub rows_all :
+pub IsArray-all :
     (strict : Bool) (place : Place) (octets : List ℕ) (walk : Walk) (later : Bool) (found : Problems)
     (a b c : Option (List ℕ)) → RowsTo strict place octets walk later found a b →
     IsAhead walk.cursor [] [] → Appends b c (93 ∷ []) → IsWritten (IsArray strict place octets found) a c
-rows_all strict place octets walk later found a b c s ended e =
+IsArray-all strict place octets walk later found a b c s ended e =
     let all : AreFrontsOf octets s.fronts s.faults =
     subst (λ x. AreFrontsOf octets x s.faults) (append-nil s.fronts)
     (subst (AreFrontsOf octets (s.fronts ++ [])) (append-nil s.faults) (s.goes_on [] [] ended)) in
@@ -208,7 +211,7 @@ rows_all strict place octets walk later found a b c s ended e =
       shown_text (items_text false (items_of row_json s.rows)),
       subst (Appends a c)
           (sym (shown_text-append before (93 ∷ []) refl)
-          ∙ ap shown_text (all_texts row_json s.rows [] before (before ++ 93 ∷ []) refl refl))
+          ∙ ap shown_text (items_text-put row_json s.rows [] before (before ++ 93 ∷ []) refl refl))
           (Appends-trans a b c (shown_text before) (93 ∷ []) s.text_is e),
       (s.rows, are, s.marks_are, s.first_is, refl),
     )

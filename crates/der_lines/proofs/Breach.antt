@@ -61,7 +61,7 @@ are_some-append [] x = refl
 are_some-append (y ∷ xs) x = refl
 
 -- the text of one more was put, of those at an index
-pub put_at :
+pub breaches_text-put_at :
     {A : Type 0} (breach : A → Breach) (rules : List A) (i : ℕ) (d : A) (later : Bool)
     (before middle comma after : List ℕ) →
     i < length rules → later ≡ are_some (map breach (take i rules)) →
@@ -69,7 +69,7 @@ pub put_at :
     after ≡ comma ++ (breach (get_or rules i d)).text →
     (true ≡ are_some (map breach (take (i + 1) rules)))
     × (after ≡ before ++ breaches_text false (map breach (take (i + 1) rules)))
-put_at breach rules i d later before middle comma after within some m c e =
+breaches_text-put_at breach rules i d later before middle comma after within some m c e =
     let xs = map breach (take i rules) in
     let x = get_or rules i d in
     let y = breach x in

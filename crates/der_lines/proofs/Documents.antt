@@ -21,17 +21,17 @@ verdict_of-append : (offsets : List ℕ) (offset : ℕ) → verdict_of (offsets 
 verdict_of-append [] offset = refl
 verdict_of-append (first ∷ offsets) offset = refl
 
-lines_of_faults :
+AreFaultLines-last :
     (first : Option Fault) (marks faults a b : List ℕ) (verdict : Verdict) → IsFirstFault faults first →
     AreFaultLines marks a → IsLast first marks verdict b →
     AreFaultLines (marks ++ take 1 faults) (a ++ b) × (verdict ≡ verdict_of (marks ++ take 1 faults))
-lines_of_faults None marks faults a b verdict none lines (e, v) =
+AreFaultLines-last None marks faults a b verdict none lines (e, v) =
     let all : marks ++ take 1 faults ≡ marks = ap (λ z. marks ++ take 1 z) none ∙ append-nil marks in
     let same : a ++ b ≡ a = ap (λ z. a ++ z) e ∙ append-nil a in (
       subst (λ z. AreFaultLines z (a ++ b)) (sym all) (subst (AreFaultLines marks) (sym same) lines),
       v ∙ ap verdict_of (sym all),
     )
-lines_of_faults (Some fault) marks faults a b verdict (later, is) lines (v, last) =
+AreFaultLines-last (Some fault) marks faults a b verdict (later, is) lines (v, last) =
     let all : marks ++ take 1 faults ≡ marks ++ fault.offset ∷ [] = ap (λ z. marks ++ take 1 z) is in (
       subst (λ z. AreFaultLines z (a ++ b)) (sym all)
           (AreFaultLines-append marks (fault.offset ∷ []) a b lines (AreFaultLines-one fault.offset b last)),
@@ -62,17 +62,17 @@ AreMarked-outermost place octets fronts marks i z marked =
     subst (λ y. AreMarked (StandsInside 0 octets) (counted y fronts) marks) i
     (subst (λ y. AreMarked (StandsInside y octets) (counted place.is_inside fronts) marks) z marked)
 
-some_text :
+IsDumpOfSome-append :
     (place : Place) (strict : Bool) (octets : List ℕ) (most : Option ℕ) (found : Problems) (marks : List Marked)
     (x y w rest : List ℕ) (v : Verdict) → place.is_inside ≡ false → place.base ≡ 0 → place.most_depth ≡ most →
     marks ≡ found.marks.items → IsWholeDump strict place octets found x → rest ≡ y ++ w →
     AreFaultLines (mark_offsets marks) y → IsLast found.fault (mark_offsets marks) v w →
     IsDumpOfSome strict most octets v (x ++ rest)
-some_text place strict octets most found marks x y w rest v i z m these put same lines last =
+IsDumpOfSome-append place strict octets most found marks x y w rest v i z m these put same lines last =
     let wrong : mark_offsets marks ++ take 1 put.faults ≡ wrong_offsets strict put.marks put.faults =
     ap (λ z. mark_offsets z ++ take 1 put.faults) these
     ∙ (ap (λ z. z ++ take 1 put.faults) put.kept ∙ wrong_offsets-kept strict put.marks put.faults) in
-    let (all, is) = lines_of_faults found.fault (mark_offsets marks) put.faults y w v put.first lines last in (
+    let (all, is) = AreFaultLines-last found.fault (mark_offsets marks) put.faults y w v put.first lines last in (
       put.fronts,
       put.faults,
       put.marks,
@@ -86,7 +86,7 @@ some_text place strict octets most found marks x y w rest v i z m these put same
       is ∙ ap verdict_of wrong,
     )
 
-pub some_put :
+pub IsDumpOfSome-put :
     {W : Type 0} (contents : W → Option (List ℕ)) (place : Place) (strict : Bool) (octets : List ℕ) (most : Option ℕ)
     (found : Problems) (marks : List Marked)
     (a b c d : Printer W) (verdict : Result Verdict StreamFault) → place.is_inside ≡ false → place.base ≡ 0 →
@@ -95,10 +95,11 @@ pub some_put :
     IsPrinted contents (AreFaultLines (mark_offsets marks)) b c →
     IfOk verdict (λ v. IsPrinted contents (IsLast found.fault (mark_offsets marks) v) c d) →
     IfOk verdict (λ v. IsPrinted contents (IsDumpOfSome strict most octets v) a d)
-some_put contents place strict octets most found marks a b c d (Err e) i z m these put lines last = last
-some_put contents place strict octets most found marks a b c d (Ok v) i z m these put lines last =
+IsDumpOfSome-put contents place strict octets most found marks a b c d (Err e) i z m these put lines last = last
+IsDumpOfSome-put contents place strict octets most found marks a b c d (Ok v) i z m these put lines last =
     IsPrinted-append contents _ _ (IsDumpOfSome strict most octets v) a b d
-    (λ x rest dump (y, w, is, are, end). some_text place strict octets most found marks x y w rest v i z m these dump is
+    (λ x rest dump (y, w, is, are, end). IsDumpOfSome-append place strict octets most found marks x y w rest v i z m
+    these dump is
     are end)
     put
     (IsPrinted-append contents _ _

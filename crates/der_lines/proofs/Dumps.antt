@@ -47,20 +47,20 @@ IsDump-unless P false true f text e i = no_lines refl e
 IsDump-unless P false false f text (line, e, l) i = block_line f [] line [] refl e l (no_lines refl refl)
 
 -- the row of a piece was printed, or nothing where it stands too deep
-pub nothing_deep :
+pub IsPrintedAs-deep :
     {W : Type 0} (contents : W → Option (List ℕ)) (deep inside : Bool) (f : Front) (faults : List Bool)
     (a : Printer W) →
     deep ≡ true → IsPrintedAs contents (if deep then [] else faults) (IsLineUnless deep inside f) a a
-nothing_deep contents true inside f faults a e = ([], Prints-nil contents a, refl)
-nothing_deep contents false inside f faults a e = absurd (cc e)
+IsPrintedAs-deep contents true inside f faults a e = ([], Prints-nil contents a, refl)
+IsPrintedAs-deep contents false inside f faults a e = absurd (cc e)
 
-pub row_printed :
+pub IsPrintedAs-row :
     {W : Type 0} (contents : W → Option (List ℕ)) (deep inside : Bool) (row : Row) (f : Front) (faults : List Bool)
     (a b : Printer W) → deep ≡ false → Prints contents faults (row_line row ++ 10 ∷ []) a b →
     IsLineOf inside f (row_line row) →
     IsPrintedAs contents (if deep then [] else faults) (IsLineUnless deep inside f) a b
-row_printed contents true inside row f faults a b e prints line = absurd (cc e)
-row_printed contents false inside row f faults a b e prints line =
+IsPrintedAs-row contents true inside row f faults a b e prints line = absurd (cc e)
+IsPrintedAs-row contents false inside row f faults a b e prints line =
     (row_line row ++ 10 ∷ [], prints, (row_line row, refl, line))
 
 outer-one :
@@ -111,13 +111,13 @@ abbrev pub row_text : Row → List ℕ
 row_text row = on_one_line row.value.now ++ on_one_line (fault_message row)
 
 -- the line of a row
-row_block :
+IsBlockLine-row :
     (row : Row) (f : Front) → row.offset ≡ f.offset → row.header ≡ f.header → row.contents ≡ f.contents →
     row.is_indefinite ≡ f.indefinite → row.depth ≡ f.depth → on_one_line row.type_name.now ≡ f.type_name →
     on_one_line row.mark.now ≡ mark_text (breaches_of f.rules f.has_spare_bits) →
     IfSome f.meaning (λ meaning. IsMeaningText meaning (row_text row)) → (width : ℕ) (line : List ℕ) →
     line ≡ right_of width row.offset ++ row_rest row → IsBlockLine f line
-row_block row f o h c i d w m v width line is =
+IsBlockLine-row row f o h c i d w m v width line is =
     let field = on_one_line row.field.now in
     let value = on_one_line row.value.now in
     let fault = on_one_line (fault_message row) in
@@ -141,21 +141,21 @@ row_block row f o h c i d w m v width line is =
       mark_is = m;
     }
 
-pub row_line_of :
+pub row_line-front :
     (inside : Bool) (row : Row) (f : Front) → row.is_inside ≡ inside → row.offset ≡ f.offset → row.header ≡ f.header →
     row.contents ≡ f.contents → row.is_indefinite ≡ f.indefinite → row.depth ≡ f.depth →
     on_one_line row.type_name.now ≡ f.type_name →
     on_one_line row.mark.now ≡ mark_text (breaches_of f.rules f.has_spare_bits) →
     IfSome f.meaning (λ meaning. IsMeaningText meaning (row_text row)) → IsLineOf inside f (row_line row)
-row_line_of true row f q o h c i d w m v =
+row_line-front true row f q o h c i d w m v =
     let shown = right_of 6 row.offset ++ row_rest row in
     record {
       shown = shown;
       line_is = rw q (simp append_assoc);
-      block = row_block row f o h c i d w m v 6 shown refl;
+      block = IsBlockLine-row row f o h c i d w m v 6 shown refl;
     }
-row_line_of false row f q o h c i d w m v =
-    row_block row f o h c i d w m v 7 (row_line row) (rw q (simp append_assoc))
+row_line-front false row f q o h c i d w m v =
+    IsBlockLine-row row f o h c i d w m v 7 (row_line row) (rw q (simp append_assoc))
 
 -- octets among octets among octets
 drop-append : (n : ℕ) (xs ys : List ℕ) → (zs : List ℕ) × (drop n (xs ++ ys) ≡ drop n xs ++ zs)
@@ -211,10 +211,10 @@ mark_text-some : (breaches : List Breach) → 0 < length breaches →
 mark_text-some [] some = absurd (omega (arith, some))
 mark_text-some (x ∷ breaches) some = refl
 
-pub mark_put :
+pub mark_text-put :
     (a b c d : List ℕ) (breaches : List Breach) → 0 < length breaches → b ≡ a ++ codes " (not DER: " →
     c ≡ b ++ breaches_text false breaches → d ≡ c ++ 41 ∷ [] → d ≡ a ++ mark_text breaches
-mark_put a b c d breaches some p q r =
+mark_text-put a b c d breaches some p q r =
     let whole : d ≡ a ++ (codes " (not DER: " ++ (breaches_text false breaches ++ codes ")")) =
     rw (r, q, p) (simp append_assoc) in
     whole ∙ ap (λ z. a ++ z) (sym (mark_text-some breaches some))

@@ -38,11 +38,11 @@ pub record ShownTo (place : Place) (octets : List ℕ) (walk : Walk) (first : Op
   pub marked : AreMarked (IsSoFar place.base octets fronts) (counted place.is_inside fronts) marks
   pub dump : IsDump (IsSoFar place.base octets fronts) (outer place.is_inside place.most_depth fronts) text
 
-pub shown_none :
+pub ShownTo-none :
     (place : Place) (octets : List ℕ) (walk : Walk) → walk.cursor.octets.now ≡ octets → walk.place ≡ place →
     ((fronts : List Front) (faults : List ℕ) → IsAhead walk.cursor fronts faults → AreFrontsOf octets fronts faults) →
     ShownTo place octets walk None [] []
-shown_none place octets walk o p ahead = record {
+ShownTo-none place octets walk o p ahead = record {
   fronts = [];
   faults = [];
   same_octets = o;
@@ -54,18 +54,19 @@ shown_none place octets walk o p ahead = record {
 }
 
 -- the first line
-line_is :
+IsDump-same_front :
     (P : Front → Type 0) (inside : Bool) (most : Option ℕ) (f g : Front) (text : List ℕ) → (inside ≡ false → f ≡ g) →
     IsDump P (outer inside most (f ∷ [])) text → IsDump P (outer inside most (g ∷ [])) text
-line_is P true most f g text e dump = dump
-line_is P false most f g text e dump = subst (λ z. IsDump P (outer false most (z ∷ [])) text) (e refl) dump
+IsDump-same_front P true most f g text e dump = dump
+IsDump-same_front P false most f g text e dump = subst (λ z. IsDump P (outer false most (z ∷ [])) text) (e refl) dump
 
 -- the first mark
-mark_is :
+AreMarked-same_front :
     (P : Front → Type 0) (inside : Bool) (f g : Front) (marks : List ℕ) → (inside ≡ false → f ≡ g) →
     AreMarked P (counted inside (f ∷ [])) marks → AreMarked P (counted inside (g ∷ [])) marks
-mark_is P true f g marks e marked = marked
-mark_is P false f g marks e marked = subst (λ z. AreMarked P (counted false (z ∷ [])) marks) (e refl) marked
+AreMarked-same_front P true f g marks e marked = marked
+AreMarked-same_front P false f g marks e marked =
+    subst (λ z. AreMarked P (counted false (z ∷ [])) marks) (e refl) marked
 
 IsSoFar-append :
     (base : ℕ) (octets : List ℕ) (fronts : List Front) (g p : Front) → IsSoFar base octets fronts p →
@@ -97,8 +98,8 @@ module _ (place : Place) (octets : List ℕ) (fronts : List Front) (old new : Wa
   inside_is : piece.place.is_inside ≡ place.is_inside
   inside_is = p.inside ∙ ap (λ z. z.is_inside) same
 
-  own_shown : IsSoFar place.base octets one_more (shown_front piece)
-  own_shown =
+  IsSoFar-own : IsSoFar place.base octets one_more (shown_front piece)
+  IsSoFar-own =
       let f = front_of p.levels piece in
       let later : IsLater place.base f (shown_front piece) = record {
         offset = ap (λ z. z + piece.offset) base_is;
@@ -112,8 +113,8 @@ module _ (place : Place) (octets : List ℕ) (fronts : List Front) (old new : Wa
       inl (f, (fronts, [], refl), later)
 
   -- outside of strings it is what the walk came to
-  shown_outside : place.is_inside ≡ false → shown_front piece ≡ front_of p.levels piece
-  shown_outside out =
+  shown_front-outside : place.is_inside ≡ false → shown_front piece ≡ front_of p.levels piece
+  shown_front-outside out =
       let (no_base, no_depth) = outside out in
       let deep : old.place.depth ≡ place.depth = ap (λ z. z.depth) same in
       let rules = piece.breaches.rules.items in
@@ -122,8 +123,8 @@ module _ (place : Place) (octets : List ℕ) (fronts : List Front) (old new : Wa
       ∙ (ap (λ z. kind_front piece.offset z rules spare piece.kind) (omega (arith, p.depth, deep, no_depth))
       ∙ ap (λ z. kind_front piece.offset p.levels rules z piece.kind) (p.no_list (inside_is ∙ out)))
 
-  deeper : (h : Front) → StandsInPiece p.left piece h → IsSoFar place.base octets one_more h
-  deeper h s =
+  IsSoFar-inside : (h : Front) → StandsInPiece p.left piece h → IsSoFar place.base octets one_more h
+  IsSoFar-inside h s =
       let header = kind_header piece.kind in
       let slice = slice_range p.left header (header + kind_contents piece.kind) in
       let further = piece.place.base + (piece.offset + header) in
@@ -134,38 +135,38 @@ module _ (place : Place) (octets : List ℕ) (fronts : List Front) (old new : Wa
       (StandsInside-inside p.left slice (place.base + piece.offset) header further h within (omega (arith, base_is)) s))
 
   -- the line of one more, and those inside it
-  piece_dump :
+  IsDump-piece :
       (strict : Bool) (kept text : List ℕ) → IsPieceDump strict p.left piece kept text →
       IsDump (IsSoFar place.base octets one_more)
       (outer place.is_inside place.most_depth (front_of p.levels piece ∷ [])) text
-  piece_dump strict kept text put =
+  IsDump-piece strict kept text put =
       let f = front_of p.levels piece in
       let g = shown_front piece in
       let P = IsSoFar place.base octets one_more in
-      let rest = IsDump-weaker (StandsInPiece p.left piece) P deeper [] put.rest put.inside in
-      let line = IsDump-start P piece.place.is_inside piece.place.most_depth g put.first put.line own_shown in
+      let rest = IsDump-weaker (StandsInPiece p.left piece) P IsSoFar-inside [] put.rest put.inside in
+      let line = IsDump-start P piece.place.is_inside piece.place.most_depth g put.first put.line IsSoFar-own in
       let here : IsDump P (outer place.is_inside place.most_depth (g ∷ [])) put.first =
       subst (λ z. IsDump P (outer z place.most_depth (g ∷ [])) put.first) inside_is
       (subst (λ z. IsDump P (outer piece.place.is_inside z (g ∷ [])) put.first) (p.most ∙ ap (λ z. z.most_depth) same)
       line) in
-      let first = line_is P place.is_inside place.most_depth g f put.first shown_outside here in
+      let first = IsDump-same_front P place.is_inside place.most_depth g f put.first shown_front-outside here in
       let all = IsDump-append P (outer place.is_inside place.most_depth (f ∷ [])) [] put.first put.rest first rest in
       subst (λ z. IsDump P (outer place.is_inside place.most_depth (f ∷ [])) z) (sym put.text_is)
       (subst (λ z. IsDump P z (put.first ++ put.rest)) (append-nil (outer place.is_inside place.most_depth (f ∷ [])))
       all)
 
   -- the mark of one more, and those inside it
-  piece_marked :
+  AreMarked-piece :
       (marks : List ℕ) → AreMarked (StandsInPiece p.left piece) [] marks →
       AreMarked (IsSoFar place.base octets one_more) (counted place.is_inside (front_of p.levels piece ∷ []))
       (marked_offset (shown_front piece) ++ marks)
-  piece_marked marks marked =
+  AreMarked-piece marks marked =
       let f = front_of p.levels piece in
       let g = shown_front piece in
       let P = IsSoFar place.base octets one_more in
-      let rest = AreMarked-weaker (StandsInPiece p.left piece) P deeper [] marks marked in
-      let first = mark_is P place.is_inside g f (marked_offset g) shown_outside
-      (AreMarked-one P place.is_inside g own_shown) in
+      let rest = AreMarked-weaker (StandsInPiece p.left piece) P IsSoFar-inside [] marks marked in
+      let first = AreMarked-same_front P place.is_inside g f (marked_offset g) shown_front-outside
+      (AreMarked-one P place.is_inside g IsSoFar-own) in
       subst (λ z. AreMarked P z (marked_offset g ++ marks)) (append-nil (counted place.is_inside (f ∷ [])))
       (AreMarked-append P (counted place.is_inside (f ∷ [])) [] (marked_offset g) marks first rest)
 
@@ -183,23 +184,26 @@ abbrev pub ShownKept : Bool → Place → List ℕ → Walk → Option Fault →
 ShownKept strict place octets walk first kept text =
     (marks : List ℕ) × (kept ≡ kept_marks strict marks) × ShownTo place octets walk first marks text
 
-pub shown_more :
+pub ShownKept-append :
     (strict : Bool) (place : Place) (octets : List ℕ) (old new : Walk) (piece : Piece) (first : Option Fault)
     (kept more_kept inside text own : List ℕ) (p : Passes old new piece) →
     more_kept ≡ kept ++ (kept_marks strict (marked_offset (shown_front piece)) ++ inside) →
     (place.is_inside ≡ false → (place.base ≡ 0) × (place.depth ≡ 0)) →
     ShownKept strict place octets old first kept text → IsPieceDump strict p.left piece inside own →
     ShownKept strict place octets new (earlier_fault first piece.fault) more_kept (text ++ own)
-shown_more strict place octets old new piece first kept more_kept inside text own p put_kept outside (marks, e, s) put =
+ShownKept-append strict place octets old new piece first kept more_kept inside text own p put_kept outside
+    (marks, e, s) put =
     let g = front_of p.levels piece in
     let faults = fault_offset piece.fault in
     let P = IsSoFar place.base octets (s.fronts ++ g ∷ []) in
     let (marks_inside, marked, kept_inside) = put.marked in
     let own_mark = marked_offset (shown_front piece) in
     let all_marks = marks ++ (own_mark ++ marks_inside) in
-    let one = piece_dump place octets s.fronts old new piece p s.same_place s.same_octets outside strict inside own put
+    let one =
+    IsDump-piece place octets s.fronts old new piece p s.same_place s.same_octets outside strict inside own put
     in
-    let mark = piece_marked place octets s.fronts old new piece p s.same_place s.same_octets outside marks_inside marked
+    let mark =
+    AreMarked-piece place octets s.fronts old new piece p s.same_place s.same_octets outside marks_inside marked
     in
     let weaker : (q : Front) → IsSoFar place.base octets s.fronts q → P q =
     λ q h. IsSoFar-append place.base octets s.fronts g q h in
@@ -236,11 +240,11 @@ shown_more strict place octets old new piece first kept more_kept inside text ow
       },
     )
 
-closed :
+StandsInside-so_far :
     (base : ℕ) (octets : List ℕ) (fronts : List Front) (faults : List ℕ) (p : Front) →
     AreFrontsOf octets fronts faults →
     IsSoFar base octets fronts p → StandsInside base octets p
-closed base octets fronts faults p read (inl (f, (earlier, others, e), l)) =
+StandsInside-so_far base octets fronts faults p read (inl (f, (earlier, others, e), l)) =
     let o : p.offset ≡ base + f.offset = l.offset in
     record {
       before = 0;
@@ -263,14 +267,14 @@ closed base octets fronts faults p read (inl (f, (earlier, others, e), l)) =
         meaning = l.meaning;
       };
     }
-closed base octets fronts faults p read (inr inside) = inside
+StandsInside-so_far base octets fronts faults p read (inr inside) = inside
 
-pub shown_all :
+pub IsWholeDump-shown :
     (strict : Bool) (place : Place) (octets : List ℕ) (walk : Walk) (found : Problems) (text : List ℕ) →
     IsAhead walk.cursor [] [] →
     ShownKept strict place octets walk found.fault (mark_offsets found.marks.items) text →
     IsWholeDump strict place octets found text
-shown_all strict place octets walk found text ended (marks, kept, s) =
+IsWholeDump-shown strict place octets walk found text ended (marks, kept, s) =
     let all : AreFrontsOf octets s.fronts s.faults =
     subst (λ x. AreFrontsOf octets x s.faults) (append-nil s.fronts)
     (subst (AreFrontsOf octets (s.fronts ++ [])) (append-nil s.faults) (s.goes_on [] [] ended))
@@ -282,15 +286,17 @@ shown_all strict place octets walk found text ended (marks, kept, s) =
       first = s.first_is;
       marks = marks;
       marked = AreMarked-weaker (IsSoFar place.base octets s.fronts) (StandsInside place.base octets)
-          (λ p h. closed place.base octets s.fronts s.faults p all h) (counted place.is_inside s.fronts) marks s.marked;
+          (λ p h. StandsInside-so_far place.base octets s.fronts s.faults p all h) (counted place.is_inside s.fronts)
+          marks s.marked;
       kept = kept;
       dump = IsDump-weaker (IsSoFar place.base octets s.fronts) (StandsInside place.base octets)
-          (λ p h. closed place.base octets s.fronts s.faults p all h) (outer place.is_inside place.most_depth s.fronts)
+          (λ p h. StandsInside-so_far place.base octets s.fronts s.faults p all h)
+          (outer place.is_inside place.most_depth s.fronts)
           text s.dump;
     }
 
 -- the lines of encodings inside contents octets, and their marks that are kept
-pub nested_adds :
+pub IsNestedDump-inside :
     {W : Type 0} (held : W → Option (List ℕ)) (strict : Bool) (inside : Place) (left : List ℕ) (piece : Piece)
     (octets : List ℕ) (before : ℕ) (found : Problems) (a b : Printer W) →
     StandAt (slice_range left (kind_header piece.kind) (kind_header piece.kind + kind_contents piece.kind)) before
@@ -298,23 +304,24 @@ pub nested_adds :
     inside.is_inside ≡ true → inside.base ≡ piece.place.base + (piece.offset + kind_header piece.kind) + before →
     IsPrinted held (IsWholeDump strict inside octets found) a b →
     IsPrinted held (IsNestedDump strict left piece (mark_offsets found.marks.items)) a b
-nested_adds held strict inside left piece octets before found a b stand is_inside further (faults, (text, e, put)) =
+IsNestedDump-inside held strict inside left piece octets before found a b stand is_inside further
+    (faults, (text, e, put)) =
     let header = kind_header piece.kind in
     let base = piece.place.base + (piece.offset + header) in
     let contents = slice_range left header (header + kind_contents piece.kind) in
-    let deeper : (f : Front) → StandsInside inside.base octets f → StandsInPiece left piece f =
+    let IsSoFar-inside : (f : Front) → StandsInside inside.base octets f → StandsInPiece left piece f =
     λ f s. StandsInside-inside contents octets base before inside.base f stand further s in (
       faults,
       (
         text,
         e,
         (
-          IsDump-weaker (StandsInside inside.base octets) (StandsInPiece left piece) deeper [] text
+          IsDump-weaker (StandsInside inside.base octets) (StandsInPiece left piece) IsSoFar-inside [] text
               (subst (λ z. IsDump (StandsInside inside.base octets) (outer z inside.most_depth put.fronts) text)
               is_inside put.dump),
           (
             put.marks,
-            AreMarked-weaker (StandsInside inside.base octets) (StandsInPiece left piece) deeper [] put.marks
+            AreMarked-weaker (StandsInside inside.base octets) (StandsInPiece left piece) IsSoFar-inside [] put.marks
                 (subst (λ z. AreMarked (StandsInside inside.base octets) (counted z put.fronts) put.marks) is_inside
                 put.marked),
             put.kept,

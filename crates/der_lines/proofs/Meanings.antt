@@ -19,17 +19,17 @@ unwrap_or-none text None none = refl
 unwrap_or-none text (Some fault) none = absurd (cc none)
 
 -- the text of a piece of the kind, and its message
-kind_shown :
+IsMeaningText-kind :
     (style : ValueStyle) (kind : PieceKind) (value text message : List ℕ) (name : Option (List ℕ)) →
     IsKindText style kind value → text ≡ value ++ parenthesized_if name →
     IfSome (kind_meaning kind) (λ _. message ≡ []) →
     IfSome (kind_meaning kind) (λ meaning. IsMeaningText meaning (on_one_line text ++ on_one_line message))
-kind_shown style (EndOfContents size) value text message name is e none = tt
-kind_shown style (Unreadable octets) value text message name is e none = tt
-kind_shown style (Cut header contents) value text message name is e none = tt
-kind_shown style (Opened header contents joined) value text message name is e none = tt
-kind_shown style (Leaf header contents None) value text message name is e none = tt
-kind_shown style (Leaf header contents (Some v)) value text message name is e none = record {
+IsMeaningText-kind style (EndOfContents size) value text message name is e none = tt
+IsMeaningText-kind style (Unreadable octets) value text message name is e none = tt
+IsMeaningText-kind style (Cut header contents) value text message name is e none = tt
+IsMeaningText-kind style (Opened header contents joined) value text message name is e none = tt
+IsMeaningText-kind style (Leaf header contents None) value text message name is e none = tt
+IsMeaningText-kind style (Leaf header contents (Some v)) value text message name is e none = record {
   style = style;
   value = value;
   name = name;
@@ -39,12 +39,12 @@ kind_shown style (Leaf header contents (Some v)) value text message name is e no
 }
 
 -- what stands behind the type in the row of a piece, with the message of the row's fault
-pub piece_shown :
+pub IsMeaningText-piece :
     {A : Type 0} (text_of : A → List ℕ) (piece : Piece) (text : List ℕ) (fault : Option A) → IsPieceText piece text →
     IfSome (kind_meaning piece.kind) (λ _. piece.fault ≡ None) → is_some fault ≡ is_some piece.fault →
     IfSome (kind_meaning piece.kind) (λ meaning.
     IsMeaningText meaning (on_one_line text ++ on_one_line (unwrap_or (option_map text_of fault) [])))
-piece_shown text_of piece text fault (style, value, name, of, is, e) right same =
-    kind_shown style piece.kind value text (unwrap_or (option_map text_of fault) []) name is e
+IsMeaningText-piece text_of piece text fault (style, value, name, of, is, e) right same =
+    IsMeaningText-kind style piece.kind value text (unwrap_or (option_map text_of fault) []) name is e
     (IfSome-weaker (kind_meaning piece.kind) _ _
     (λ m none. unwrap_or-none text_of fault (same ∙ ap is_some none)) right)

@@ -6,7 +6,7 @@ use Rattle.serde_json.specs.Written.{items_text}
 use Rattle.der_json.specs.Json.{AreInside, AreRows, AreRowsOf, items_of, row_json, rows_text, origin_data}
 use Rattle.der_json.specs.Rows.{end_text}
 use Rattle.der_json.specs.Shown.{shown_text}
-use Rattle.der_json.proofs.Lines.{document_line}
+use Rattle.der_json.proofs.Lines.{rows_text-parts}
 use Rattle.der_json.proofs.line.push_blocks.Goals as goal
 
 pub returns : goal.returns
@@ -23,7 +23,7 @@ returns g c =
     let ended : Appends begun after (items ++ end) =
     Appends-trans begun filled after items end (subst (Appends begun filled) is put) c.in_ok-write_end.ensures in
     let line : Appends out after (rows_text rows origin) =
-    subst (Appends out after) (document_line origin rows)
+    subst (Appends out after) (rows_text-parts origin rows)
     (Appends-trans out begun after name (items ++ end) c.in_ok-write_part.ensures.written ended) in
     let o = c.outermost.ensures in
     let octets = c.args.octets.now in

@@ -4,16 +4,16 @@ use Rattle.std.proofs.KnownBytes.{Appends-trans}
 use Rattle.std.specs.Io.KnownBytes.{Appends}
 use Rattle.std.specs.Option.{is_none}
 use Rattle.der_json.specs.Json.{first_fault, first_text, origin_data}
-use Rattle.der_json.proofs.Lines.{none_there, put_alone}
+use Rattle.der_json.proofs.Lines.{nil-from_eqb_length, append-to_nil}
 use Rattle.der_json.proofs.line.push_json.Goals as goal
 
 pub returns-then-is_empty : goal.returns-then-is_empty
 returns-then-is_empty g c =
     let (text, put, empty) = c.in_ok-push_empty.ensures in (
       text,
-      subst (Appends _ _) (c.deref.ensures.value ∙ put_alone _ text _ c.new-line.ensures.items put)
+      subst (Appends _ _) (c.deref.ensures.value ∙ append-to_nil _ text _ c.new-line.ensures.items put)
           c.in_ok-write_part.ensures.written,
-      inr (none_there c.args.octets.now (sym c.is_empty.ensures ∙ c.if-is_empty.true), refl, empty),
+      inr (nil-from_eqb_length c.args.octets.now (sym c.is_empty.ensures ∙ c.if-is_empty.true), refl, empty),
     )
 
 pub returns : goal.returns
@@ -24,7 +24,7 @@ returns g c =
     let after = g.W.Write.contents c.write_part-2.new.w in
     let (text, put, (rows, are, marks, first, is)) = c.in_ok-found.ensures in
     let last = first_text (first_fault rows) origin in
-    let first_put = put_alone _ (first_text _ origin) _ c.new-line.ensures.items c.in_ok-is_right.ensures.text
+    let first_put = append-to_nil _ (first_text _ origin) _ c.new-line.ensures.items c.in_ok-is_right.ensures.text
     ∙ ap (λ z. first_text z origin) first in
     let ended : Appends middle after last =
     subst (Appends middle after) (c.deref-2.ensures.value ∙ first_put) c.in_ok-write_part-2.ensures.written in (

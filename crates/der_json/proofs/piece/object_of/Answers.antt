@@ -1,6 +1,6 @@
 -- For `piece::object_of`: what it returns is right.
 use Rattle.std.proofs.Common.{refl}
-use Rattle.der_json.proofs.Pieces.{row_is}
+use Rattle.der_json.proofs.Pieces.{IsRowOf-kind}
 use Rattle.der_json.proofs.piece.object_of.Goals as goal
 
 pub returns : goal.returns
@@ -11,7 +11,7 @@ returns c = λ left kind.
       offset_is = c.in_ok-offset.ensures;
       header_is = c.header_size.ensures;
       depth_is = refl;
-      row = λ depth inside marks. row_is left piece.offset depth piece.breaches.rules.items
+      row = λ depth inside marks. IsRowOf-kind left piece.offset depth piece.breaches.rules.items
           (record {
             offset = _;
             header = _;

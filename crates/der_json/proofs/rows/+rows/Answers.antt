@@ -7,11 +7,11 @@ use Rattle.der_json.specs.Json.{AreInside, AreRows, items_of, marks_of, row_json
 use Rattle.der_json.specs.Rows.{IsNestedJson, blocks_text, first_members, last_members, departures_of}
 use Rattle.der_pieces.specs.Pieces.{Passes}
 use Rattle.der_pieces.specs.Steps.{IsAhead}
-use Rattle.der_json.proofs.Members.{blocks_put, object_text}
+use Rattle.der_json.proofs.Members.{blocks_text-put, compact_text-row_json}
 use Rattle.der_json.proofs.ShownText.{shown_text-blocks, shown_text-object}
 use Rattle.der_json.specs.Shown.{shown_text}
 use Rattle.serde_json.specs.Written.{items_text}
-use Rattle.der_json.proofs.Walk.{rows_all, rows_more, rows_none}
+use Rattle.der_json.proofs.Walk.{IsArray-all, RowsTo-append, RowsTo-none}
 use Rattle.der_json.proofs.rows.+rows.Goals as goal
 
 pub push_object-returns : goal.push_object-returns
@@ -39,7 +39,8 @@ push_object-returns g t c =
       stands,
       subst (Appends before after)
           (shown_text-object (first ++ last) inside
-          ∙ ap shown_text (append_assoc first last (blocks ++ 125 ∷ []) ∙ object_text object inside marks)) whole,
+          ∙ ap shown_text (append_assoc first last (blocks ++ 125 ∷ []) ∙ compact_text-row_json object inside marks))
+          whole,
     )
 
 pub push_nested-returns-in_default : goal.push_nested-returns-in_default
@@ -81,14 +82,14 @@ push_nested-returns g t c =
           (items, refl, (rows, moved, refl, refl)),
       subst (Appends before after)
           (ap (λ z. name ++ z) is
-          ∙ (shown_text-blocks all ∙ ap shown_text (blocks_put [] name (name ++ all) items refl refl)))
+          ∙ (shown_text-blocks all ∙ ap shown_text (blocks_text-put [] name (name ++ all) items refl refl)))
           (Appends-trans before middle after name text c.in_ok-write_part.ensures.written put),
     )
 
 pub push_rows-loop-walk-init : goal.push_rows-loop-walk-init
 push_rows-loop-walk-init g t c =
     let o = c.in_ok-walk.ensures in
-    rows_none c.args.is_strict c.args.place c.args.octets.now c.in_ok-walk.walk _ (g.W.Write.contents c.args.out.now)
+    RowsTo-none c.args.is_strict c.args.place c.args.octets.now c.in_ok-walk.walk _ (g.W.Write.contents c.args.out.now)
     o.octets o.place o.ahead (ap departures_of c.new.ensures.items) refl
 
 pub push_rows-loop-walk-preserved : goal.push_rows-loop-walk-preserved
@@ -97,7 +98,7 @@ push_rows-loop-walk-preserved g t c =
     let p : Passes c.loop-walk.walk c.next.new.self piece = rw c.in-Some.is at c.in_ok-piece.ensures.passes in
     let (inside, marks, listed, nested, put) = c.in_ok-inside.ensures in
     let k = c.in_ok-keep.ensures in
-    rows_more c.args.is_strict c.args.place c.args.octets.now c.loop-walk.walk c.next.new.self piece
+    RowsTo-append c.args.is_strict c.args.place c.args.octets.now c.loop-walk.walk c.next.new.self piece
     c.in_ok-object.object inside (departures_of c.in_ok-inside.inside.items) marks
     c.loop-walk.is_later c.loop-walk.found c.keep.new.self (g.W.Write.contents c.args.out.now)
     (g.W.Write.contents c.loop-walk.out) (g.W.Write.contents c.write_part.new.w)
@@ -109,6 +110,6 @@ push_rows-loop-walk-preserved g t c =
 pub push_rows-returns : goal.push_rows-returns
 push_rows-returns g t c =
     let ended : IsAhead c.loop-walk.walk.cursor [] [] = rw c.in_default.is at c.in_ok-piece.ensures.passes in
-    rows_all c.args.is_strict c.args.place c.args.octets.now c.loop-walk.walk c.loop-walk.is_later c.loop-walk.found
+    IsArray-all c.args.is_strict c.args.place c.args.octets.now c.loop-walk.walk c.loop-walk.is_later c.loop-walk.found
     (g.W.Write.contents c.args.out.now) (g.W.Write.contents c.loop-walk.out) (g.W.Write.contents c.write_part-2.new.w)
     c.loop-walk.invariant ended c.in_ok-write_part-2.ensures.written

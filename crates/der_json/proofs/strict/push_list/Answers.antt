@@ -3,8 +3,8 @@ use Rattle.std.proofs.Common.{[], append-nil, arith, refl, subst, sym, ◌≡◌
 use Rattle.std.proofs.lemmas.List.{take_all}
 use Rattle.der_json.specs.Json.{departed_json}
 use Rattle.der_json.specs.Rows.{departed_of, texts, departures_of}
-use Rattle.der_json.proofs.Arrays.{all_texts, one_read}
-use Rattle.der_json.proofs.Members.{put_same}
+use Rattle.der_json.proofs.Arrays.{items_text-put, texts-append_read}
+use Rattle.der_json.proofs.Members.{append-same_value}
 use Rattle.der_json.proofs.strict.push_list.Goals as goal
 
 pub loop-mark-init : goal.loop-mark-init
@@ -13,11 +13,11 @@ loop-mark-init c = record { some = refl; put = sym (append-nil c.args.out.now.it
 pub loop-mark-preserved : goal.loop-mark-preserved
 loop-mark-preserved c =
     let (some, put) =
-    one_read departed_json departed_of c.args.marks.now c.loop-mark.mark-index _ c.loop-mark.is_later
+    texts-append_read departed_json departed_of c.args.marks.now c.loop-mark.mark-index _ c.loop-mark.is_later
     c.args.out.now.items c.loop-mark.out.items
     c.push_comma.new.out.items c.push_member.new.out.items c.loop-mark-test.true c.loop-mark.invariant.some
     c.loop-mark.invariant.put c.in_ok-push_comma.ensures
-    (put_same _ [] _ _ _ c.in_ok-push_member.ensures c.in_ok-object.ensures) in
+    (append-same_value _ [] _ _ _ c.in_ok-push_member.ensures c.in_ok-object.ensures) in
     record { some = some; put = put }
 
 pub returns : goal.returns
@@ -26,5 +26,5 @@ returns c =
     let out = c.args.out.now.items in
     let put = subst (λ z. c.loop-mark.out.items ≡ out ++ texts departed_json false (departures_of z))
     (take_all c.loop-mark.mark-index marks (omega arith)) c.loop-mark.invariant.put in
-    all_texts departed_json (departures_of marks) out c.loop-mark.out.items c.push.new.self.items put
+    items_text-put departed_json (departures_of marks) out c.loop-mark.out.items c.push.new.self.items put
     c.in_ok-push.ensures.items

@@ -8,8 +8,8 @@ use Rattle.der_pieces.specs.Pieces.{Passes, kind_header}
 use Rattle.der_pieces.specs.Steps.{IsAhead}
 use Rattle.der_lines.specs.Steps.{earlier_fault, mark_offsets}
 use Rattle.der_rows.proofs.Printed.{IsPrinted-append, IsPrinted-nil, IsPrinted-weaker}
-use Rattle.der_lines.proofs.Fronts.{ShownKept, kept_marks-nil, shown_all, shown_more, shown_none}
-use Rattle.der_lines.proofs.Fronts.{nested_adds}
+use Rattle.der_lines.proofs.Fronts.{ShownKept, kept_marks-nil, IsWholeDump-shown, ShownKept-append, ShownTo-none}
+use Rattle.der_lines.proofs.Fronts.{IsNestedDump-inside}
 use Rattle.der_lines.proofs.encodings.+encodings.Goals as goal
 
 pub push_encodings-loop-walk-init : goal.push_encodings-loop-walk-init
@@ -19,7 +19,7 @@ push_encodings-loop-walk-init g t c =
     (ShownKept c.args.is_strict c.args.place c.args.octets.now c.in_ok-walk.walk None _) c.args.printer.now (
       [],
       ap mark_offsets c.new.ensures.items ∙ sym (kept_marks-nil c.args.is_strict),
-      shown_none c.args.place c.args.octets.now c.in_ok-walk.walk o.octets o.place o.ahead,
+      ShownTo-none c.args.place c.args.octets.now c.in_ok-walk.walk o.octets o.place o.ahead,
     )
 
 pub push_encodings-loop-walk-preserved : goal.push_encodings-loop-walk-preserved
@@ -33,7 +33,7 @@ push_encodings-loop-walk-preserved g t c =
     let all = IsPrinted-append g.W.Write.contents _ _ (ShownKept c.args.is_strict place octets c.next.new.self
     (earlier_fault found.fault piece.fault) _)
     c.args.printer.now c.loop-walk.printer c.push_piece.new.printer
-    (λ text own s put. shown_more c.args.is_strict place octets c.loop-walk.walk c.next.new.self piece found.fault
+    (λ text own s put. ShownKept-append c.args.is_strict place octets c.loop-walk.walk c.next.new.self piece found.fault
     _ _ _ text own p
     k.marks
     c.requires s put) c.loop-walk.invariant (c.in_ok-inside.ensures p.left p.holding)
@@ -44,7 +44,8 @@ pub push_encodings-returns : goal.push_encodings-returns
 push_encodings-returns g t c =
     let ended : IsAhead c.loop-walk.walk.cursor [] [] = rw c.in_default.is at c.in_ok-piece.ensures.passes in
     IsPrinted-weaker g.W.Write.contents _ _ c.args.printer.now c.loop-walk.printer
-    (λ text. shown_all c.args.is_strict c.args.place c.args.octets.now c.loop-walk.walk c.loop-walk.found text ended)
+    (λ text. IsWholeDump-shown c.args.is_strict c.args.place c.args.octets.now c.loop-walk.walk c.loop-walk.found text
+    ended)
     c.loop-walk.invariant
 
 pub push_nested-returns-in_default : goal.push_nested-returns-in_default
@@ -70,7 +71,8 @@ push_nested-returns g t c = λ left holding.
       c.in_ok-document_offset.ensures,
       c.header_size.ensures,
     ) in
-    nested_adds g.W.Write.contents c.args.is_strict c.in_ok-inside.inside left piece nested.octets.now nested.before
+    IsNestedDump-inside g.W.Write.contents c.args.is_strict c.in_ok-inside.inside left piece nested.octets.now
+    nested.before
     c.in_ok-found.found c.args.printer.now
     c.push_encodings.new.printer stands i.inside base
     c.in_ok-found.ensures

@@ -5,9 +5,9 @@ use Rattle.der_pieces.specs.Fronts.{is_too_deep}
 use Rattle.der_lines.specs.MarkText.{mark_text}
 use Rattle.der_pieces.specs.Marks.{breaches_of}
 use Rattle.der_lines.specs.PieceRows.{IsPieceText, shown_front}
-use Rattle.der_lines.proofs.Dumps.{nothing_deep, row_line_of, row_printed}
-use Rattle.der_lines.proofs.Shown.{mark_shown, type_shown}
-use Rattle.der_lines.proofs.Meanings.{piece_shown}
+use Rattle.der_lines.proofs.Dumps.{IsPrintedAs-deep, row_line-front, IsPrintedAs-row}
+use Rattle.der_lines.proofs.Shown.{IsOneLine-mark_text, IsOneLine-kind_type_name}
+use Rattle.der_lines.proofs.Meanings.{IsMeaningText-piece}
 use Rattle.der_pieces.specs.Pieces.{kind_type_name}
 use Rattle.der_rows.proofs.OneLine.{on_one_line-shown}
 use Rattle.der_rows.specs.Printing.{Prints}
@@ -18,7 +18,7 @@ use Rattle.der_lines.proofs.encodings.push_row.Goals as goal
 pub returns-then-is_too_deep : goal.returns-then-is_too_deep
 returns-then-is_too_deep g c =
     let place = c.args.piece.now.place in
-    nothing_deep g.W.Write.contents (is_too_deep place.most_depth place.depth) place.is_inside
+    IsPrintedAs-deep g.W.Write.contents (is_too_deep place.most_depth place.depth) place.is_inside
     (shown_front c.args.piece.now)
     (is_some c.args.piece.now.fault ∷ []) c.args.printer.now (sym c.is_too_deep.ensures ∙ c.if-is_too_deep.true)
 
@@ -45,14 +45,15 @@ returns g c =
     let text = mark_text (breaches_of piece.breaches.rules.items piece.breaches.has_spare_bits) in
     let mark = c.deref-3.ensures.value ∙ (c.in_ok-push_mark.ensures ∙ ap (λ z. z ++ text) c.new-mark.ensures.items) in
     let mark_line = ap on_one_line mark
-    ∙ on_one_line-shown text (mark_shown piece.breaches.rules.items piece.breaches.has_spare_bits) in
+    ∙ on_one_line-shown text (IsOneLine-mark_text piece.breaches.rules.items piece.breaches.has_spare_bits) in
     let type_line = ap on_one_line c.requires.type_name
-    ∙ on_one_line-shown (kind_type_name piece.kind) (type_shown piece.kind) in
-    row_printed g.W.Write.contents (is_too_deep place.most_depth place.depth) place.is_inside row (shown_front piece)
+    ∙ on_one_line-shown (kind_type_name piece.kind) (IsOneLine-kind_type_name piece.kind) in
+    IsPrintedAs-row g.W.Write.contents (is_too_deep place.most_depth place.depth) place.is_inside row
+    (shown_front piece)
     (is_some piece.fault ∷ [])
     c.args.printer.now c.push.new.self (sym c.is_too_deep.ensures ∙ c.if-is_too_deep.false)
     (subst (λ z. Prints g.W.Write.contents (z ∷ []) (row_line row ++ 10 ∷ []) c.args.printer.now c.push.new.self) fault
     c.in_ok-push.ensures)
-    (row_line_of place.is_inside row (shown_front piece) refl c.in_ok-document_offset.ensures c.header_size.ensures
+    (row_line-front place.is_inside row (shown_front piece) refl c.in_ok-document_offset.ensures c.header_size.ensures
     c.contents_size.ensures c.is_indefinite.ensures refl type_line mark_line
-    (piece_shown (λ message. message.now) piece c.deref-2.result.now row.fault shown c.requires.right fault))
+    (IsMeaningText-piece (λ message. message.now) piece c.deref-2.result.now row.fault shown c.requires.right fault))

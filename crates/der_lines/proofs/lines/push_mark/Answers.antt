@@ -4,7 +4,7 @@ use Rattle.std.proofs.lemmas.Grind.{common_steps}
 use Rattle.std.proofs.lemmas.List.{length-map}
 use Rattle.der_lines.specs.MarkText.{mark_text, breaches_text}
 use Rattle.der_pieces.specs.Marks.{breach_of}
-use Rattle.der_lines.proofs.Dumps.{mark_put, mark_text-none}
+use Rattle.der_lines.proofs.Dumps.{mark_text-put, mark_text-none}
 use Rattle.der_lines.proofs.lines.push_mark.Goals as goal
 
 pub returns-then-is_empty : goal.returns-then-is_empty
@@ -21,7 +21,7 @@ returns c =
     let rules = c.in_ok-rules.rules.items in
     let some : 0 < length rules = grind (arith, common_steps) in
     let there : 0 < length (map breach_of rules) = omega (arith, some, length-map rules breach_of) in
-    mark_put _ _ _ _ (map breach_of rules) there c.in_ok-extend_from_slice.ensures.items
+    mark_text-put _ _ _ _ (map breach_of rules) there c.in_ok-extend_from_slice.ensures.items
     (c.in_ok-push_rules.ensures
     ∙ ap (λ z. c.extend_from_slice.new.self.items ++ breaches_text false (map breach_of z)) c.deref.ensures.value)
     c.in_ok-push.ensures.items

@@ -3,7 +3,7 @@ use Rattle.std.proofs.Common.{◌≡◌, ◌++◌, append-nil, arith, false, map
 use Rattle.std.proofs.lemmas.List.{take_all}
 use Rattle.der_pieces.specs.Marks.{breach_of}
 use Rattle.der_lines.specs.MarkText.{breaches_text}
-use Rattle.der_lines.proofs.Breach.{put_at}
+use Rattle.der_lines.proofs.Breach.{breaches_text-put_at}
 use Rattle.der_lines.proofs.lines.push_rules.Goals as goal
 
 pub loop-rule-init : goal.loop-rule-init
@@ -12,7 +12,7 @@ loop-rule-init c = record { some = refl; put = sym (append-nil c.args.out.now.it
 pub loop-rule-preserved : goal.loop-rule-preserved
 loop-rule-preserved c =
     let (some, put) =
-    put_at breach_of c.args.rules.now c.loop-rule.rule-index _ c.loop-rule.is_later c.args.out.now.items
+    breaches_text-put_at breach_of c.args.rules.now c.loop-rule.rule-index _ c.loop-rule.is_later c.args.out.now.items
     c.loop-rule.out.items c.push_separator.new.out.items c.push_text.new.out.items c.loop-rule-test.true
     c.loop-rule.invariant.some c.loop-rule.invariant.put c.in_ok-push_separator.ensures c.in_ok-push_text.ensures
     in
