@@ -10,7 +10,7 @@ use Rattle.asn1_headers.specs.declared.header.ASN1Class.{ASN1Class}
 use Rattle.asn1_headers.specs.declared.header.ASN1Class.TheVariants.{Universal}
 use Rattle.asn1_headers.proofs.Prefixes.{Encoding-unique, Encoding-not_empty, IsIdentifier-unique, IsLength-unique}
 use Rattle.asn1_der.specs.Der.{AreDerEncodings, more_encodings, no_encodings}
-use Rattle.asn1_der.proofs.Encodings.{length_shortest}
+use Rattle.asn1_der.proofs.Encodings.{IsLengthShortest-der}
 use Rattle.asn1_blocks.specs.Places.{HasNoEncodingAt, IsEncoding}
 use Rattle.asn1_departures.specs.Steps.{IsStep, begins_with_end, is_at_end}
 use Rattle.asn1_departures.specs.Departures.{AreEncodings, IsNext, end_of_contents, is_indefinite, is_open, next, no_more, unended_behind}
@@ -130,7 +130,7 @@ pub AreDerEncodings-are_encodings : (x : List ℕ) (items : List (List ℕ)) →
 AreDerEncodings-are_encodings x items small no_encodings = no_more refl refl
 AreDerEncodings-are_encodings x items small (more_encodings {first = f} {rest = r} {items = is} w d ds) =
     let size : length x ≡ length f + length r = ap length w ∙ length-append f r in
-    let s = length_shortest f (omega (arith, small, size)) d in
+    let s = IsLengthShortest-der f (omega (arith, small, size)) d in
     let n : IsNext 0 x f r = record {
       class = s.found.class;
       constructed = s.found.constructed;

@@ -8,7 +8,7 @@ use Rattle.asn1_headers.proofs.Prefixes.{Encoding-unique, Encoding-not_empty, Is
 use Rattle.asn1_headers.proofs.Shortest.{IsIdentifier-shortest, IsLength-shortest}
 use Rattle.asn1_der.specs.Der.{AreDerEncodings, IsDer, IsDerEncoding, IsRightAlone, IsShortest, more_encodings, no_encodings}
 use Rattle.asn1_der.specs.Steps.{AreDer, IsDerAlone, IsWhole}
-use Rattle.asn1_der.proofs.Encodings.{der_encoding, der_whole, whole_der}
+use Rattle.asn1_der.proofs.Encodings.{Encoding-der, IsWhole-der, IsDerEncoding-whole}
 use Rattle.asn1_departures.specs.Departures.{Found, IsNext, Lists, ListsInside, OwnRules, TypeFound, broken, encoding_listed, encodings_inside, end_listed, is_indefinite, is_looked_into, kept, listed, no_encodings_inside, none_left, nothing_inside, own_departures, unended_behind}
 use Rattle.asn1_departures.specs.Rules.{identifier_rule, type_rule}
 use Rattle.asn1_departures.specs.declared.rule.Departure.{Departure}
@@ -25,9 +25,9 @@ nil_from_append-second : (xs ys : List Departure) → xs ++ ys ≡ [] → ys ≡
 nil_from_append-second [] ys e = e
 nil_from_append-second (x ∷ xs) ys e = absurd cc
 
-none_from_listed : (o : ℕ) (r : Option Rule) → listed o r ≡ [] → r ≡ None
-none_from_listed o None e = refl
-none_from_listed o (Some rule) e = absurd cc
+listed-nil : (o : ℕ) (r : Option Rule) → listed o r ≡ [] → r ≡ None
+listed-nil o None e = refl
+listed-nil o (Some rule) e = absurd cc
 
 Found-none_asked : (Asked : Type 0) (rule : Rule) (found : Option Rule) → Found Asked rule found → found ≡ None → Asked
 Found-none_asked Asked rule found (kept a) e = a
@@ -83,12 +83,12 @@ IsAlone-no_departures :
     (o : ℕ) (x id len : List ℕ) (c : ASN1Class) (k : Bool) (n : ℕ) (v : List ℕ) (r : OwnRules id len c k n v) →
     x ≡ id ++ (len ++ v) → own_departures o r ≡ [] → IsAlone x id len c k n v
 IsAlone-no_departures o x id len c k n v r w e =
-    let id_none = none_from_listed o r.of_identifier
+    let id_none = listed-nil o r.of_identifier
     (nil_from_append-first (listed o r.of_identifier) (listed o r.of_length ++ listed o r.of_type) e) in
     let more = nil_from_append-second (listed o r.of_identifier) (listed o r.of_length ++ listed o r.of_type) e in
-    let len_none = none_from_listed o r.of_length
+    let len_none = listed-nil o r.of_length
     (nil_from_append-first (listed o r.of_length) (listed o r.of_type) more) in
-    let type_none = none_from_listed o r.of_type
+    let type_none = listed-nil o r.of_type
     (nil_from_append-second (listed o r.of_length) (listed o r.of_type) more) in
     let i = Found-none_asked (id ≡ shortest_identifier c k n) (identifier_rule n) r.of_identifier r.identifier_found
     id_none in
@@ -135,7 +135,7 @@ mutual
       ls
       (unended_behind-definite u n.constructed n.encoding.len a.definite ∙ zero) (omega (arith, small, size))
       (nil_from_append-second inside later more) in
-      let d : IsDerEncoding first = whole_der first n.class n.constructed n.tag n.contents (record {
+      let d : IsDerEncoding first = IsDerEncoding-whole first n.class n.constructed n.tag n.contents (record {
         alone = a.alone;
         items = AreDer-none_inside o (o + n.header) (is_looked_into n.constructed n.encoding.len) n.contents inside i
             n.constructed
@@ -189,7 +189,7 @@ AreDer-next x first rest n small (items, no_encodings) =
     ))
 AreDer-next x first rest n small (items, more_encodings {first = f} {rest = r} {items = is} w d ds) =
     let size : length x ≡ length f + length r = ap length w ∙ length-append f r in
-    let (c, k, t, v, h, e) = der_encoding f (omega (arith, small, size)) d in
+    let (c, k, t, v, h, e) = Encoding-der f (omega (arith, small, size)) d in
     let same = Encoding-unique first f n.class c n.constructed k n.tag t n.contents v n.header h rest r n.encoding e
     (sym n.whole ∙ w) in
     record {
@@ -231,7 +231,7 @@ mutual
         length-append n.encoding.len n.contents,
       ) in
       let w : IsWhole first n.class n.constructed n.tag n.contents =
-      der_whole first n.class n.constructed n.tag n.contents n.header (omega (arith, small, size)) n.encoding s.der in
+      IsWhole-der first n.class n.constructed n.tag n.contents n.header (omega (arith, small, size)) n.encoding s.der in
       let short = HasShortest-encoding first n.class n.constructed n.tag n.contents n.header n.encoding
       (omega (arith, small, size)) w.alone.0 in
       let definite : is_indefinite n.encoding.len ≡ false =

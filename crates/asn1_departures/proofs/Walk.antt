@@ -1,8 +1,8 @@
 -- What is left of octets, encoding by encoding.
-use Rattle.std.proofs.Common.{◌≡◌, ℕ, ◌+◌, ◌-◌, ◌<◌, ◌≤◌, Bool, true, false, List, [], ◌∷◌, ◌++◌, drop, length, refl, reverse, sym, ap, ◌∙◌, subst, take, arith, append_assoc, length-append}
+use Rattle.std.proofs.Common.{◌≡◌, ℕ, ◌+◌, ◌-◌, ◌<◌, ◌≤◌, Bool, true, false, List, [], ◌∷◌, ◌++◌, drop, length, refl, sym, ap, ◌∙◌, subst, take, arith, append_assoc, length-append}
 use Rattle.std.specs.List.{slice_range}
 use Rattle.std.specs.Prelude.{suc, if◌then◌else◌, not}
-use Rattle.std.proofs.lemmas.List.{drop_at, reverse-append}
+use Rattle.std.proofs.lemmas.List.{drop_at}
 use Rattle.asn1_headers.specs.Fault.{DecodeFault}
 use Rattle.asn1_departures.proofs.Fronts.{is_at_end-parts, begins_with_end-octets, is_at_end-none_in_front}
 use Rattle.asn1_headers.specs.Header.{Encoding, IsLength}
@@ -149,10 +149,6 @@ pub ListsUpTo-ended :
     ListsUpTo x i (record { end = e; unended = u } ∷ es) later
 ListsUpTo-ended x u i e es later some order within front (a, b, la, lb, w) =
     (a, b, end_listed (omega (arith, some)) (slice_range-end_of_contents x i e order within front).1 la, lb, w)
-
--- the last of what was put is the first of the other way round
-pub reverse-push : (xs ys : List Extent) (e : Extent) → xs ≡ ys ++ e ∷ [] → reverse xs ≡ e ∷ reverse ys
-reverse-push xs ys e h = ap reverse h ∙ reverse-append ys (e ∷ [])
 
 -- nothing is left of what has ended
 pub Lists-none_left : (x : List ℕ) (u i e : ℕ) → u ≡ 0 → i ≡ e → Lists u i (slice_range x i e) []

@@ -50,9 +50,9 @@ get_or-fourteen (a ∷ b ∷ c ∷ d ∷ e ∷ f ∷ g ∷ h ∷ i ∷ j ∷ k �
 get_or-fourteen (a ∷ b ∷ c ∷ d ∷ e ∷ f ∷ g ∷ h ∷ i ∷ j ∷ k ∷ l ∷ m ∷ n ∷ o ∷ more) size = absurd (omega (arith, size))
 
 -- the octets between these others are given
-pub is_within_moment :
+pub IsWithinMoment-whole :
     (found : Bool) (size : ℕ) (front octets end whole : List ℕ) → length octets ≡ size →
     whole ≡ front ++ (octets ++ end) → IsTrue found ↔ IsMoment whole
     → IsTrue found ↔ IsWithinMoment size front octets end
-is_within_moment found size front octets end whole l e h =
+IsWithinMoment-whole found size front octets end whole l e h =
     (λ t. (l, subst IsMoment e (h.0 t)), λ m. h.1 (subst IsMoment (sym e) m.1))

@@ -11,9 +11,9 @@ use Rattle.asn1_der.specs.Der.{AreDerEncodings, IsDerEncoding, IsInOrder, IsRigh
 use Rattle.asn1_der.specs.Steps.{IsWhole}
 
 -- octets in the shortest form are an encoding
-encoding_of_shortest : (x : List ℕ) (c : ASN1Class) (k : Bool) (n : ℕ) (v : List ℕ) → length x < 2 ^ 64
+Encoding-shortest : (x : List ℕ) (c : ASN1Class) (k : Bool) (n : ℕ) (v : List ℕ) → length x < 2 ^ 64
     → IsShortest x c k n v → (h : ℕ) × Encoding x c k n v h
-encoding_of_shortest x c k n v small s =
+Encoding-shortest x c k n v small s =
     let i = shortest_identifier c k n in
     let l = shortest_length (length v) in
     let size : length v < 2 ^ 64 =
@@ -37,21 +37,23 @@ pub record IsSomeWhole (x : List ℕ) : Type 0 where
   pub v : List ℕ
   pub shortest : IsShortest x c k n v
 
-some_whole : (x : List ℕ) → IsDerEncoding x → IsSomeWhole x
-some_whole x (of_primitive_type {tag = n} s r t h) = record { c = Universal; k = false; n = n; v = _; shortest = s }
-some_whole x (of_sequence {tag = n} s t other items d) = record { c = Universal; k = true; n = n; v = _; shortest = s }
-some_whole x (of_set s items d o) = record { c = Universal; k = true; n = 17; v = _; shortest = s }
-some_whole x (of_other_constructed {class = c} {tag = n} other s items d) =
+IsSomeWhole-der : (x : List ℕ) → IsDerEncoding x → IsSomeWhole x
+IsSomeWhole-der x (of_primitive_type {tag = n} s r t h) =
+    record { c = Universal; k = false; n = n; v = _; shortest = s }
+IsSomeWhole-der x (of_sequence {tag = n} s t other items d) =
+    record { c = Universal; k = true; n = n; v = _; shortest = s }
+IsSomeWhole-der x (of_set s items d o) = record { c = Universal; k = true; n = 17; v = _; shortest = s }
+IsSomeWhole-der x (of_other_constructed {class = c} {tag = n} other s items d) =
     record { c = c; k = true; n = n; v = _; shortest = s }
-some_whole x (of_other_primitive {class = c} {tag = n} other s) =
+IsSomeWhole-der x (of_other_primitive {class = c} {tag = n} other s) =
     record { c = c; k = false; n = n; v = _; shortest = s }
 
 -- an encoding of DER is one by its header
-pub der_encoding : (x : List ℕ) → length x < 2 ^ 64 → IsDerEncoding x →
+pub Encoding-der : (x : List ℕ) → length x < 2 ^ 64 → IsDerEncoding x →
     (c : ASN1Class) × (k : Bool) × (n : ℕ) × (v : List ℕ) × (h : ℕ) × Encoding x c k n v h
-der_encoding x small d =
-    let s = some_whole x d in
-    let e = encoding_of_shortest x s.c s.k s.n s.v small s.shortest in
+Encoding-der x small d =
+    let s = IsSomeWhole-der x d in
+    let e = Encoding-shortest x s.c s.k s.n s.v small s.shortest in
     (s.c, s.k, s.n, s.v, e.0, e.1)
 
 -- the length of an encoding has the shortest form
@@ -59,9 +61,9 @@ pub record IsLengthShortest (x : List ℕ) : Type 0 where
   pub found : IsEncoding x
   pub shortest : found.encoding.len ≡ shortest_length (length found.contents)
 
-pub length_shortest : (x : List ℕ) → length x < 2 ^ 64 → IsDerEncoding x → IsLengthShortest x
-length_shortest x small d =
-    let s = some_whole x d in
+pub IsLengthShortest-der : (x : List ℕ) → length x < 2 ^ 64 → IsDerEncoding x → IsLengthShortest x
+IsLengthShortest-der x small d =
+    let s = IsSomeWhole-der x d in
     let i = shortest_identifier s.c s.k s.n in
     let l = shortest_length (length s.v) in
     let size : length s.v < 2 ^ 64 =
@@ -86,28 +88,28 @@ length_shortest x small d =
     }
 
 -- octets have one list of items
-pub items_alone : (x y : List ℕ) (is js : List (List ℕ)) → length x < 2 ^ 64 → x ≡ y → AreDerEncodings x is
+pub AreDerEncodings-unique : (x y : List ℕ) (is js : List (List ℕ)) → length x < 2 ^ 64 → x ≡ y → AreDerEncodings x is
     → AreDerEncodings y js → is ≡ js
-items_alone x y is js small e no_encodings no_encodings = refl
-items_alone x y is js small e no_encodings (more_encodings {first = f} {rest = r} w d ds) =
+AreDerEncodings-unique x y is js small e no_encodings no_encodings = refl
+AreDerEncodings-unique x y is js small e no_encodings (more_encodings {first = f} {rest = r} w d ds) =
     let zero : length (f ++ r) ≡ 0 = ap length (sym w) ∙ ap length (sym e) in
     let z : length f ≡ 0 = omega (arith, zero, length-append f r) in
-    let (c, k, n, v, h, p) = der_encoding f (omega (arith, z)) d in
+    let (c, k, n, v, h, p) = Encoding-der f (omega (arith, z)) d in
     absurd (omega (arith, z, Encoding-not_empty f c k n v h p))
-items_alone x y is js small e (more_encodings {first = f} {rest = r} w d ds) no_encodings =
+AreDerEncodings-unique x y is js small e (more_encodings {first = f} {rest = r} w d ds) no_encodings =
     let zero : length (f ++ r) ≡ 0 = ap length (sym w) ∙ ap length e in
     let z : length f ≡ 0 = omega (arith, zero, length-append f r) in
-    let (c, k, n, v, h, p) = der_encoding f (omega (arith, z)) d in
+    let (c, k, n, v, h, p) = Encoding-der f (omega (arith, z)) d in
     absurd (omega (arith, z, Encoding-not_empty f c k n v h p))
-items_alone x y is js small e (more_encodings {first = f} {rest = r} {items = fs} w d ds)
+AreDerEncodings-unique x y is js small e (more_encodings {first = f} {rest = r} {items = fs} w d ds)
     (more_encodings {first = g} {rest = q} {items = gs} u b bs) =
     let long : length x ≡ length f + length r = ap length w ∙ length-append f r in
     let long' : length x ≡ length g + length q = ap length e ∙ (ap length u ∙ length-append g q) in
-    let (c, k, n, v, h, p) = der_encoding f (omega (arith, long, small)) d in
-    let (c', k', n', v', h', p') = der_encoding g (omega (arith, long', small)) b in
+    let (c, k, n, v, h, p) = Encoding-der f (omega (arith, long, small)) d in
+    let (c', k', n', v', h', p') = Encoding-der g (omega (arith, long', small)) b in
     let same = Encoding-unique f g c c' k k' n n' v v' h h' r q p p' (sym w ∙ (e ∙ u)) in
     let first : f ≡ g = same.octets in
-    let more : fs ≡ gs = items_alone r q fs gs (omega (arith, long, small)) same.rest ds bs in
+    let more : fs ≡ gs = AreDerEncodings-unique r q fs gs (omega (arith, long, small)) same.rest ds bs in
     cc
 
 IsRightAlone-other_class : (c : ASN1Class) (k : Bool) (n : ℕ) (v : List ℕ) → c ≢ Universal → IsRightAlone c k n v
@@ -126,13 +128,13 @@ IsWhole-same_fields x c c' k k' n n' v v' ec ek en ev w =
     (subst (λ z. IsWhole x c' k' z v) (sym en)
     (subst (λ z. IsWhole x c' k' n' z) (sym ev) w)))
 
-whole_of : (x : List ℕ) → length x < 2 ^ 64 → IsDerEncoding x →
+IsWhole-some_fields : (x : List ℕ) → length x < 2 ^ 64 → IsDerEncoding x →
     (c : ASN1Class) × (k : Bool) × (n : ℕ) × (v : List ℕ) × IsWhole x c k n v
-whole_of x small (of_primitive_type {contents = v} {tag = n} s r t h) =
+IsWhole-some_fields x small (of_primitive_type {contents = v} {tag = n} s r t h) =
     (Universal, false, n, v, record { alone = (s, (r, t, h)); items = λ e. absurd cc })
-whole_of x small (of_sequence {contents = v} {tag = n} s t other items d) =
+IsWhole-some_fields x small (of_sequence {contents = v} {tag = n} s t other items d) =
     (Universal, true, n, v, record { alone = (s, (t, λ e. absurd (other e))); items = λ e. (items, d) })
-whole_of x small (of_set {contents = v} s items d o) =
+IsWhole-some_fields x small (of_set {contents = v} s items d o) =
     let i = shortest_identifier Universal true 17 in
     let l = shortest_length (length v) in
     let size : length v < 2 ^ 64 =
@@ -142,31 +144,31 @@ whole_of x small (of_set {contents = v} s items d o) =
       17,
       v,
       record {
-        alone = (s, (refl, λ e others ds. subst IsInOrder (items_alone v v items others size refl d ds) o));
+        alone = (s, (refl, λ e others ds. subst IsInOrder (AreDerEncodings-unique v v items others size refl d ds) o));
         items = λ e. (items, d);
       },
     )
-whole_of x small (of_other_constructed {contents = v} {class = c} {tag = n} other s items d) =
+IsWhole-some_fields x small (of_other_constructed {contents = v} {class = c} {tag = n} other s items d) =
     (c, true, n, v, record { alone = (s, IsRightAlone-other_class c true n v other); items = λ e. (items, d) })
-whole_of x small (of_other_primitive {contents = v} {class = c} {tag = n} other s) =
+IsWhole-some_fields x small (of_other_primitive {contents = v} {class = c} {tag = n} other s) =
     (c, false, n, v, record { alone = (s, IsRightAlone-other_class c false n v other); items = λ e. absurd cc })
 
 -- an encoding of DER is asked for it with the fields of its header
-pub der_whole :
+pub IsWhole-der :
     (x : List ℕ) (c : ASN1Class) (k : Bool) (n : ℕ) (v : List ℕ) (h : ℕ) → length x < 2 ^ 64 → Encoding x c k n v h →
     IsDerEncoding x → IsWhole x c k n v
-der_whole x c k n v h small e d =
-    let (c', k', n', v', w) = whole_of x small d in
-    let (h', e') = encoding_of_shortest x c' k' n' v' small w.alone.0 in
+IsWhole-der x c k n v h small e d =
+    let (c', k', n', v', w) = IsWhole-some_fields x small d in
+    let (h', e') = Encoding-shortest x c' k' n' v' small w.alone.0 in
     let same = Encoding-unique x x c c' k k' n n' v v' h h' [] [] e e' refl in
     IsWhole-same_fields x c c' k k' n n' v v' same.class same.constructed same.tag same.contents w
 
 -- octets with the properties that an encoding of DER has are one
-pub whole_der : (x : List ℕ) (c : ASN1Class) (k : Bool) (n : ℕ) (v : List ℕ) → IsWhole x c k n v
+pub IsDerEncoding-whole : (x : List ℕ) (c : ASN1Class) (k : Bool) (n : ℕ) (v : List ℕ) → IsWhole x c k n v
     → IsDerEncoding x
-whole_der x Universal false n v w =
+IsDerEncoding-whole x Universal false n v w =
     let (shortest, (right, kind, contents)) = w.alone in of_primitive_type shortest right kind contents
-whole_der x Universal true n v w =
+IsDerEncoding-whole x Universal true n v w =
     let (items, d) = w.items refl in
     let (shortest, (group, in_order)) = w.alone in
     let sequence : n ≢ 17 → IsDerEncoding x = λ other. of_sequence shortest group other items d in
@@ -178,12 +180,12 @@ whole_der x Universal true n v w =
             of_set (subst (λ z. IsShortest x Universal true z v) e shortest) items d (in_order e items d)
       ]
     ]
-whole_der x Application true n v w = let (items, d) =
+IsDerEncoding-whole x Application true n v w = let (items, d) =
     w.items refl in of_other_constructed (λ e. cc) w.alone.0 items d
-whole_der x ContextSpecific true n v w = let (items, d) =
+IsDerEncoding-whole x ContextSpecific true n v w = let (items, d) =
     w.items refl in of_other_constructed (λ e. cc) w.alone.0 items d
-whole_der x Private true n v w = let (items, d) =
+IsDerEncoding-whole x Private true n v w = let (items, d) =
     w.items refl in of_other_constructed (λ e. cc) w.alone.0 items d
-whole_der x Application false n v w = of_other_primitive (λ e. cc) w.alone.0
-whole_der x ContextSpecific false n v w = of_other_primitive (λ e. cc) w.alone.0
-whole_der x Private false n v w = of_other_primitive (λ e. cc) w.alone.0
+IsDerEncoding-whole x Application false n v w = of_other_primitive (λ e. cc) w.alone.0
+IsDerEncoding-whole x ContextSpecific false n v w = of_other_primitive (λ e. cc) w.alone.0
+IsDerEncoding-whole x Private false n v w = of_other_primitive (λ e. cc) w.alone.0

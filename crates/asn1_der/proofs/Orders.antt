@@ -9,19 +9,19 @@ use Rattle.asn1_blocks.specs.Places.{EncodingAt, HasNoEncodingAt, IsEncoding}
 use Rattle.asn1_der.specs.Der.{AreDerEncodings, Ascend, more_encodings, no_encodings}
 use Rattle.asn1_der.specs.Steps.{MayFollow, MayStandBefore, behind}
 use Rattle.asn1_der.specs.declared.order.Order.{Order}
-use Rattle.asn1_der.proofs.Encodings.{der_encoding}
+use Rattle.asn1_der.proofs.Encodings.{Encoding-der}
 
 -- encodings of DER are encodings one after another
 pub record AreItems (x : List ℕ) (items : List (List ℕ)) : Type 0 where
   pub all : All IsEncoding items
   pub whole : x ≡ concat items
 
-pub are_items : (x : List ℕ) (items : List (List ℕ)) → length x < 2 ^ 64 → AreDerEncodings x items → AreItems x items
-are_items x items small no_encodings = record { all = All-nil IsEncoding; whole = refl }
-are_items x items small (more_encodings {first = f} {rest = r} {items = is} w d ds) =
+pub AreItems-der : (x : List ℕ) (items : List (List ℕ)) → length x < 2 ^ 64 → AreDerEncodings x items → AreItems x items
+AreItems-der x items small no_encodings = record { all = All-nil IsEncoding; whole = refl }
+AreItems-der x items small (more_encodings {first = f} {rest = r} {items = is} w d ds) =
     let size : length x ≡ length f + length r = ap length w ∙ length-append f r in
-    let (c, k, n, v, h, e) = der_encoding f (omega (arith, small, size)) d in
-    let more = are_items r is (omega (arith, small, size)) ds in
+    let (c, k, n, v, h, e) = Encoding-der f (omega (arith, small, size)) d in
+    let more = AreItems-der r is (omega (arith, small, size)) ds in
     let found : IsEncoding f = record { class = c; constructed = k; tag = n; contents = v; header = h; encoding = e } in
     record { all = All-cons IsEncoding f is found more.all; whole = w ∙ ap (λ z. f ++ z) more.whole }
 
@@ -31,10 +31,10 @@ record IsFirst (part after : List ℕ) (later : List (List ℕ)) : Type 0 where
   is : later ≡ part ∷ more
   whole : after ≡ concat more
 
-first_of :
+IsFirst-front :
     (rest part after : List ℕ) (later : List (List ℕ)) → All IsEncoding later → rest ≡ concat later → IsEncoding part →
     rest ≡ part ++ after → IsFirst part after later
-first_of rest part after [] all e i w =
+IsFirst-front rest part after [] all e i w =
     absurd (omega (
       arith,
       Encoding-not_empty part i.class i.constructed i.tag i.contents i.header i.encoding,
@@ -42,7 +42,7 @@ first_of rest part after [] all e i w =
       ap length w,
       length-append part after,
     ))
-first_of rest part after (p ∷ ps) all e i w =
+IsFirst-front rest part after (p ∷ ps) all e i w =
     let j = All-head IsEncoding p ps all in
     let same =
     Encoding-unique part p i.class j.class i.constructed j.constructed i.tag j.tag i.contents j.contents i.header
@@ -57,20 +57,20 @@ pub record IsLeft (order : Order) (items : List (List ℕ)) (before : Option (Li
   pub whole : rest ≡ concat later
   pub same : Ascend (MayStandBefore order) items ↔ Ascend (MayStandBefore order) (behind before later)
 
-pub left_more :
+pub IsLeft-next :
     (order : Order) (items : List (List ℕ)) (before : Option (List ℕ)) (rest part after : List ℕ) →
     IsLeft order items before rest → IsEncoding part → rest ≡ part ++ after →
     MayFollow (MayStandBefore order) before part → IsLeft order items (Some part) after
-left_more order items None rest part after d i w may =
-    let f = first_of rest part after d.later d.all d.whole i w in
+IsLeft-next order items None rest part after d i w may =
+    let f = IsFirst-front rest part after d.later d.all d.whole i w in
     record {
       later = f.more;
       all = subst (All IsEncoding) f.is d.all;
       whole = f.whole;
       same = subst (λ z. Ascend (MayStandBefore order) items ↔ Ascend (MayStandBefore order) z) f.is d.same;
     }
-left_more order items (Some first) rest part after d i w may =
-    let f = first_of rest part after d.later (All-drop IsEncoding 1 (first ∷ d.later) d.all) d.whole i w in
+IsLeft-next order items (Some first) rest part after d i w may =
+    let f = IsFirst-front rest part after d.later (All-drop IsEncoding 1 (first ∷ d.later) d.all) d.whole i w in
     let same =
     subst (λ z. Ascend (MayStandBefore order) items ↔ Ascend (MayStandBefore order) (first ∷ z)) f.is d.same in
     record {
@@ -81,43 +81,43 @@ left_more order items (Some first) rest part after d i w may =
     }
 
 -- what may stand behind one that there is
-pub follows :
+pub MayFollow-Some :
     (order : Order) (before : Option (List ℕ)) (first next : List ℕ) (found : Bool) → before ≡ Some first →
     (IsEncoding first → IsEncoding next → IsTrue found ↔ MayStandBefore order first next) →
     All IsEncoding (behind before (next ∷ [])) → IsTrue found ↔ MayFollow (MayStandBefore order) before next
-follows order before first next found is h =
+MayFollow-Some order before first next found is h =
     subst (λ b. All IsEncoding (behind b (next ∷ [])) → IsTrue found ↔ MayFollow (MayStandBefore order) b next) (sym is)
     (λ all. h (All-head IsEncoding first (next ∷ []) all)
     (All-head IsEncoding next [] (All-drop IsEncoding 1 (first ∷ next ∷ []) all)))
 
 -- the encoding behind the last one that was passed is one
-pub is_encoding_behind :
+pub All-behind :
     (order : Order) (items : List (List ℕ)) (before : Option (List ℕ)) (rest part : List ℕ) →
     IsLeft order items before rest → IsEncoding part → All IsEncoding (behind before (part ∷ []))
-is_encoding_behind order items None rest part d i = All-cons IsEncoding part [] i (All-nil IsEncoding)
-is_encoding_behind order items (Some first) rest part d i =
+All-behind order items None rest part d i = All-cons IsEncoding part [] i (All-nil IsEncoding)
+All-behind order items (Some first) rest part d i =
     All-cons IsEncoding first (part ∷ []) (All-head IsEncoding first d.later d.all)
     (All-cons IsEncoding part [] i (All-nil IsEncoding))
 
 -- where an encoding may not stand behind the one before it, the items do not ascend
-pub not_ascending :
+pub Ascend-not_may_follow :
     (order : Order) (items : List (List ℕ)) (before : Option (List ℕ)) (rest part after : List ℕ) →
     IsLeft order items before rest → IsEncoding part → rest ≡ part ++ after →
     (MayFollow (MayStandBefore order) before part → ⊥) → Ascend (MayStandBefore order) items → ⊥
-not_ascending order items None rest part after d i w never a = never tt
-not_ascending order items (Some first) rest part after d i w never a =
-    let f = first_of rest part after d.later (All-drop IsEncoding 1 (first ∷ d.later) d.all) d.whole i w in
+Ascend-not_may_follow order items None rest part after d i w never a = never tt
+Ascend-not_may_follow order items (Some first) rest part after d i w never a =
+    let f = IsFirst-front rest part after d.later (All-drop IsEncoding 1 (first ∷ d.later) d.all) d.whole i w in
     never (subst (λ z. Ascend (MayStandBefore order) (first ∷ z)) f.is (d.same.0 a)).0
 
-ended : (order : Order) (before : Option (List ℕ)) → Ascend (MayStandBefore order) (behind before [])
-ended order None = tt
-ended order (Some first) = tt
+Ascend-behind_nil : (order : Order) (before : Option (List ℕ)) → Ascend (MayStandBefore order) (behind before [])
+Ascend-behind_nil order None = tt
+Ascend-behind_nil order (Some first) = tt
 
 -- where no encoding is left, the items ascend
-pub ascending :
+pub Ascend-none_left :
     (order : Order) (items : List (List ℕ)) (before : Option (List ℕ)) (rest : List ℕ) →
     IsLeft order items before rest → HasNoEncodingAt rest 0 → Ascend (MayStandBefore order) items
-ascending order items before rest d none = d.same.1 (none_later d.later (later_all before d.later d.all) d.whole)
+Ascend-none_left order items before rest d none = d.same.1 (none_later d.later (later_all before d.later d.all) d.whole)
   where
     later_all : (before : Option (List ℕ)) (later : List (List ℕ)) → All IsEncoding (behind before later)
         → All IsEncoding later
@@ -126,15 +126,15 @@ ascending order items before rest d none = d.same.1 (none_later d.later (later_a
 
     none_later : (later : List (List ℕ)) → All IsEncoding later → rest ≡ concat later
         → Ascend (MayStandBefore order) (behind before later)
-    none_later [] all e = ended order before
+    none_later [] all e = Ascend-behind_nil order before
     none_later (p ∷ ps) all e =
         absurd (none p (record { rest = concat ps; at_offset = e; encoding = All-head IsEncoding p ps all }))
 
 -- what stands behind the encoding at the front
-pub behind_encoding :
+pub EncodingAt-append :
     (octets part after : List ℕ) → EncodingAt octets 0 part → after ≡ drop (min (length part) (length octets)) octets →
     octets ≡ part ++ after
-behind_encoding octets part after at is =
+EncodingAt-append octets part after at is =
     let l : length part ≤ length octets = omega (arith, ap length at.at_offset, length-append part at.rest) in
     let least : min (length part) (length octets) ≡ length part = omega (arith, l) in
     let e : after ≡ at.rest =

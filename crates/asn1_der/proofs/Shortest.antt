@@ -16,21 +16,21 @@ use Rattle.asn1_der.specs.Der.{IsShortest}
 use Rattle.asn1_der.specs.Steps.{IsHeaderOf, is_short}
 
 -- where as many octets were compared as there are, they are the same exactly if all were
-pub compared_whole :
+pub compared-all :
     (a c : Comparison) (xs : List ℕ) → compared a xs c → IsTrue a.same → length a.rest.now ≡ length xs →
     IsTrue c.same ↔ (a.rest.now ≡ xs)
-compared_whole a c xs (first, starts, length_is, (equal, meant)) same size =
+compared-all a c xs (first, starts, length_is, (equal, meant)) same size =
     let none : c.rest.now ≡ [] =
     nil_from_length c.rest.now (omega (arith, ap length starts, length-append first c.rest.now, length_is, size)) in
     let all : a.rest.now ≡ first = starts ∙ (ap (λ z. first ++ z) none ∙ append-nil first) in
     (λ t. all ∙ (equal t).1, λ e. meant (same, sym all ∙ e))
 
 -- the octets before the contents are the shortest exactly if the encoding has its shortest form
-pub shortest_front :
+pub IsShortest-front :
     (x : List ℕ) (i s e : ℕ) (c : ASN1Class) (k : Bool) (n : ℕ) → i ≤ s → s ≤ e → e ≤ length x →
     (slice_range x i s ≡ shortest_identifier c k n ++ shortest_length (e - s))
     ↔ IsShortest (slice_range x i e) c k n (slice_range x s e)
-shortest_front x i s e c k n before order within =
+IsShortest-front x i s e c k n before order within =
     let f = slice_range x i s in
     let v = slice_range x s e in
     let id = shortest_identifier c k n in
@@ -48,10 +48,10 @@ shortest_front x i s e c k n before order within =
     )
 
 -- identifier and length octets stand in front of the contents octets
-pub header_front :
+pub IsHeaderOf-front :
     (x : List ℕ) (i s e : ℕ) (c : ASN1Class) (k : Bool) (n : ℕ) → i ≤ s → s ≤ e → e ≤ length x →
     Encoding (slice_range x i e) c k n (slice_range x s e) (s - i) → IsHeaderOf (slice_range x i s) c k n (e - s)
-header_front x i s e c k n before order within f =
+IsHeaderOf-front x i s e c k n before order within f =
     let v = slice_range x s e in
     let id = f.identifier in
     let size : length v ≡ e - s = length-slice_range x s e order within in
@@ -68,10 +68,10 @@ header_front x i s e c k n before order within f =
     }
 
 -- two octets that are identifier and length octets are the shortest
-pub short_front :
+pub IsHeaderOf-short :
     (front : List ℕ) (c : ASN1Class) (k : Bool) (n m : ℕ) → IsHeaderOf front c k n m → is_short front ≡ true →
     front ≡ shortest_identifier c k n ++ shortest_length m
-short_front front c k n m h short =
+IsHeaderOf-short front c k n m h short =
     h.whole ∙ of_parts h.identifier h.len h.identifier_octets h.length_octets (sym (ap is_short h.whole) ∙ short)
   where
     of_parts : (id len : List ℕ) → IsIdentifier id c k n → IsLength len m → is_short (id ++ len) ≡ true

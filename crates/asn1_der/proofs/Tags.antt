@@ -69,8 +69,8 @@ slice_cmp-marked (x ∷ xs) (y ∷ ys) a b e =
     ∙ ordering_then-assoc (nat_cmp x y) (slice_cmp nat_cmp xs ys) (nat_cmp a b))
 
 -- the shortest base-128 number has an octet more than its quotient has digits
-size : (n : ℕ) → length (shortest_base128 n) ≡ 1 + length (digits_of 128 (n / 128))
-size n =
+length-shortest_base128 : (n : ℕ) → length (shortest_base128 n) ≡ 1 + length (digits_of 128 (n / 128))
+length-shortest_base128 n =
     let ds = digits_of 128 (n / 128) in
     omega (arith, length-append (map (λ d. 128 + d) ds) (n % 128 ∷ []), length-map ds (λ d. 128 + d))
 
@@ -90,8 +90,8 @@ nat_cmp-shortest_base128 m n =
     es = digits_of 128 (n / 128)
 
     lengths : nat_cmp (length (shortest_base128 m)) (length (shortest_base128 n)) ≡ nat_cmp (length ds) (length es)
-    lengths = ap (λ z. nat_cmp z (length (shortest_base128 n))) (size m)
-        ∙ (ap (λ z. nat_cmp (1 + length ds) z) (size n) ∙ nat_cmp-add 1 (length ds) (length es))
+    lengths = ap (λ z. nat_cmp z (length (shortest_base128 n))) (length-shortest_base128 m)
+        ∙ (ap (λ z. nat_cmp (1 + length ds) z) (length-shortest_base128 n) ∙ nat_cmp-add 1 (length ds) (length es))
 
     fronts : base128_number ds ≡ m / 128
     fronts = number_digits_of 128 (m / 128) (omega arith)
@@ -158,10 +158,10 @@ HasLessTag-fields x y e f found is = (
 )
 
 -- numbers are compared by the lengths of their shortest octets, and then by these octets
-pub compared :
+pub nat_cmp-by_octets :
     (m n : ℕ) (xs ys : List ℕ) (a b r : Ordering) → xs ≡ shortest_base128 m → ys ≡ shortest_base128 n →
     a ≡ nat_cmp (length xs) (length ys) → b ≡ slice_cmp nat_cmp xs ys → r ≡ ordering_then a b → r ≡ nat_cmp m n
-compared m n xs ys a b r e f h i j =
+nat_cmp-by_octets m n xs ys a b r e f h i j =
     j ∙ (ap (λ z. ordering_then z b) h ∙ (ap (λ z. ordering_then (nat_cmp (length xs) (length ys)) z) i
     ∙ (ap (λ z. ordering_then (nat_cmp (length z) (length ys)) (slice_cmp nat_cmp z ys)) e
     ∙ (ap (λ z. ordering_then (nat_cmp (length (shortest_base128 m)) (length z))
@@ -180,8 +180,8 @@ is_less_number-not_Less m n r e h = elim (cases_lt m n) [
 ]
 
 -- the identifier octets of an encoding stand at its front
-pub identifier_front : (x : List ℕ) (e : IsEncoding x) → IsFront e.encoding.identifier x
-identifier_front x e = record {
+pub IsFront-identifier : (x : List ℕ) (e : IsEncoding x) → IsFront e.encoding.identifier x
+IsFront-identifier x e = record {
   tag = e.tag;
   rest = e.encoding.len ++ e.contents;
   is = (e.class, e.constructed, e.encoding.identifier_octets);

@@ -1,5 +1,5 @@
 -- What is left of octets, encoding by encoding.
-use Rattle.std.proofs.Common.{◌≡◌, ℕ, ◌-◌, ◌<◌, ◌≤◌, ◌^◌, true, List, [], ◌∷◌, ◌++◌, length, sym, ap, ◌∙◌, subst, arith, length-append, drop, reverse, take}
+use Rattle.std.proofs.Common.{◌≡◌, ℕ, ◌-◌, ◌<◌, ◌≤◌, ◌^◌, true, List, [], ◌∷◌, ◌++◌, length, sym, ap, ◌∙◌, subst, arith, length-append, drop, take}
 use Rattle.std.specs.Prelude.{◌↔◌}
 use Rattle.std.specs.List.{slice_range}
 use Rattle.asn1_headers.specs.Fault.{DecodeFault}
@@ -11,8 +11,7 @@ use Rattle.asn1_blocks.proofs.Faults.{HeaderFault-not_encoding}
 use Rattle.asn1_blocks.proofs.ReadSteps.{slice_range-append, length-slice_range}
 use Rattle.asn1_der.specs.Der.{AreDerEncodings, IsDerEncoding, more_encodings, no_encodings}
 use Rattle.asn1_der.specs.Steps.{AreDer, AreDerUpTo, AreEnds, IsDerAlone, IsWhole}
-use Rattle.std.proofs.lemmas.List.{reverse-append}
-use Rattle.asn1_der.proofs.Encodings.{der_encoding, der_whole, whole_der}
+use Rattle.asn1_der.proofs.Encodings.{Encoding-der, IsWhole-der, IsDerEncoding-whole}
 
 -- encodings of DER that are some octets, by the first
 record IsSplit (x : List ℕ) : Type 0 where
@@ -22,9 +21,9 @@ record IsSplit (x : List ℕ) : Type 0 where
   der : IsDerEncoding first
   more : AreDer rest
 
-split_some : (x : List ℕ) (items : List (List ℕ)) → 0 < length x → AreDerEncodings x items → IsSplit x
-split_some x items some no_encodings = absurd (omega (arith, some))
-split_some x items some (more_encodings {first = f} {rest = r} {items = is} w d ds) =
+IsSplit-some : (x : List ℕ) (items : List (List ℕ)) → 0 < length x → AreDerEncodings x items → IsSplit x
+IsSplit-some x items some no_encodings = absurd (omega (arith, some))
+IsSplit-some x items some (more_encodings {first = f} {rest = r} {items = is} w d ds) =
     record { first = f; rest = r; whole = w; der = d; more = (is, ds) }
 
 -- the encoding with the header is of DER, and so is what follows it
@@ -46,72 +45,68 @@ module _ (x : List ℕ) (small : length x < 2 ^ 64) (i e : ℕ) (within : e ≤ 
     all_size : length (slice_range x i e) ≡ e - i
     all_size = length-slice_range x i e (omega (arith, before, f.ends_within)) within
 
-    pub ahead : AreDer (slice_range x i e) → IsAhead x e i h
-    ahead (items, ds) =
-        let s = split_some (slice_range x i e) items (omega (arith, all_size, f.starts_after, f.order, f.ends_within))
+    pub IsAhead-der : AreDer (slice_range x i e) → IsAhead x e i h
+    IsAhead-der (items, ds) =
+        let s = IsSplit-some (slice_range x i e) items (omega (arith, all_size, f.starts_after, f.order, f.ends_within))
         ds in
         let long : length s.first ≤ length x =
         omega (arith, all_size, within, ap length s.whole, length-append s.first s.rest) in
-        let (c, k, n, v, g, p) = der_encoding s.first (omega (arith, long, small)) s.der in
+        let (c, k, n, v, g, p) = Encoding-der s.first (omega (arith, long, small)) s.der in
         let same =
         Encoding-unique (slice_range x i h.end) s.first h.class c h.constructed k h.tag n
         (slice_range x h.start h.end) v (h.start - i) g
         (slice_range x h.end e) s.rest f.encoding p (sym join ∙ s.whole) in
         let der : IsDerEncoding (slice_range x i h.end) = subst IsDerEncoding (sym same.octets) s.der in
         record {
-          whole = der_whole (slice_range x i h.end) h.class h.constructed h.tag (slice_range x h.start h.end)
+          whole = IsWhole-der (slice_range x i h.end) h.class h.constructed h.tag (slice_range x h.start h.end)
               (h.start - i)
               (omega (arith, size, small, within, f.ends_within)) f.encoding der;
           behind = subst AreDer (sym same.rest) s.more;
         }
 
-    pub from_ahead : IsAhead x e i h → AreDer (slice_range x i e)
-    from_ahead a =
+    pub AreDer-ahead : IsAhead x e i h → AreDer (slice_range x i e)
+    AreDer-ahead a =
         let (items, ds) = a.behind in (
           slice_range x i h.end ∷ items,
           more_encodings join
-              (whole_der (slice_range x i h.end) h.class h.constructed h.tag (slice_range x h.start h.end)
+              (IsDerEncoding-whole (slice_range x i h.end) h.class h.constructed h.tag (slice_range x h.start h.end)
               a.whole) ds,
         )
 
   -- octets whose header is at fault are not DER
-  pub not_der_at_fault : (fault : DecodeFault) → i < e → HeaderFault (i - i) (slice_range x i e) fault
+  pub AreDer-not_at_fault : (fault : DecodeFault) → i < e → HeaderFault (i - i) (slice_range x i e) fault
       → AreDer (slice_range x i e) → ⊥
-  not_der_at_fault fault more w (items, ds) =
+  AreDer-not_at_fault fault more w (items, ds) =
       let all_size : length (slice_range x i e) ≡ e - i = length-slice_range x i e (omega (arith, more)) within in
-      let s = split_some (slice_range x i e) items (omega (arith, all_size, more)) ds in
+      let s = IsSplit-some (slice_range x i e) items (omega (arith, all_size, more)) ds in
       let long : length s.first ≤ length x =
       omega (arith, all_size, within, ap length s.whole, length-append s.first s.rest) in
-      let (c, k, n, v, g, p) = der_encoding s.first (omega (arith, long, small)) s.der in
+      let (c, k, n, v, g, p) = Encoding-der s.first (omega (arith, long, small)) s.der in
       HeaderFault-not_encoding (i - i) (slice_range x i e) s.first s.rest fault c k n v g w
       (omega (arith, all_size, within, small)) s.whole p
 
 -- ends one after another are no further than the last
-pub ends_within : (i : ℕ) (es : List ℕ) (n : ℕ) → AreEnds i es n → i ≤ n
-ends_within i [] n h = omega (arith, h)
-ends_within i (e ∷ es) n h = omega (arith, h.0, ends_within e es n h.1)
-
--- the last of what was put is the first of the other way round
-pub turned : (xs ys : List ℕ) (e : ℕ) → xs ≡ ys ++ e ∷ [] → reverse xs ≡ e ∷ reverse ys
-turned xs ys e h = ap reverse h ∙ reverse-append ys (e ∷ [])
+pub AreEnds-le : (i : ℕ) (es : List ℕ) (n : ℕ) → AreEnds i es n → i ≤ n
+AreEnds-le i [] n h = omega (arith, h)
+AreEnds-le i (e ∷ es) n h = omega (arith, h.0, AreEnds-le e es n h.1)
 
 -- nothing is left of an encoding that has ended
-pub none_left : (x : List ℕ) (i e : ℕ) → i ≡ e → AreDer (slice_range x i e)
-none_left x i e h =
+pub AreDer-none_left : (x : List ℕ) (i e : ℕ) → i ≡ e → AreDer (slice_range x i e)
+AreDer-none_left x i e h =
     let zero : e - i ≡ 0 = omega (arith, h) in
     let none : slice_range x i e ≡ [] = ap (λ n. take n (drop i x)) zero in
     ([], subst (λ z. AreDerEncodings z []) (sym none) no_encodings)
 
 -- what is inside an encoding and behind it decides of what was there
-pub opened :
+pub AreDerUpTo-opened :
     (x : List ℕ) (i e : ℕ) (es : List ℕ) (h : PlacedHeader) → length x < 2 ^ 64 → e ≤ length x → HeaderFound x i e h →
     h.constructed ≡ true →
     IsDerAlone (slice_range x i h.end) h.class h.constructed h.tag (slice_range x h.start h.end) →
     AreDerUpTo x i (e ∷ es) ↔ AreDerUpTo x h.start (h.end ∷ e ∷ es)
-opened x i e es h small within f constructed alone = (
-  λ p. let a = ahead x small i e within h f p.0 in (a.whole.items constructed, (a.behind, p.1)),
+AreDerUpTo-opened x i e es h small within f constructed alone = (
+  λ p. let a = IsAhead-der x small i e within h f p.0 in (a.whole.items constructed, (a.behind, p.1)),
   λ (inside, (behind, more)). (
-    from_ahead x small i e within h f (record {
+    AreDer-ahead x small i e within h f (record {
       whole = record { alone = alone; items = λ t. inside };
       behind = behind;
     }),
@@ -119,15 +114,15 @@ opened x i e es h small within f constructed alone = (
   ),
 )
 
-pub passed :
+pub AreDerUpTo-passed :
     (x : List ℕ) (i e : ℕ) (es : List ℕ) (h : PlacedHeader) → length x < 2 ^ 64 → e ≤ length x → HeaderFound x i e h →
     (h.constructed ≡ true → ⊥) →
     IsDerAlone (slice_range x i h.end) h.class h.constructed h.tag (slice_range x h.start h.end) →
     AreDerUpTo x i (e ∷ es) ↔ AreDerUpTo x h.end (e ∷ es)
-passed x i e es h small within f primitive alone = (
-  λ p. let a = ahead x small i e within h f p.0 in (a.behind, p.1),
+AreDerUpTo-passed x i e es h small within f primitive alone = (
+  λ p. let a = IsAhead-der x small i e within h f p.0 in (a.behind, p.1),
   λ q. (
-    from_ahead x small i e within h f (record {
+    AreDer-ahead x small i e within h f (record {
       whole = record { alone = alone; items = λ t. absurd (primitive t) };
       behind = q.0;
     }),

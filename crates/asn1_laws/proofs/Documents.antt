@@ -15,7 +15,7 @@ use Rattle.asn1_blocks.proofs.OneReading.{IsBlock-encodes}
 use Rattle.asn1_blocks.proofs.Slices.{end_before-encodes, middle-contents, middle-first, middle-rest, slice_range-middle}
 use Rattle.asn1_der.specs.Der.{IsDer, IsDerEncoding}
 use Rattle.asn1_der.specs.Steps.{AreDer}
-use Rattle.asn1_der.proofs.Encodings.{der_whole}
+use Rattle.asn1_der.proofs.Encodings.{IsWhole-der}
 use Rattle.simple_asn1.specs.Canonical.{all_canonical, canonical, shortest_encoding}
 use Rattle.simple_asn1.proofs.Placed.{length-le_shortest_encoding, Encoding-shortest_encoding}
 use Rattle.simple_asn1.proofs.Strict.{IsEncoding-canonical}
@@ -65,7 +65,7 @@ mutual
       IsDerEncoding x →
       ((o : ℕ) (l : Leaf) (j : ℕ) → StandsIn a e (leaf o l) j → IsPlain i o l j) → x ≡ canonical a
   IsDerEncoding-plain_canonical (leaf p l) i u x v e at all (o, k, w, h, F, means) d plain =
-      let whole = der_whole x Universal k (leaf_tag l) w h at.small F d in
+      let whole = IsWhole-der x Universal k (leaf_tag l) w h at.small F d in
       let right = IsRightAlone-leaf l k w whole.alone.1 in
       let here : slice_range i p e ≡ x = slice_range-middle i u x v p e at.whole o at.end in
       let F' : Encoding (slice_range i p e) Universal false (leaf_tag l) w h =
@@ -77,7 +77,7 @@ mutual
       whole.alone.0.whole ∙ (ap (λ z. shortest_encoding Universal z (leaf_tag l) w) right.0
       ∙ ap (shortest_encoding Universal false (leaf_tag l)) same)
   IsDerEncoding-plain_canonical (group p g bs) i u x v e at all (o, k, w, h, F, items) d plain =
-      let whole = der_whole x Universal k (group_tag g) w h at.small F d in
+      let whole = IsWhole-der x Universal k (group_tag g) w h at.small F d in
       let constructed = IsRightAlone-group g k w whole.alone.1 in
       let same : w ≡ all_canonical bs =
       AreDer-plain_canonical bs i (u ++ (F.identifier ++ F.len)) w v e
@@ -90,7 +90,7 @@ mutual
       ∙ (ap (λ z. shortest_encoding Universal z (group_tag g) w) constructed
       ∙ ap (shortest_encoding Universal true (group_tag g)) same)
   IsDerEncoding-plain_canonical (explicit c p n b) i u x v e at all (o, other, w, h, F, item) d plain =
-      let whole = der_whole x c true n w h at.small F d in
+      let whole = IsWhole-der x c true n w h at.small F d in
       let small = length-contents-lt x c true n w h F at.small in
       let G = IsEncoding-block w (IsBlock-encodes (length u + h) w b item) in
       let one = AreDer-first w w [] G.class G.constructed G.tag G.contents G.header G.encoding (sym (append-nil w))
@@ -104,7 +104,7 @@ mutual
       (λ o l j t. plain o l j (in_explicit t)) in
       whole.alone.0.whole ∙ ap (shortest_encoding c true n) same
   IsDerEncoding-plain_canonical (unknown c k p n w) i u x v e at all (o, h, F, stays) d plain =
-      (der_whole x c k n w h at.small F d).alone.0.whole
+      (IsWhole-der x c k n w h at.small F d).alone.0.whole
 
   AreDer-plain_canonical :
       (bs : Trees ℕ) (i u x v : List ℕ) (e : ℕ) → Stand i u x v e → AreOctets x → EncodesAll (length u) x bs →
@@ -189,7 +189,7 @@ mutual
   }
   IsCanonicalAt-in_tree a e b j i u x v at s d same (in_group {g = g} {bs = bs} t) =
       let (_, bit, contents, size, F, items) = s in
-      let whole = der_whole x Universal bit (group_tag g) contents size at.small F d in
+      let whole = IsWhole-der x Universal bit (group_tag g) contents size at.small F d in
       IsCanonicalAt-among_trees bs e b j i (u ++ (F.identifier ++ F.len)) contents v
       (Stand-inside i u x v e Universal bit (group_tag g) contents size F at)
       (subst (λ z. EncodesAll z contents bs) (add-header_size u x Universal bit (group_tag g) contents size F) items)
@@ -198,7 +198,7 @@ mutual
       (all_canonical bs) size at.small F same) t
   IsCanonicalAt-in_tree a e b j i u x v at s d same (in_explicit {class = c} {tag = n} {a = y} t) =
       let (_, _, contents, size, F, inner) = s in
-      let whole = der_whole x c true n contents size at.small F d in
+      let whole = IsWhole-der x c true n contents size at.small F d in
       let G = IsEncoding-block contents (IsBlock-encodes (length u + size) contents y inner) in
       let one = AreDer-first contents contents [] G.class G.constructed G.tag G.contents G.header G.encoding
       (sym (append-nil contents))
@@ -251,7 +251,7 @@ is_written_otherwise-canonical_leaf :
     x ≡ canonical (leaf p l) → Encoding x Universal false (leaf_tag l) contents header →
     is_written_otherwise (leaf_tag l) contents ≡ false
 is_written_otherwise-canonical_leaf x o p l contents header small (q, k, w, h, F, means) d same G =
-    let whole = der_whole x Universal false (leaf_tag l) contents header small G d in
+    let whole = IsWhole-der x Universal false (leaf_tag l) contents header small G d in
     let right = IsRightAlone-leaf l false contents whole.alone.1 in
     let is : w ≡ contents =
     (Encoding-unique x x Universal Universal k false (leaf_tag l) (leaf_tag l) w contents h header [] [] F G

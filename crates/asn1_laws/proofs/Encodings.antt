@@ -16,7 +16,7 @@ use Rattle.asn1_blocks.specs.declared.block.GroupKind.TheVariants.{Sequence, Set
 use Rattle.asn1_der.specs.Contents.{HasDerContents}
 use Rattle.asn1_der.specs.Der.{AreDerEncodings, IsDerEncoding, IsRightAlone, is_constructed_type, more_encodings, no_encodings}
 use Rattle.asn1_der.specs.Steps.{AreDer}
-use Rattle.asn1_der.proofs.Encodings.{der_encoding}
+use Rattle.asn1_der.proofs.Encodings.{Encoding-der}
 
 -- octets before others, and those behind them
 pub AreOctets-first : (x y : List ℕ) → AreOctets (x ++ y) → AreOctets x
@@ -92,7 +92,7 @@ pub AreDer-first :
 AreDer-first x first rest c k n v h e whole small (items, no_encodings) =
     absurd (omega (arith, Encoding-not_empty first c k n v h e, ap length whole, length-append first rest))
 AreDer-first x first rest c k n v h e whole small (items, more_encodings {first = f} {rest = r} {items = is} w d ds) =
-    let (c', k', n', v', h', e') = der_encoding f (omega (arith, small, ap length w, length-append f r)) d in
+    let (c', k', n', v', h', e') = Encoding-der f (omega (arith, small, ap length w, length-append f r)) d in
     let same = Encoding-unique first f c c' k k' n n' v v' h h' rest r e e' (sym whole ∙ w) in
     record {
       der = subst IsDerEncoding (sym same.octets) d;

@@ -17,7 +17,7 @@ use Rattle.asn1_blocks.proofs.Faults.{IsEncoding-block, HeaderFault-not_encoding
 use Rattle.asn1_der.specs.Contents.{HasDerContents, IsMoment, are_subidentifiers, is_bit_string, is_boolean}
 use Rattle.asn1_der.specs.Der.{IsDer, is_constructed_type, more_encodings, no_encodings}
 use Rattle.asn1_der.specs.Steps.{AreDer}
-use Rattle.asn1_der.proofs.Encodings.{der_encoding, der_whole}
+use Rattle.asn1_der.proofs.Encodings.{Encoding-der, IsWhole-der}
 use Rattle.asn1_laws.specs.Refused.{IsFaultOfDer, of_bits, of_string}
 use Rattle.asn1_laws.proofs.Encodings.{length-contents-le, length-contents-lt, IsRightAlone-group, IsRightAlone-primitive, AreDer-first}
 use Rattle.asn1_leaves.proofs.Fractions.{get_or-last}
@@ -127,7 +127,7 @@ AreDer-no_header_fault : (o : ℕ) (x : List ℕ) (e : DecodeFault) → o + leng
     AreDer x → ⊥
 AreDer-no_header_fault o x e small some f (items, no_encodings) = omega (arith, some)
 AreDer-no_header_fault o x e small some f (items, more_encodings {first = first} {rest = rest} w d ds) =
-    let (c, k, n, v, h, F) = der_encoding first (omega (arith, small, ap length w, length-append first rest)) d in
+    let (c, k, n, v, h, F) = Encoding-der first (omega (arith, small, ap length w, length-append first rest)) d in
     HeaderFault-not_encoding o x first rest e c k n v h f small w F
 
 -- the fault of DER
@@ -144,7 +144,7 @@ IsFaultOfDer-blocks x e o small d
     let s =
     AreDer-first (y ++ rest) y rest Universal k n v h F refl (omega (arith, small, size, length-append y rest))
     behind in
-    let whole = der_whole y Universal k n v h (omega (arith, small, size)) F s.der in
+    let whole = IsWhole-der y Universal k n v h (omega (arith, small, size)) F s.der in
     let right = IsRightAlone-primitive n k v (is_constructed_type-leaf_fault n v e f) whole.alone.1 in
     IsFaultOfDer-longer v x e (omega (arith, size, length-contents-le y Universal k n v h F))
     (IsFaultOfDer-leaf n v e right.1 f)
@@ -155,7 +155,7 @@ IsFaultOfDer-blocks x e o small d
     let s = AreDer-first (y ++ rest) y rest Universal k (group_tag g) v h F refl
     (omega (arith, small, size, length-append y rest)) behind in
     let part : length y < 2 ^ 64 = omega (arith, small, size) in
-    let whole = der_whole y Universal k (group_tag g) v h part F s.der in
+    let whole = IsWhole-der y Universal k (group_tag g) v h part F s.der in
     IsFaultOfDer-longer v x e (omega (arith, size, length-contents-le y Universal k (group_tag g) v h F))
     (IsFaultOfDer-blocks v e i (length-contents-lt y Universal k (group_tag g) v h F part)
     (whole.items (IsRightAlone-group g k v whole.alone.1)) f)

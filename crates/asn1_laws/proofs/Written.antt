@@ -9,7 +9,7 @@ use Rattle.asn1_blocks.specs.Tree.{Leaf, Tree, Trees, leaf, group, explicit, unk
 use Rattle.asn1_blocks.specs.declared.block.GroupKind.TheVariants.{Sequence, Set}
 use Rattle.asn1_der.specs.Der.{AreDerEncodings, IsDer, IsDerEncoding, IsShortest, is_constructed_type, is_reserved, more_encodings, no_encodings, of_other_constructed, of_primitive_type, of_sequence, of_set}
 use Rattle.asn1_der.specs.Steps.{AreDer, IsWhole}
-use Rattle.asn1_der.proofs.Encodings.{der_whole, whole_der}
+use Rattle.asn1_der.proofs.Encodings.{IsWhole-der, IsDerEncoding-whole}
 use Rattle.simple_asn1.specs.Canonical.{all_canonical, canonical, shortest_encoding}
 use Rattle.simple_asn1.proofs.Placed.{length-canonical_some, length-le_shortest_encoding, header_size, Encoding-shortest_encoding}
 use Rattle.simple_asn1.proofs.Strict.{IsEncoding-canonical}
@@ -56,7 +56,7 @@ mutual
       of_other_constructed f.0 (IsShortest-shortest_encoding c true n (canonical b)) (canonical b ∷ [])
       (more_encodings (sym (append-nil (canonical b))) (IsDerEncoding-canonical b f.1 t) no_encodings)
   IsDerEncoding-canonical (unknown c k o n v) f t =
-      whole_der (shortest_encoding c k n v) c k n v
+      IsDerEncoding-whole (shortest_encoding c k n v) c k n v
       (record { alone = (IsShortest-shortest_encoding c k n v, t.0); items = t.1 })
 
   AreDerEncodings-all_canonical : (bs : Trees ℕ) → AreFaithful bs → AreDerTrees bs →
@@ -71,7 +71,7 @@ IsWhole-shortest_encoding : (c : ASN1Class) (k : Bool) (n : ℕ) (v : List ℕ) 
     IsDerEncoding (shortest_encoding c k n v)
     → IsWhole (shortest_encoding c k n v) c k n v
 IsWhole-shortest_encoding c k n v small d =
-    der_whole (shortest_encoding c k n v) c k n v (header_size c k n v) small
+    IsWhole-der (shortest_encoding c k n v) c k n v (header_size c k n v) small
     (Encoding-shortest_encoding c k n v (omega (arith, small, length-le_shortest_encoding c k n v))) d
 
 -- the first that is written, and the others

@@ -1,6 +1,6 @@
 -- For `encodings::behind_next`: what it returns is right (`more`, `none`).
 use Rattle.std.proofs.Common.{◌∙◌, ap, drop, sym}
-use Rattle.asn1_der.proofs.Orders.{behind_encoding}
+use Rattle.asn1_der.proofs.Orders.{EncodingAt-append}
 use Rattle.asn1_departures.proofs.Fronts.{IsStep-end, IsStep-next, AreEncodings-some_here}
 use Rattle.asn1_departures.proofs.encodings.behind_next.Goals as goal
 
@@ -21,7 +21,7 @@ returns-clause-more c =
     let part = c.in-Some.encoding.now in
     let after = c.split_at-2.result.1.now in
     let found = c.in-Some.ensures.found in
-    let split = behind_encoding rest part after found
+    let split = EncodingAt-append rest part after found
     (c.split_at-2.ensures.back ∙ ap (λ m. drop m rest) c.min.ensures) in
     IsStep-next c.args.unended.now c.unended_behind.result rest part after found.encoding c.is_open_encoding.result
     split

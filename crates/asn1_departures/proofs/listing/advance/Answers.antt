@@ -5,8 +5,9 @@ use Rattle.asn1_departures.specs.Steps.{AreExtents, ListsUpTo}
 use Rattle.std.specs.Prelude.{List, Some}
 use Rattle.asn1_departures.specs.declared.rule.Departure.{Departure}
 use Rattle.asn1_departures.specs.declared.rule.Rule.TheVariants.{NotEncodings}
-use Rattle.asn1_departures.proofs.Walk.{ListsUpTo-behind, ListsUpTo-inside, unended_behind-not_open, unended_behind-open, AreExtents-le, is_looked_into-constructed, is_looked_into-open, is_looked_into-primitive, reverse-push}
-use Rattle.asn1_der.proofs.Shortest.{header_front}
+use Rattle.asn1_blocks.proofs.Reader.Popping.{reverse-append_last}
+use Rattle.asn1_departures.proofs.Walk.{ListsUpTo-behind, ListsUpTo-inside, unended_behind-not_open, unended_behind-open, AreExtents-le, is_looked_into-constructed, is_looked_into-open, is_looked_into-primitive}
+use Rattle.asn1_der.proofs.Shortest.{IsHeaderOf-front}
 use Rattle.asn1_departures.proofs.listing.advance.Goals as goal
 
 pub split_header-requires-clause-read : goal.split_header-requires-clause-read
@@ -15,7 +16,7 @@ split_header-requires-clause-read c =
     let h = c.args.header.now in
     let f = c.requires.header in
     let within = AreExtents-le w.inner.end (reverse w.outer.items) (length c.args.octets.now) c.requires.placed.2 in
-    header_front c.args.octets.now w.index h.start h.end h.class h.constructed h.tag (omega (arith, f.starts_after))
+    IsHeaderOf-front c.args.octets.now w.index h.start h.end h.class h.constructed h.tag (omega (arith, f.starts_after))
     f.order
     (omega (arith, f.ends_within, within)) f.encoding
 
@@ -78,7 +79,7 @@ returns-then-are_encodings c =
     let (r, pushed) = c.in_ok-push_own.ensures in
     let is : is_open h.constructed len ≡ false = sym c.is_open.ensures ∙ c.if-is_open.false in
     let put : c.push.new.self.items ≡ w.outer.items ++ w.inner ∷ [] = c.in_ok-push.ensures.items in
-    let round = reverse-push c.push.new.self.items w.outer.items w.inner put in
+    let round = reverse-append_last c.push.new.self.items w.outer.items w.inner put in
     record {
       placed = (
         f.order,

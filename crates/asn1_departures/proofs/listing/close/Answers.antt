@@ -2,7 +2,8 @@
 use Rattle.std.proofs.Common.{◌≡◌, ◌++◌, [], ◌∷◌, ap, append-nil, arith, length, length-append, refl, reverse, subst, sym}
 use Rattle.std.proofs.lemmas.Grind.{common_steps}
 use Rattle.asn1_departures.specs.Steps.{AreExtents, ListsUpTo}
-use Rattle.asn1_departures.proofs.Walk.{Lists-none_left, reverse-push}
+use Rattle.asn1_blocks.proofs.Reader.Popping.{reverse-append_last}
+use Rattle.asn1_departures.proofs.Walk.{Lists-none_left}
 use Rattle.asn1_departures.proofs.listing.close.Goals as goal
 
 pub returns-in-Some : goal.returns-in-Some
@@ -11,7 +12,7 @@ returns-in-Some c found =
     let w = c.args.place.now in
     let e = c.in-Some.extent in
     let popped : w.outer.items ≡ c.pop.new.self.items ++ e ∷ [] = c.in-Some.ensures.items in
-    let round = reverse-push w.outer.items c.pop.new.self.items e popped in
+    let round = reverse-append_last w.outer.items c.pop.new.self.items e popped in
     let ended = c.requires.ended in
     let placed = subst (λ z. AreExtents w.inner.end z (length x)) round c.requires.placed.2 in
     record {

@@ -5,7 +5,7 @@ use Rattle.std.proofs.lemmas.Bool.{cases_lt}
 use Rattle.std.proofs.lemmas.List.{nil_from_length}
 use Rattle.asn1_headers.specs.declared.header.ASN1Class.TheVariants.{Universal}
 use Rattle.asn1_der.specs.Der.{AreDerEncodings, IsDer, IsInOrder, IsRightAlone, no_encodings}
-use Rattle.asn1_der.proofs.Encodings.{items_alone}
+use Rattle.asn1_der.proofs.Encodings.{AreDerEncodings-unique}
 use Rattle.asn1_departures.proofs.own.is_set_in_order.Goals as goal
 
 -- where the items are in neither order, what decides is whether they are DER
@@ -25,7 +25,7 @@ IsRightAlone-set_out_of_order false order x small d o f = (
     λ e items ds. elim (cases_lt 0 (length x)) [
       | inl some ↦ let t : false ≡ true = d.1 (record { some = some; items = items; encodings = ds }) in absurd cc
       | inr none ↦ let nil : x ≡ [] = nil_from_length x (omega (arith, none)) in
-          let same : items ≡ [] = items_alone x [] items [] small nil ds no_encodings in
+          let same : items ≡ [] = AreDerEncodings-unique x [] items [] small nil ds no_encodings in
           subst IsInOrder (sym same) (inl tt)
     ],
   ),

@@ -1,11 +1,11 @@
 -- For `contents::is_date`: what it returns is right.
 use Rattle.std.proofs.Common.{◌≡◌, [], ◌++◌, ap, arith, codes, length, sym}
-use Rattle.asn1_der.proofs.Elements.{get_or-eight, is_within_moment}
+use Rattle.asn1_der.proofs.Elements.{get_or-eight, IsWithinMoment-whole}
 use Rattle.asn1_der.proofs.contents.is_date.Goals as goal
 
 pub returns-in-len8 : goal.returns-in-len8
 returns-in-len8 c =
     let octets = c.args.contents.now in
     let size : length octets ≡ 8 = omega (arith, c.in-len8.len_at_least, c.in-len8.len_below) in
-    is_within_moment c.is_moment.result 8 ([]) octets (codes "000000Z") _ size
+    IsWithinMoment-whole c.is_moment.result 8 ([]) octets (codes "000000Z") _ size
     (sym (ap (λ z. [] ++ (z ++ codes "000000Z")) (get_or-eight octets size))) c.is_moment.ensures

@@ -1,21 +1,22 @@
 -- For `der::advance`: what it returns is right and `is_der_alone` may be called.
 use Rattle.std.proofs.Common.{◌≡◌, ◌<◌, ◌^◌, ◌++◌, [], ◌∷◌, ap, arith, false, length, length-append, reverse, subst, sym, true}
 use Rattle.asn1_der.specs.Steps.{AreDerUpTo, AreEnds}
-use Rattle.asn1_der.proofs.Turns.{ahead, ends_within, opened, passed, turned}
+use Rattle.asn1_blocks.proofs.Reader.Popping.{reverse-append_last}
+use Rattle.asn1_der.proofs.Turns.{IsAhead-der, AreEnds-le, AreDerUpTo-opened, AreDerUpTo-passed}
 use Rattle.asn1_der.proofs.der.advance.Goals as goal
 
 pub is_der_alone-requires-clause-within : goal.is_der_alone-requires-clause-within
 is_der_alone-requires-clause-within c =
     let w = c.args.place.now in
-    ends_within w.end (reverse w.outer.items) (length c.args.octets.now) c.requires.placed.1
+    AreEnds-le w.end (reverse w.outer.items) (length c.args.octets.now) c.requires.placed.1
 
 pub returns-then-not-is_der_alone : goal.returns-then-not-is_der_alone
 returns-then-not-is_der_alone c p =
     let x = c.args.octets.now in
     let w = c.args.place.now in
     let small : length x < 2 ^ 64 = omega arith in
-    let within = ends_within w.end (reverse w.outer.items) (length x) c.requires.placed.1 in
-    let a = ahead x small w.index w.end within c.args.header.now c.requires.found p.0 in
+    let within = AreEnds-le w.end (reverse w.outer.items) (length x) c.requires.placed.1 in
+    let a = IsAhead-der x small w.index w.end within c.args.header.now c.requires.found p.0 in
     let is : c.is_der_alone.result ≡ true = c.is_der_alone.ensures.needed a.whole in
     let not : c.is_der_alone.result ≡ false = c.if-not-is_der_alone.true in
     absurd cc
@@ -28,11 +29,11 @@ returns-in_ok-push c =
     let f = c.requires.found in
     let es = reverse w.outer.items in
     let small : length x < 2 ^ 64 = omega arith in
-    let within = ends_within w.end es (length x) c.requires.placed.1 in
+    let within = AreEnds-le w.end es (length x) c.requires.placed.1 in
     let pushed : c.push.new.self.items ≡ w.outer.items ++ w.end ∷ [] = c.in_ok-push.ensures.items in
-    let round = turned c.push.new.self.items w.outer.items w.end pushed in
+    let round = reverse-append_last c.push.new.self.items w.outer.items w.end pushed in
     let alone = c.is_der_alone.ensures.right c.if-not-is_der_alone.false in
-    let both = opened x w.index w.end es h small within f c.if-header.true alone in
+    let both = AreDerUpTo-opened x w.index w.end es h small within f c.if-header.true alone in
     record {
       placed = (f.order, subst (λ z. AreEnds h.end z (length x)) (sym round) (f.ends_within, c.requires.placed.1));
       same = (
@@ -58,10 +59,10 @@ returns-else-header c =
     let f = c.requires.found in
     let es = reverse w.outer.items in
     let small : length x < 2 ^ 64 = omega arith in
-    let within = ends_within w.end es (length x) c.requires.placed.1 in
+    let within = AreEnds-le w.end es (length x) c.requires.placed.1 in
     let alone = c.is_der_alone.ensures.right c.if-not-is_der_alone.false in
     let primitive : h.constructed ≡ false = c.if-header.false in
-    let both = passed x w.index w.end es h small within f (λ t. cc) alone in
+    let both = AreDerUpTo-passed x w.index w.end es h small within f (λ t. cc) alone in
     record {
       placed = (f.ends_within, c.requires.placed.1);
       same = both;

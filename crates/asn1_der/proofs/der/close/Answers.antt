@@ -2,7 +2,8 @@
 use Rattle.std.proofs.Common.{◌≡◌, ◌++◌, [], ◌∷◌, ap, arith, length, length-append, reverse, subst, sym}
 use Rattle.std.proofs.lemmas.Grind.{common_steps}
 use Rattle.asn1_der.specs.Steps.{AreDerUpTo, AreEnds}
-use Rattle.asn1_der.proofs.Turns.{none_left, turned}
+use Rattle.asn1_blocks.proofs.Reader.Popping.{reverse-append_last}
+use Rattle.asn1_der.proofs.Turns.{AreDer-none_left}
 use Rattle.asn1_der.proofs.der.close.Goals as goal
 
 pub returns-in-Some : goal.returns-in-Some
@@ -11,7 +12,7 @@ returns-in-Some c =
     let w = c.args.place.now in
     let e = c.in-Some.end in
     let popped : w.outer.items ≡ c.pop.new.self.items ++ e ∷ [] = c.in-Some.ensures.items in
-    let round = turned w.outer.items c.pop.new.self.items e popped in
+    let round = reverse-append_last w.outer.items c.pop.new.self.items e popped in
     let ended = c.requires.ended in
     let placed = subst (λ z. AreEnds w.end z (length x)) round c.requires.placed.1 in
     record {
@@ -20,7 +21,7 @@ returns-in-Some c =
         λ p. subst (λ z. AreDerUpTo x z (e ∷ reverse c.pop.new.self.items)) (sym ended)
             (subst (λ z. AreDerUpTo x w.end z) round p.1),
         λ q. (
-          none_left x w.index w.end ended,
+          AreDer-none_left x w.index w.end ended,
           subst (λ z. AreDerUpTo x w.end z) (sym round)
               (subst (λ z. AreDerUpTo x z (e ∷ reverse c.pop.new.self.items)) ended q),
         ),
@@ -33,4 +34,4 @@ returns-in-None c =
     let x = c.args._octets.now in
     let w = c.args.place.now in
     let none : w.outer.items ≡ [] = grind (arith, common_steps) in
-    (none_left x w.index w.end c.requires.ended, subst (λ z. AreDerUpTo x w.end (reverse z)) (sym none) tt)
+    (AreDer-none_left x w.index w.end c.requires.ended, subst (λ z. AreDerUpTo x w.end (reverse z)) (sym none) tt)

@@ -1,6 +1,6 @@
 -- For `der::take_turn`: what it returns is right and `header_within` may be called.
 use Rattle.std.proofs.Common.{◌≡◌, ◌≢◌, ◌<◌, ◌^◌, arith, false, inl, inr, length, reverse, true}
-use Rattle.asn1_der.proofs.Turns.{ends_within, not_der_at_fault}
+use Rattle.asn1_der.proofs.Turns.{AreEnds-le, AreDer-not_at_fault}
 use Rattle.asn1_der.proofs.der.take_turn.Goals as goal
 
 pub header_within-requires-clause-more : goal.header_within-requires-clause-more
@@ -12,18 +12,18 @@ header_within-requires-clause-more c =
 pub header_within-requires-clause-within : goal.header_within-requires-clause-within
 header_within-requires-clause-within c =
     let w = c.args.place.now in
-    ends_within w.end (reverse w.outer.items) (length c.args.octets.now) c.requires.1
+    AreEnds-le w.end (reverse w.outer.items) (length c.args.octets.now) c.requires.1
 
 pub returns-else-is_out_of_memory : goal.returns-else-is_out_of_memory
 returns-else-is_out_of_memory c p =
     let x = c.args.octets.now in
     let w = c.args.place.now in
     let small : length x < 2 ^ 64 = omega arith in
-    let within = ends_within w.end (reverse w.outer.items) (length x) c.requires.1 in
+    let within = AreEnds-le w.end (reverse w.outer.items) (length x) c.requires.1 in
     let other : w.index ≢ w.end = c.if-place.false in
     elim c.in-Err.ensures.refused [
       | inl memory ↦ let is : c.is_out_of_memory.result ≡ true = c.is_out_of_memory.ensures.1 memory in
           let not : c.is_out_of_memory.result ≡ false = c.if-is_out_of_memory.false in
           absurd cc
-      | inr fault ↦ not_der_at_fault x small w.index w.end within _ (omega (arith, c.requires.0, other)) fault p.0
+      | inr fault ↦ AreDer-not_at_fault x small w.index w.end within _ (omega (arith, c.requires.0, other)) fault p.0
     ]

@@ -1,13 +1,13 @@
 -- For `header_rules::is_der_alone`: what it returns is right (`right`, `needed`) and `is_shortest` may be called.
 use Rattle.std.proofs.Common.{arith}
-use Rattle.asn1_der.proofs.Shortest.{header_front, shortest_front}
+use Rattle.asn1_der.proofs.Shortest.{IsHeaderOf-front, IsShortest-front}
 use Rattle.asn1_der.proofs.header_rules.is_der_alone.Goals as goal
 
 pub is_shortest-requires-clause-read : goal.is_shortest-requires-clause-read
 is_shortest-requires-clause-read c =
     let h = c.args.header.now in
     let f = c.requires.found in
-    header_front c.args.octets.now c.args.offset h.start h.end h.class h.constructed h.tag
+    IsHeaderOf-front c.args.octets.now c.args.offset h.start h.end h.class h.constructed h.tag
     (omega (arith, f.starts_after)) f.order
     (omega (arith, f.ends_within, c.requires.within)) f.encoding
 
@@ -17,7 +17,7 @@ returns-then-is_shortest-clause-right c right =
     let h = c.args.header.now in
     let f = c.requires.found in
     let both =
-    shortest_front x c.args.offset h.start h.end h.class h.constructed h.tag (omega (arith, f.starts_after)) f.order
+    IsShortest-front x c.args.offset h.start h.end h.class h.constructed h.tag (omega (arith, f.starts_after)) f.order
     (omega (arith, f.ends_within, c.requires.within)) in
     (both.0 (c.is_shortest.ensures.0 c.if-is_shortest.true), c.is_right.ensures.right right)
 
@@ -27,6 +27,6 @@ returns-else-is_shortest-clause-needed c whole =
     let h = c.args.header.now in
     let f = c.requires.found in
     let both =
-    shortest_front x c.args.offset h.start h.end h.class h.constructed h.tag (omega (arith, f.starts_after)) f.order
+    IsShortest-front x c.args.offset h.start h.end h.class h.constructed h.tag (omega (arith, f.starts_after)) f.order
     (omega (arith, f.ends_within, c.requires.within)) in
     c.is_shortest.ensures.1 (both.1 whole.alone.0)
