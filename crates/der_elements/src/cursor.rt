@@ -4,7 +4,7 @@ ghost use Rattle.der_elements.specs.declared.cursor.End.{End};
 ghost use Rattle.der_elements.specs.Ends.{begins_with_end as begins_with_end_is, end_at};
 ghost use Rattle.der_elements.specs.Steps.{Goes, HasLeft, IsLeftOf, ends_of};
 
-use crate::sum::sum_of;
+use crate::sum::checked_sum;
 use std::alloc::{AllocError, Global};
 
 // Where contents octets end: at the offset, if end-of-contents octets do not end them before.
@@ -134,17 +134,17 @@ impl<'a> Cursor<'a> {
     {
         match step {
             Step::Into(header, size, is_indefinite) => {
-                let offset = sum_of(self.offset, size)?;
+                let offset = checked_sum(self.offset, size)?;
                 self.ends.push(End {
                     offset,
                     is_indefinite,
                 })?;
-                self.offset = sum_of(self.offset, header)?;
+                self.offset = checked_sum(self.offset, header)?;
             }
-            Step::Past(size) => self.offset = sum_of(self.offset, size)?,
+            Step::Past(size) => self.offset = checked_sum(self.offset, size)?,
             Step::Out(size) => {
                 self.leave();
-                self.offset = sum_of(self.offset, size)?;
+                self.offset = checked_sum(self.offset, size)?;
             }
         }
         Ok(())

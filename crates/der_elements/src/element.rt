@@ -6,7 +6,7 @@ ghost use Rattle.der_elements.specs.Elements.{ElementAt, HasContents, HasNoConte
 ghost use Rattle.der_elements.specs.SeekSteps.{Closes};
 
 use crate::header::find_header;
-use crate::sum::sum_of;
+use crate::sum::checked_sum;
 use asn1_blocks::encoding::encoding_at;
 use std::alloc::{AllocError, Global};
 
@@ -101,7 +101,7 @@ fn pass_one(
         return Ok(Some((after, depth - 1)));
     }
     if let Some(behind) = behind_indefinite(alloc, octets)? {
-        return Ok(Some((behind, sum_of(depth, 1)?)));
+        return Ok(Some((behind, checked_sum(depth, 1)?)));
     }
     let Some(encoding) = encoding_at(octets, 0) else {
         return Ok(None);

@@ -7,7 +7,7 @@ ghost use Rattle.asn1_headers.specs.declared.header.ASN1Class.TheVariants.{Unive
 
 use crate::element::{begins_with_end, element_at};
 use crate::header::{find_header, has_tag, holds_encodings};
-use crate::sum::sum_of;
+use crate::sum::checked_sum;
 use asn1_blocks::encoding::encoding_at;
 use asn1_headers::header::ASN1Class;
 use asn1_headers::tags::{BIT_STRING, OCTET_STRING};
@@ -128,7 +128,7 @@ fn next_target(alloc: Global, target: Target<'_>) -> Result<Option<Target<'_>>, 
         return Ok(Some(Target {
             octets,
             distance: target.distance - header.size,
-            depth: sum_of(target.depth, 1)?,
+            depth: checked_sum(target.depth, 1)?,
         }));
     }
     Ok(by_length(target, &header))

@@ -4,7 +4,7 @@ ghost use Rattle.std.specs.Prelude.{◌≡◌, ◌+◌, IfOk};
 use std::alloc::AllocError;
 
 // The sum. Octets of a size that passes a usize fit no memory.
-pub fn sum_of(a: usize, b: usize) -> Result<usize, AllocError>
+pub fn checked_sum(a: usize, b: usize) -> Result<usize, AllocError>
     ensures { IfOk result (λ n. n ≡ a + b) }
 {
     a.checked_add(b).ok_or(AllocError)

@@ -17,7 +17,7 @@ use crate::value::{leaf_value, natural_value, octets_of_no_text, octets_value};
 use asn1_headers::whole_header::Header;
 use der_contents::faults;
 use der_elements::header::holds_encodings;
-use der_elements::sum::sum_of;
+use der_elements::sum::checked_sum;
 use der_names::Names;
 use der_pieces::piece::{Piece, PieceKind};
 use der_pieces::strings::Joined;
@@ -92,7 +92,7 @@ fn encoding_size(header: &Header, contents: &[u8]) -> Result<Option<usize>, Allo
     if header.is_indefinite {
         return Ok(None);
     }
-    Ok(Some(sum_of(header.size, contents.len())?))
+    Ok(Some(checked_sum(header.size, contents.len())?))
 }
 
 // The tag of a piece. End-of-contents octets have 0, of class Universal (X.690 8.1.5).

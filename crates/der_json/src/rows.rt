@@ -13,7 +13,7 @@ use crate::fault::Fault;
 use crate::object::{Object, members_of};
 use crate::piece::object_of;
 use crate::shown::write_shown;
-use der_elements::sum::sum_of;
+use der_elements::sum::checked_sum;
 use der_io::{StreamFault, write_part};
 use der_names::Names;
 use der_pieces::marks::BrokenRule;
@@ -146,7 +146,7 @@ fn push_object<W: Write>(
 {
     let members = members_of(alloc, object)?;
     write_shown(alloc, &members, out)?;
-    let before = sum_of(object.offset, object.header)?;
+    let before = checked_sum(object.offset, object.header)?;
     let marks = push_nested(alloc, names, nested, before, place, is_strict, out)?;
     write_part(out, b"}")?;
     Ok(marks)
@@ -174,7 +174,7 @@ fn push_nested<W: Write>(
         return Ok(Vec::new(alloc));
     };
     write_part(out, b",\"blocks\":[")?;
-    let inside = place.inside(sum_of(offset, nested.before)?)?;
+    let inside = place.inside(checked_sum(offset, nested.before)?)?;
     let found = push_rows(alloc, names, nested.octets, inside, is_strict, out)?;
     Ok(found.marks)
 }

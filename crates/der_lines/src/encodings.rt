@@ -19,7 +19,7 @@ use der_contents::faults::Fault;
 use der_contents::scalars::write_after_space;
 use der_contents::value::LeafValue;
 use der_elements::header::holds_encodings;
-use der_elements::sum::sum_of;
+use der_elements::sum::checked_sum;
 use der_io::StreamFault;
 use der_names::Names;
 use der_pieces::marks::BrokenRule;
@@ -225,8 +225,8 @@ fn push_nested<W: Write>(
     let Some(nested) = piece.nested else {
         return Ok(Vec::new(alloc));
     };
-    let offset = sum_of(piece.document_offset()?, piece.header_size())?;
-    let inside = piece.place.inside(sum_of(offset, nested.before)?)?;
+    let offset = checked_sum(piece.document_offset()?, piece.header_size())?;
+    let inside = piece.place.inside(checked_sum(offset, nested.before)?)?;
     let found = push_encodings(alloc, names, nested.octets, inside, is_strict, printer)?;
     Ok(found.marks)
 }

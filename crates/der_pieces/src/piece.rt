@@ -19,7 +19,7 @@ use der_contents::leaf::{Read, read_contents};
 use der_contents::value::LeafValue;
 use der_elements::cursor::{Left, Step};
 use der_elements::header::{has_stray_form, holds_encodings, size_of, step_of};
-use der_elements::sum::sum_of;
+use der_elements::sum::checked_sum;
 use der_shapes::{Named, Shapes};
 use der_values::{Extension, Role};
 use std::alloc::{AllocError, Global};
@@ -62,7 +62,7 @@ impl<'a> Piece<'a> {
     pub fn document_offset(&self) -> Result<usize, AllocError>
         ensures { IfOk result (λ n. n ≡ self.now.place.base + self.now.offset) }
     {
-        sum_of(self.place.base, self.offset)
+        checked_sum(self.place.base, self.offset)
     }
 
     // How many octets its header has.

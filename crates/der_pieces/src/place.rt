@@ -7,7 +7,7 @@ use asn1_headers::header::ASN1Class;
 use asn1_headers::tags;
 use asn1_headers::whole_header::Header;
 use der_elements::header::universal_tag;
-use der_elements::sum::sum_of;
+use der_elements::sum::checked_sum;
 use der_shapes::Spot;
 use der_values::{Extension, Role, extension_of, role_in};
 use std::alloc::AllocError;
@@ -114,7 +114,7 @@ impl Place {
         ensures spot { IfOk result (λ p. p.spot ≡ spot) }
     {
         Ok(Place {
-            depth: sum_of(self.depth, levels)?,
+            depth: checked_sum(self.depth, levels)?,
             next,
             is_segment,
             spot,
@@ -134,7 +134,7 @@ impl Place {
         Ok(Place {
             is_inside: true,
             base: offset,
-            depth: sum_of(self.depth, 1)?,
+            depth: checked_sum(self.depth, 1)?,
             documents: self.documents - 1,
             extension: self.next,
             value_depth: self.depth.saturating_add(1),

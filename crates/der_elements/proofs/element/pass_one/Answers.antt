@@ -14,8 +14,8 @@ pub returns-in-Some-clause-same : goal.returns-in-Some-clause-same
 returns-in-Some-clause-same c =
     let at : StandsBehindIndefinite c.args.octets.now c.in-Some.behind.now =
     rw c.in-Some.is at c.in_ok-behind.ensures in
-    Closes-past_header c.args.depth c.in_ok-sum_of.field-0 c.args.octets.now c.in-Some.behind.now c.requires
-    c.in_ok-sum_of.ensures
+    Closes-past_header c.args.depth c.in_ok-checked_sum.field-0 c.args.octets.now c.in-Some.behind.now c.requires
+    c.in_ok-checked_sum.ensures
     (sym c.begins_with_end.ensures ∙ c.if-begins_with_end.false) at
 
 pub returns-in_default-encoding_at-clause-same : goal.returns-in_default-encoding_at-clause-same

@@ -27,7 +27,7 @@ returns-then-header-clause-found c =
     let header = c.in-Some.header in
     let front : IsAtFront target.octets.now header = rw c.in-Some.is at c.in_ok-header.ensures.found in
     let indefinite = rw c.in-Some.is at c.in_ok-header.ensures.form in
-    let inside : c.in_ok-sum_of.field-0 ≡ suc target.depth = omega (arith, c.in_ok-sum_of.ensures) in
+    let inside : c.in_ok-checked_sum.field-0 ≡ suc target.depth = omega (arith, c.in_ok-checked_sum.ensures) in
     let later : target.distance ≡ header.size + (target.distance - header.size) =
     omega (arith, c.if-target-header.false) in
     behind_indefinite header.size header.announced header.class header.constructed header.tag

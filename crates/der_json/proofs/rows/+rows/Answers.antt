@@ -71,7 +71,7 @@ push_nested-returns g t c =
     subst (λ z. AreRows (AreInside (place.documents - 1)) true nested.octets.now (c.args.offset + nested.before) z rows)
     i.depth
     (subst (λ z. AreRows (AreInside (place.documents - 1)) true nested.octets.now z inside.depth rows)
-    (i.base ∙ c.in_ok-sum_of.ensures)
+    (i.base ∙ c.in_ok-checked_sum.ensures)
     (subst (λ z. AreRows (AreInside z) true nested.octets.now inside.base inside.depth rows) fewer
     (subst (λ z. AreRows (AreInside inside.documents) z nested.octets.now inside.base inside.depth rows) i.inside
     are))) in (

@@ -66,7 +66,7 @@ push_nested-returns g t c = λ left holding.
     omega (
       arith,
       i.base,
-      c.in_ok-sum_of.ensures,
+      c.in_ok-checked_sum.ensures,
       c.in_ok-offset.ensures,
       c.in_ok-document_offset.ensures,
       c.header_size.ensures,
