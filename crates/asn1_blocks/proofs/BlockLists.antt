@@ -1,4 +1,4 @@
--- Lists of blocks and their trees.
+-- Lists of blocks and their trees, for all that copies, compares or writes blocks.
 use Rattle.std.proofs.Common.{◌≡◌, ℕ, zero, suc, List, [], ◌∷◌, ◌++◌, length, get_or, ◌<◌, refl, sym, ap, ◌∙◌, arith}
 use Rattle.asn1_blocks.specs.declared.block.ASN1Block.{ASN1Block}
 use Rattle.asn1_blocks.specs.Tree.{Trees, no_trees, more_trees, shape, shapes}
@@ -34,7 +34,7 @@ shape-get_or (a ∷ xs) (b ∷ ys) x y (suc i) e h =
     let r : shapes (views xs) ≡ shapes (views ys) = cc in
     shape-get_or xs ys x y i r (omega (arith, h))
 
--- lists of the same shapes, each with one more block, of one shape
+-- lists of the same shapes, each with one more block of one shape at the end, have the same shapes
 pub shapes-append_last : (xs ys : List ASN1Block) (x y : ASN1Block) → shapes (views xs) ≡ shapes (views ys) →
     shape (view x) ≡ shape (view y)
     → shapes (views (xs ++ x ∷ [])) ≡ shapes (views (ys ++ y ∷ []))

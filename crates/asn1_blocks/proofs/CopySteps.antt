@@ -1,4 +1,5 @@
--- Steps of copying trees from the last block to the first.
+-- Steps of copying trees from the last block to the first, for `block::copy::copy`, `contents::copy_over` and
+-- `postponed::group_block`.
 use Rattle.std.proofs.Common.{◌≡◌, ◌≤◌, List, [], ◌∷◌, ◌++◌, length, length-append, reverse, refl, sym, ap, ◌∙◌, arith, rules, ℕ, Box, Vec, Global}
 use Rattle.std.proofs.lemmas.List.{length-reverse, reverse-append, reverse-reverse}
 use Rattle.asn1_blocks.specs.declared.block.ASN1Block.{ASN1Block, Sequence, Set, Explicit, the_lemmas}
@@ -22,7 +23,7 @@ views-append_injective (x ∷ xs) (y ∷ ys) r s n e =
     let k = h.0 in
     (cc, h.1)
 
--- the copies that are taken are those of what the block holds, and its own takes their place
+-- the copies that are taken are those of what the block holds, and the copy of the block takes their place
 pub record IsTaken (b : ASN1Block) (left taken kept : List ASN1Block) : Type 0 where
   pub held : views taken ≡ inside (view b)
   pub copied : (r : ASN1Block) → view r ≡ view b → views (reverse (kept ++ r ∷ [])) ≡ views left
@@ -43,7 +44,7 @@ IsTaken-held b left after done taken kept n s k t =
           ∙ (ap (λ a. more_trees (view b) a) z.1 ∙ sym (ap views n.first)));
     }
 
--- enough copies are made
+-- at least as many copies are made as the block holds
 pub tree_count-inside_le : (b : ASN1Block) (left after done : List ASN1Block) → IsNext b left after →
     views (reverse done) ≡ views after
     → tree_count (inside (view b)) ≤ length done
@@ -63,7 +64,7 @@ pub view-Explicit : (c : ASN1Class) (o n : ℕ) (b : Box ASN1Block Global) →
     view (Explicit c o n b) ≡ explicit c o n (view b.value)
 view-Explicit c o n b = search (rules, the_lemmas)
 
--- a copy of the block that one holds makes its copy
+-- an explicit block around a copy of the block that another one holds is a copy of that one
 pub view-Explicit_copy : (c : ASN1Class) (o n : ℕ) (held made : Box ASN1Block Global) (copy : ASN1Block) →
     made.value ≡ copy
     → views (copy ∷ []) ≡ inside (view (Explicit c o n held)) → view (Explicit c o n made) ≡ view (Explicit c o n held)

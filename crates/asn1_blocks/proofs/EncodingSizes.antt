@@ -1,6 +1,6 @@
--- The size of an encoding, by its header.
-use Rattle.std.proofs.Common.{◌≡◌, ℕ, ◌+◌, ◌<◌, ◌≤◌, List, [], ◌++◌, length, take, drop, refl, sym, ap, ◌∙◌, subst, arith, length-append, length-drop}
-use Rattle.std.proofs.lemmas.List.{take-append-drop, take_at, length-take-le}
+-- The size of an encoding, by its header, for `encoding::encoding_size` and `encoding::encoding_at`.
+use Rattle.std.proofs.Common.{◌≡◌, ℕ, ◌+◌, ◌<◌, ◌≤◌, List, [], ◌++◌, length, take, drop, refl, sym, ap, ◌∙◌, subst, arith, length-append, length-drop, min}
+use Rattle.std.proofs.lemmas.List.{take-append-drop, take_at, length-take-le, drop_at}
 use Rattle.std.proofs.Math.Seq.{take-add}
 use Rattle.std.proofs.Math.ListN.{drop_of_length-le}
 use Rattle.asn1_headers.specs.Header.{BeginsWithNo, IsIdentifier, IsLength, IsSomeIdentifier}
@@ -23,7 +23,7 @@ IsEncoding-not_without_identifier octets missing x rest e p =
           ∙ take_at f.identifier (f.len ++ (p.contents ++ rest)) (length f.identifier) refl)) f.identifier_octets,
     )
 
--- what follows the identifier octets of an encoding
+-- the identifier octets that octets begin with are those of the encoding in front, whose length octets follow
 split-identifier :
     (octets : List ℕ) (i tag : ℕ) → IsSomeIdentifier (take i octets) tag → (x rest : List ℕ) →
     octets ≡ x ++ rest → (p : IsEncoding x) →
@@ -71,7 +71,7 @@ IsEncoding-not_cut_off octets i l m tag t le u few short x rest e p =
       length-drop i octets,
     )
 
--- the encoding that is there
+-- identifier octets, length octets and as many contents octets as they announce are an encoding
 pub IsEncoding-front :
     (octets : List ℕ) (i l m tag : ℕ) → IsSomeIdentifier (take i octets) tag → i ≤ length octets →
     IsLength (take l (drop i octets)) m → l ≤ length (drop i octets) → i + l + m ≤ length octets →
@@ -125,9 +125,22 @@ IsEncoding-two_le octets p =
       length-append f.len p.contents,
     )
 
--- what stands at the offset of a tree of a document
+-- at the offset of a tree of a document stands an encoding
 pub EncodingAt-tree : (document : List ℕ) (offset : ℕ) (octets : List ℕ) → TreeAt document offset octets →
     EncodingAt document offset octets
 EncodingAt-tree document offset octets t =
     subst (λ z. EncodingAt document z octets) t.offset_is
     (EncodingAt-tree_octets document t.all t.tree octets t.read t.own_octets)
+
+-- octets are the encoding at their front and what stands behind it
+pub EncodingAt-append :
+    (octets part after : List ℕ) → EncodingAt octets 0 part → after ≡ drop (min (length part) (length octets)) octets →
+    octets ≡ part ++ after
+EncodingAt-append octets part after at is =
+    let l : length part ≤ length octets = omega (arith, ap length at.at_offset, length-append part at.rest) in
+    let least : min (length part) (length octets) ≡ length part = omega (arith, l) in
+    let e : after ≡ at.rest =
+    is ∙ (ap (λ m. drop m octets) least
+    ∙ (ap (drop (length part)) at.at_offset ∙ drop_at part at.rest (length part) refl))
+    in
+    at.at_offset ∙ ap (λ z. part ++ z) (sym e)

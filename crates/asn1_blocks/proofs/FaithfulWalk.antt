@@ -1,4 +1,4 @@
--- Steps of the walk over all blocks of a tree.
+-- Steps of the walk over all blocks of a tree, for `faithful::are_faithful`.
 use Rattle.std.proofs.Common.{◌↔◌, ℕ, List, [], ◌∷◌, ◌++◌, sym, subst}
 use Rattle.asn1_blocks.specs.declared.block.ASN1Block.{ASN1Block}
 use Rattle.asn1_blocks.specs.Tree.{Tree, leaf, group, explicit, unknown}
@@ -7,7 +7,7 @@ use Rattle.asn1_blocks.specs.Inner.FaithfulWalk.{IsFaithfulAlone}
 use Rattle.asn1_blocks.specs.Inner.TreeOrder.{IsNext, inside}
 use Rattle.asn1_blocks.specs.View.{view, views}
 
--- a tree is faithful by itself and inside
+-- a tree is faithful exactly if it is by itself, and the trees inside it are
 
 IsFaithful-parts : (t : Tree ℕ) → IsFaithful t → IsFaithfulAlone t × AreFaithful (inside t)
 IsFaithful-parts (leaf o l) f = (f, tt)
@@ -31,11 +31,11 @@ AreFaithful-split : (xs ys : List ASN1Block) → AreFaithful (views (xs ++ ys)) 
 AreFaithful-split [] ys f = (tt, f)
 AreFaithful-split (x ∷ xs) ys f = let s = AreFaithful-split xs ys f.1 in ((f.0, s.0), s.1)
 
--- the whole is faithful exactly if what is left is: so far all was
+-- all blocks are faithful exactly if those ahead are
 abbrev pub IsDecidedBy : List ASN1Block → List ASN1Block → Type 0
 IsDecidedBy whole rest = AreFaithful (views whole) ↔ AreFaithful (views rest)
 
--- a block that is faithful alone leaves it to those after it
+-- where a block is faithful alone, the blocks after it decide whether all are
 pub IsDecidedBy-next :
     (whole before after : List ASN1Block) (b : ASN1Block) → IsDecidedBy whole before → IsNext b before after →
     IsFaithfulAlone (view b) → IsDecidedBy whole after

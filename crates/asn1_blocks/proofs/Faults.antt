@@ -1,4 +1,4 @@
--- What is at fault is no block.
+-- Octets that are at fault are no blocks and no encodings, for all that tells documents from faults.
 use Rattle.std.proofs.Common.{◌≡◌, ℕ, ◌+◌, ◌<◌, ◌≤◌, ◌^◌, Bool, List, [], ◌∷◌, ◌++◌, length, refl, sym, ap, ◌∙◌, subst, arith, length-append, append_assoc, append-nil}
 use Rattle.std.proofs.lemmas.Bool.{false≢true}
 use Rattle.asn1_headers.specs.declared.header.ASN1Class.{ASN1Class}
@@ -49,7 +49,7 @@ tree_count-block o contents (more_trees b (more_trees c bs)) s a =
     let p = IsBlock-not_empty t.first (IsBlock-encodes _ t.first c t.item) in
     absurd (omega (arith, p, ap length (f.1 ∙ t.whole), length-append t.first t.rest))
 
--- what follows the first blocks
+-- what follows blocks at the front of blocks is blocks too
 pub AreBlocks-rest : (all front rest : List ℕ) → all ≡ front ++ rest → AreBlocks front → AreBlocks all → AreBlocks rest
 AreBlocks-rest all front rest e no_blocks bs = subst AreBlocks e bs
 AreBlocks-rest all front rest e (more_blocks {x = x} {rest = r} d b fs) no_blocks =
@@ -59,7 +59,7 @@ AreBlocks-rest all front rest e (more_blocks {x = x} {rest = r} d b fs) (more_bl
     (sym (append_assoc x r rest) ∙ ap (λ z. z ++ rest) (sym d) ∙ sym e ∙ d') in
     AreBlocks-rest q r rest (sym f.1) fs bs
 
--- the first of some blocks
+-- octets that are blocks, one or more, begin with a block
 pub AreBlocks-first : (octets : List ℕ) → AreBlocks octets → 0 < length octets →
     (x : List ℕ) × (rest : List ℕ) × (octets ≡ x ++ rest) × IsBlock x
 AreBlocks-first octets no_blocks h = absurd (omega (arith, h))
@@ -88,7 +88,7 @@ UniversalContents-block x k n contents h f (of_group g j t bs) =
     let s = Encoding-unique _ _ _ _ _ _ _ _ _ _ _ _ [] [] f g refl in
     is_group j (s.tag ∙ t) (subst AreBlocks (sym s.contents) bs)
 
--- an encoding at the front, by its parts
+-- octets that begin with an encoding are its parts and what follows them
 pub append-encoding_parts : (octets x rest : List ℕ) (c : ASN1Class) (k : Bool) (n : ℕ) (contents : List ℕ) (h : ℕ)
     (f : Encoding x c k n contents h)
     → octets ≡ x ++ rest → octets ≡ f.identifier ++ (f.len ++ (contents ++ rest))
@@ -107,7 +107,7 @@ length-contents_le octets x rest c k n contents h f e = omega (
   length-append f.len contents,
 )
 
--- length octets are some
+-- length octets are not empty
 pub IsLength-first : (l : List ℕ) (n : ℕ) → IsLength l n → (b : ℕ) × (r : List ℕ) × (l ≡ b ∷ r)
 IsLength-first [] n p = absurd p
 IsLength-first (b ∷ r) n p = (b, r, refl)

@@ -1,4 +1,5 @@
--- Octets have at most one first fault.
+-- Octets have at most one first fault, for all that returns it, and for `laws::law_one_reading` and
+-- `laws::law_fault_place` of `simple_asn1`.
 use Rattle.std.proofs.Common.{◌≡◌, ℕ, ◌+◌, ◌<◌, ◌^◌, Bool, List, [], ◌∷◌, ◌++◌, inl, inr, length, refl, sym, ap, ◌∙◌, subst, arith, length-append, append_assoc}
 use Rattle.asn1_headers.specs.declared.header.ASN1Class.{ASN1Class}
 use Rattle.asn1_headers.specs.declared.header.ASN1Class.TheVariants.{Universal}
@@ -87,13 +88,13 @@ HeaderFault-unique offset octets e d (too_long s l r c k n m t u g near long)
 HeaderFault-unique offset octets e d (too_long s l r c k n m t u g near long)
     (too_long s' l' r' c' k' n' m' t' u' g' near' long') = refl
 
--- no octets, no block and no fault
+-- where there are no octets, no block is at fault
 pub BlocksFaultAt-not_empty : (octets : List ℕ) (e : DecodeFault) (o : ℕ) → BlocksFaultAt octets e o → octets ≡ [] → ⊥
 BlocksFaultAt-not_empty octets e o p h =
     let v = BlocksFaultAt-faulty_block octets e o p in
     omega (arith, v.some, ap length v.whole, ap length h, length-append v.front v.rest)
 
--- the blocks up to where none follows are the same
+-- blocks at the front of the same octets, up to where no block follows, are the same
 pub AreBlocks-same_front : (octets front rest front' rest' : List ℕ) → AreBlocks front → AreBlocks front' →
     octets ≡ front ++ rest
     → octets ≡ front' ++ rest'
@@ -112,7 +113,7 @@ AreBlocks-same_front octets front rest front' rest' (more_blocks {x = x} {rest =
     let i = AreBlocks-same_front (r ++ rest) r rest q rest' bs cs refl f.1 none none' in
     (g ∙ ap (λ z. z ++ r) f.0 ∙ ap (λ z. y ++ z) i.0 ∙ sym h, i.1)
 
--- the faults of one block are one fault: of its header
+-- a block whose header is at fault has no other fault
 HeaderFault-same_block_fault : (offset : ℕ) (octets : List ℕ) (e d : DecodeFault) (j : ℕ) →
     HeaderFault offset octets e →
     BlockFaultAt offset octets d j
@@ -193,7 +194,7 @@ BlocksFaultAt-unique octets e d o p
     let a = BlocksFaultAt-unique c e d i m q r (omega (arith, fits, within)) in
     (a.0, omega (arith, a.1, inside, at))
 
--- the first fault is one, and has one place
+-- octets have at most one first fault, at one place
 pub FirstFaultAt-unique :
     (octets : List ℕ) (e d : DecodeFault) (o p : ℕ) → length octets < 2 ^ 64 →
     FirstFaultAt octets e o → FirstFaultAt octets d p → (e ≡ d) × (o ≡ p)
@@ -202,7 +203,7 @@ FirstFaultAt-unique octets e d o p small (inl a) (inr b) = absurd (BlocksFaultAt
 FirstFaultAt-unique octets e d o p small (inr a) (inl b) = absurd (BlocksFaultAt-not_empty octets e o a b.0)
 FirstFaultAt-unique octets e d o p small (inr a) (inr b) = BlocksFaultAt-unique octets e d o p a b small
 
--- octets have one first fault
+-- octets have at most one first fault
 pub FirstFault-unique : (octets : List ℕ) (e d : DecodeFault) → FirstFault octets e → FirstFault octets d →
     length octets < 2 ^ 64 → e ≡ d
 FirstFault-unique octets e d (o, a) (p, b) small = (FirstFaultAt-unique octets e d o p small a b).0

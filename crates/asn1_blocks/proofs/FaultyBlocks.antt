@@ -1,4 +1,4 @@
--- Where blocks one after another are at fault, one of them is.
+-- Where blocks one after another are at fault, one of them is, for all that tells documents from faults.
 use Rattle.std.proofs.Common.{◌≡◌, ℕ, ◌+◌, ◌<◌, Bool, List, ◌++◌, length, refl, ap, ◌∙◌, subst, arith, length-append}
 use Rattle.asn1_headers.specs.Fault.{DecodeFault}
 use Rattle.asn1_blocks.specs.Grammar.{AreBlocks, BlocksFaultAt, in_header, in_contents, in_item}
@@ -18,7 +18,7 @@ pub record FaultyBlock (octets : List ℕ) (e : DecodeFault) (offset : ℕ) : Ty
   pub fault : BlockFaultAt (length front) rest e inside
   pub offset_is : offset ≡ length front + inside
 
--- an encoding and more are some octets
+-- an encoding and what follows it are not empty
 pub Encoding-append_not_empty : (x rest : List ℕ) (c : ASN1Class) (k : Bool) (n : ℕ) (contents : List ℕ) (h : ℕ) →
     Encoding x c k n contents h
     → 0 < length (x ++ rest)

@@ -1,4 +1,4 @@
--- The number of headers that a reader begins.
+-- The number of headers that a reader begins, for `read_loop`, and for `laws::law_one_reading` of `simple_asn1`.
 use Rattle.std.proofs.Common.{◌≡◌, ℕ, ◌+◌, ◌<◌, ◌≤◌, Bool, List, [], ◌++◌, length, refl, sym, ap, ◌∙◌, subst, arith, length-append, append_assoc, append-nil}
 use Rattle.asn1_headers.specs.declared.header.ASN1Class.{ASN1Class}
 use Rattle.asn1_headers.specs.Header.{Encoding}
@@ -9,7 +9,7 @@ use Rattle.asn1_blocks.proofs.OneReading.{IsBlock-not_empty}
 use Rattle.asn1_blocks.proofs.Faults.{IsEncoding-block, IsBlock-unique}
 
 mutual
-  -- the number is one
+  -- octets have one number of headers begun
   pub HeadersBegun-unique : (octets : List ℕ) (m n : ℕ) → HeadersBegun octets m → HeadersBegun octets n → m ≡ n
   HeadersBegun-unique octets m n (begun_none e) (begun_none d) = refl
   HeadersBegun-unique octets m n (begun_none e) (begun_some some a b i f g) = absurd (omega (arith, some, ap length e))
@@ -94,7 +94,7 @@ BegunInside-append octets rest x r a e b (nothing_inside shut) =
     (sym d ∙ ap (λ z. z ++ rest) e ∙ append_assoc x r rest) in
     shut y r c k n contents h (e ∙ ap (λ z. z ++ r) (sym s.octets)) F o)
 
--- blocks, and what follows them
+-- the headers begun in blocks and in what follows them add up
 pub HeadersBegun-append : (front rest : List ℕ) (a b : ℕ) → AreBlocks front → HeadersBegun front a → HeadersBegun rest b
     → HeadersBegun (front ++ rest) (a + b)
 HeadersBegun-append front rest a b no_blocks (begun_none e) B =
@@ -114,7 +114,7 @@ HeadersBegun-append front rest a b (more_blocks {x = x} {rest = r} e k ks)
     begun_some (omega (arith, some, length-append front rest)) c (d + b) (BegunInside-append front rest x r c e k i)
     (after_first x (r ++ rest) (ap (λ z. z ++ rest) e ∙ append_assoc x r rest) k t) (omega (arith, g))
 
--- a block that is read inside
+-- a block that is read inside begins its own header and those of its contents octets
 pub HeadersBegun-read_inside : (x : List ℕ) (c : ASN1Class) (k : Bool) (n : ℕ) (contents : List ℕ) (h a : ℕ) →
     Encoding x c k n contents h
     → IsReadInside c k n → IsBlock x
@@ -133,7 +133,7 @@ BegunInside-not_read_inside octets x rest c k n contents h f d shut = nothing_in
     shut (subst (λ z. IsReadInside z k n) (sym s.class) (subst (λ z. IsReadInside c' z n) (sym s.constructed)
     (subst (λ z. IsReadInside c' j z) (sym s.tag) p))))
 
--- a block that is not read inside
+-- a block that is not read inside begins one header
 pub HeadersBegun-not_read_inside : (x : List ℕ) (c : ASN1Class) (k : Bool) (n : ℕ) (contents : List ℕ) (h : ℕ) →
     Encoding x c k n contents h
     → (IsReadInside c k n → ⊥) → IsBlock x → HeadersBegun x 1

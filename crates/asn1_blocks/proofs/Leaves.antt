@@ -1,5 +1,5 @@
--- What is known of leaves and groups by their tags: for each leaf a line that names the facts of its own module. The
--- other lemmas of the grammar build on these alone.
+-- What is known of leaves and groups by their tags, for all that reads or writes blocks: for each leaf a line that
+-- names the facts of its own module. The other lemmas of the grammar build on these alone.
 use Rattle.std.proofs.Common.{◌≡◌, ℕ, ◌<◌, ◌^◌, ◌==◌, ◌||◌, ◌↔◌, Bool, not, true, false, List, [], None, length, lit<, inl, inr, refl, sym, ap, ◌∙◌, subst, arith}
 use Rattle.std.specs.Prelude.{pos, All, if◌then◌else◌}
 use Rattle.std.proofs.lemmas.Bool.{false≢true, cases_Bool, or_cases, or_right, eqb-true}
@@ -63,12 +63,12 @@ kind_of_tag-string_tag bmp = refl
 string_tag-injective : (j k : StringKind) → string_tag j ≡ string_tag k → j ≡ k
 string_tag-injective j k e = sym (kind_of_tag-string_tag j) ∙ (ap kind_of_tag e ∙ kind_of_tag-string_tag k)
 
--- the tag of no string is not that of a kind of string
+-- a tag that is no string's is not that of a kind of string
 is_string_tag-not_string_tag : (n : ℕ) (kind : StringKind) → is_string_tag n ≡ false → n ≡ string_tag kind → ⊥
 is_string_tag-not_string_tag n kind other e =
     false≢true (sym other ∙ (ap is_string_tag e ∙ is_string_tag-string_tag kind))
 
--- the tag of a leaf is a leaf's
+-- the tag of each leaf is found to be one of leaves
 pub is_leaf_tag-leaf_tag : (l : Leaf) → is_leaf_tag (leaf_tag l) ≡ true
 is_leaf_tag-leaf_tag (boolean b) = refl
 is_leaf_tag-leaf_tag (integer z) = refl
@@ -80,7 +80,7 @@ is_leaf_tag-leaf_tag (text kind cs) = or_right _ (is_string_tag (string_tag kind
 is_leaf_tag-leaf_tag (utc_time m) = refl
 is_leaf_tag-leaf_tag (generalized_time m) = refl
 
--- a group's tag is that of a group
+-- the tag of each group is found to be one of groups
 pub is_group_tag-group_tag : (g : GroupKind) → is_group_tag (group_tag g) ≡ true
 is_group_tag-group_tag Sequence = refl
 is_group_tag-group_tag Set = refl
@@ -90,7 +90,7 @@ is_leaf_tag-group_tag : (g : GroupKind) → is_leaf_tag (group_tag g) ≡ false
 is_leaf_tag-group_tag Sequence = refl
 is_leaf_tag-group_tag Set = refl
 
--- the tag of a leaf is known
+-- a tag that is found to be one of leaves is known
 pub is_known_tag-is_leaf_tag : (n : ℕ) → is_leaf_tag n ≡ true → is_known_tag n ≡ true
 is_known_tag-is_leaf_tag n e = ap (λ b. b || is_group_tag n) e
 
@@ -103,7 +103,7 @@ pub is_known_tag-group_tag : (g : GroupKind) → is_known_tag (group_tag g) ≡ 
 is_known_tag-group_tag Sequence = refl
 is_known_tag-group_tag Set = refl
 
--- any other tag is unknown
+-- a tag that is not known is unknown
 IsUnknownTag-not_known : (n : ℕ) → is_known_tag n ≡ false → IsUnknownTag n
 IsUnknownTag-not_known n e = (
   λ l t. false≢true (sym e ∙ (ap is_known_tag t ∙ is_known_tag-leaf_tag l)),
@@ -199,7 +199,7 @@ LeafFault-by_leaf n contents e (of_generalized_time t f) =
     record { leaf = generalized_time some_moment; tag = t; fault = f }
 LeafFault-by_leaf n contents e (of_text kind t f) = record { leaf = text kind []; tag = t; fault = f }
 
--- only contents octets of a leaf have such a fault
+-- contents octets with the fault of a leaf have the tag of a leaf
 pub LeafFault-is_leaf_tag : (n : ℕ) (contents : List ℕ) (e : DecodeFault) → LeafFault n contents e →
     is_leaf_tag n ≡ true
 LeafFault-is_leaf_tag n contents e f =
@@ -231,7 +231,7 @@ pub LeafContents-no_fault : (n : ℕ) (contents : List ℕ) (e : DecodeFault) (l
 LeafContents-no_fault n contents e l t p f = let m = LeafFault-by_leaf n contents e f in
     FaultOf-not_contents l m.leaf contents e (sym t ∙ m.tag) p m.fault
 
--- contents octets have one fault of the leaves with a tag
+-- contents octets have at most one fault of leaves with one tag
 FaultOf-unique : (l m : Leaf) (contents : List ℕ) (e d : DecodeFault) → leaf_tag l ≡ leaf_tag m → FaultOf l contents e →
     FaultOf m contents d → e ≡ d
 FaultOf-unique (boolean a) (boolean b) contents e d t p q = BooleanFault-unique contents e d p q
@@ -249,7 +249,7 @@ FaultOf-unique (text j cs) (text k ds) contents e d t p q =
     TextFault-unique (text_form j) contents e d p (subst (λ z. TextFault (text_form z) contents d) (sym s) q)
 FaultOf-unique l m contents e d t p q = absurd (AreAlike-same_tag l m t)
 
--- the fault is one
+-- contents octets with a tag have at most one fault
 pub LeafFault-unique : (n : ℕ) (contents : List ℕ) (e d : DecodeFault) → LeafFault n contents e →
     LeafFault n contents d → e ≡ d
 LeafFault-unique n contents e d f g =
@@ -303,7 +303,7 @@ LeafMeaning-same_tag (text kind cs) n contents t =
     elim (TextContents-or_fault (text_form kind) contents)
     [ inl m ↦ means_leaf (text kind m.0) t m.1 | inr f ↦ means_fault f.0 (of_text kind t f.1) ]
 
--- a string of characters by its tag
+-- the tag of a string of characters is the tag of some leaf
 is_string_tag-leaf : (n : ℕ) → is_string_tag n ≡ true → (l : Leaf) × (n ≡ leaf_tag l)
 is_string_tag-leaf n e = elim (or_cases ((n == 12) || (n == 19) || (n == 20) || (n == 22) || (n == 28)) (n == 30) e) [
   | inr a ↦ (text bmp [], eqb-true n 30 a)
@@ -320,7 +320,7 @@ is_string_tag-leaf n e = elim (or_cases ((n == 12) || (n == 19) || (n == 20) || 
   ]
 ]
 
--- a leaf by its tag
+-- each tag from 1 to 5 is the tag of some leaf
 leaf_tag-low : (n : ℕ) → ((n == 1) || (n == 2) || (n == 3) || (n == 4) || (n == 5)) ≡ true →
     (l : Leaf) × (n ≡ leaf_tag l)
 leaf_tag-low n e = elim (or_cases ((n == 1) || (n == 2) || (n == 3) || (n == 4)) (n == 5) e) [
@@ -390,7 +390,7 @@ is_known_tag-unknown n u = elim (cases_Bool (is_known_tag n)) [
   ]
 ]
 
--- a test of it says so
+-- a tag is unknown exactly if the test says that it is not known
 pub IsUnknownTag-iff_not_known : (n : ℕ) (known : Bool) → known ≡ is_known_tag n → (not known ≡ true) ↔ IsUnknownTag n
 IsUnknownTag-iff_not_known n true e =
     (λ f. absurd (false≢true f), λ u. absurd (false≢true (sym (is_known_tag-unknown n u) ∙ sym e)))
@@ -459,7 +459,7 @@ IsFaithfulLeaf-read (utc_time m) contents all p = IsFaithfulUtcTime-read m conte
 IsFaithfulLeaf-read (generalized_time m) contents all p = IsFaithfulGeneralizedTime-read m contents p
 IsFaithfulLeaf-read (text kind cs) contents all p = HasCharacters-read (text_form kind) cs contents all p
 
--- what is not left is not written
+-- octets of a leaf that are not left are not written
 pub leaf_contents-normalized_leaf : (l : Leaf) → leaf_contents (normalized_leaf l) ≡ leaf_contents l
 leaf_contents-normalized_leaf (boolean b) = refl
 leaf_contents-normalized_leaf (integer n) = refl

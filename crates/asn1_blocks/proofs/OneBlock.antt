@@ -1,4 +1,4 @@
--- Octets that were read are a block exactly if one was found.
+-- Octets that were read are a block exactly if one was found, for `faithful::is_block`.
 use Rattle.std.proofs.Common.{◌≡◌, ℕ, ◌<◌, ◌^◌, List, [], ◌∷◌, length, inl, inr, sym, ap, ◌∙◌, arith}
 use Rattle.asn1_blocks.specs.declared.block.ASN1Block.{ASN1Block}
 use Rattle.asn1_headers.specs.Fault.{DecodeFault}

@@ -1,4 +1,4 @@
--- A header at the front of what is left of contents octets, and its place in the document.
+-- A header at the front of what is left of contents octets, and its place in the document, for `parsed::header_within`.
 use Rattle.std.proofs.Common.{◌≡◌, ℕ, ◌+◌, ◌-◌, ◌<◌, ◌≤◌, ◌^◌, Bool, List, ◌++◌, length, take, drop, length-drop, refl, sym, ap, ◌∙◌, subst, arith, length-append, append_assoc}
 use Rattle.std.proofs.lemmas.List.{length-take-le, take-append-drop, take-take}
 use Rattle.std.specs.List.{slice_range}
@@ -44,7 +44,7 @@ module _ (rest : List ℕ) (size announced : ℕ) (class : ASN1Class) (construct
       front.length_octets append-header_parts
       (omega (arith, e, length-header_parts, near)) (omega (arith, length-drop size rest, long))
 
--- a header whose contents octets fit
+-- a header whose contents octets fit into what is left is found
 pub HeaderFound-fits : (octets : List ℕ) (offset limit size announced : ℕ) (class : ASN1Class) (constructed : Bool)
     (tag : ℕ)
     → BeginsWithHeader (slice_range octets offset limit) size announced class constructed tag

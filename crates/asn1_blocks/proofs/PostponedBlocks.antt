@@ -1,4 +1,4 @@
--- Postponed blocks, built one after another.
+-- Postponed blocks, built one after another, for `postponed` and `read::TreeBuilderBuilder`.
 use Rattle.std.proofs.Common.{◌≡◌, ℕ, ◌-◌, List, [], ◌∷◌, ◌++◌, length, map, take, drop, refl, sym, ap, ◌∙◌, arith, length-append, append_assoc, append-nil}
 use Rattle.std.proofs.Math.Seq.{take-append_seam, drop-append_seam}
 use Rattle.std.proofs.lemmas.List.{take-map, drop-map, map-append, length-map}
@@ -12,13 +12,13 @@ use Rattle.asn1_blocks.specs.View.{view, views}
 use Rattle.asn1_blocks.specs.Inner.OpenFrames.{around, as_it_came}
 use Rattle.asn1_blocks.specs.Inner.Postponed.{around_last, trees_after, trees_after_all, Builds}
 
--- the trees after postponed blocks and then others
+-- to build two lists of postponed blocks in one is to build the first, and then the second
 pub trees_after_all-append : (octets : List ℕ) (es fs : List Postponed) (s : List (Tree ℕ)) →
     trees_after_all octets (es ++ fs) s ≡ trees_after_all octets fs (trees_after_all octets es s)
 trees_after_all-append octets [] fs s = refl
 trees_after_all-append octets (e ∷ es) fs s = trees_after_all-append octets es fs (trees_after octets e s)
 
--- the trees after postponed blocks and one more
+-- to build postponed blocks and one more is to build them, and then that one
 pub trees_after_all-append_last : (octets : List ℕ) (es : List Postponed) (e : Postponed) (s : List (Tree ℕ))
     → trees_after_all octets (es ++ e ∷ []) s ≡ trees_after octets e (trees_after_all octets es s)
 trees_after_all-append_last octets es e s = trees_after_all-append octets es (e ∷ []) s
@@ -36,14 +36,14 @@ Builds-append_nothing octets es fs ts h k s =
     trees_after_all-append octets es fs s
     ∙ (ap (trees_after_all octets fs) (h s) ∙ (k (s ++ ts) ∙ append-nil (s ++ ts)))
 
--- one block more, which is ready
+-- postponed blocks with a ready one behind them build its tree too
 pub Builds-ready : (octets : List ℕ) (es : List Postponed) (ts : List (Tree ℕ)) (b : ASN1Block) → Builds octets es ts
     → Builds octets (es ++ Ready b ∷ []) (ts ++ view b ∷ [])
 Builds-ready octets es ts b h s =
     trees_after_all-append_last octets es (Ready b) s
     ∙ (ap (λ z. z ++ view b ∷ []) (h s) ∙ append_assoc s ts (view b ∷ []))
 
--- one encoding more, which stays as it came
+-- postponed blocks with an encoding behind them that stays as it came build its tree too
 pub Builds-as_it_came : (octets : List ℕ) (es : List Postponed) (ts : List (Tree ℕ)) (a : Attempt) (from to : ℕ) →
     Builds octets es ts
     → Builds octets (es ++ AsItCame a from to ∷ []) (ts ++ as_it_came octets a from to ∷ [])
@@ -52,7 +52,7 @@ Builds-as_it_came octets es ts a from to h s =
     trees_after_all-append_last octets es (AsItCame a from to) s
     ∙ (ap (λ z. z ++ x ∷ []) (h s) ∙ append_assoc s ts (x ∷ []))
 
--- what pushing a block does to the trees
+-- pushing a block pushes its tree
 pub map-view_append_last : (old new : List ASN1Block) (b : ASN1Block) → new ≡ old ++ b ∷ [] →
     map view new ≡ map view old ++ view b ∷ []
 map-view_append_last old new b e = ap (map view) e ∙ map-append view old (b ∷ [])
@@ -84,7 +84,7 @@ around_last-built old kept a item b e eb =
     ∙ (sym (around_last-append_last a (map view kept) (view item))
     ∙ ap (around_last a) (sym (map-view_append_last kept old item e)))
 
--- one group more, whose other items were postponed
+-- postponed blocks with a group behind them, whose other items were postponed, build the group too
 pub Builds-group : (octets : List ℕ) (es fs : List Postponed) (us ts : List (Tree ℕ)) (g : GroupKind) (o behind : ℕ)
     (first : List ASN1Block)
     → behind ≡ length ts
@@ -109,7 +109,7 @@ Builds-group octets es fs us ts g o behind first n h k s =
     ∙ (ap (λ z. z ++ own (drop (length (s ++ us)) all) ∷ []) (take-append_seam (s ++ us) ts)
     ∙ (ap (λ z. (s ++ us) ++ own z ∷ []) (drop-append_seam (s ++ us) ts) ∙ append_assoc s us _)))
 
--- one explicit block more around a tree that was postponed
+-- postponed blocks with an explicit one behind them, around a tree that was postponed, build its tree too
 pub Builds-explicit : (octets : List ℕ) (es fs : List Postponed) (us : List (Tree ℕ)) (x : Tree ℕ) (a : Attempt) →
     Builds octets es us
     → Builds octets fs (x ∷ [])

@@ -1,4 +1,4 @@
--- Slices of the document, and what a header in them says.
+-- Trees with one more at their end, and slices: their lengths, and one after another, for all that reads slices.
 use Rattle.std.proofs.Common.{◌≡◌, ℕ, ◌+◌, ◌-◌, ◌≤◌, Bool, List, ◌++◌, length, take, drop, Vec, Global, drop-drop, length-drop, length-take, sym, ap, ◌∙◌, subst, arith, rules, length-append, append_assoc}
 use Rattle.std.specs.List.{slice_range}
 use Rattle.std.proofs.Math.Seq.{take-add}
@@ -14,7 +14,7 @@ abbrev pub with_last : {O : Type 0} → Trees O → Tree O → Trees O
 with_last no_trees b = more_trees b no_trees
 with_last (more_trees x xs) b = more_trees x (with_last xs b)
 
--- octets that encode trees, and one tree more behind them
+-- octets that encode trees, and those of one tree more behind them, encode all of these trees
 pub EncodesAll-with_last : (o : ℕ) (octets last : List ℕ) (bs : Trees ℕ) (b : Tree ℕ) → EncodesAll o octets bs →
     Encodes (o + length octets) last b
     → EncodesAll o (octets ++ last) (with_last bs b)

@@ -1,4 +1,4 @@
--- The reader: its steps, whatever is built.
+-- The reader: its steps, whatever is built, for `read_loop`.
 pub mod Memory
 pub mod Turning
 pub mod Popping

@@ -1,4 +1,4 @@
--- An answer that is a document or a first fault is the only one.
+-- An answer that is a document or a first fault is the only one, for `read`, `asn1_outline` and `simple_asn1`.
 use Rattle.std.proofs.Common.{◌≡◌, ℕ, ◌<◌, ◌^◌, List, length, inl, inr, Result, Ok, Err, Vec, Global, IfOk, IfErr, IsErrAnd, MatchResult, ap, arith}
 use Rattle.asn1_blocks.specs.declared.block.ASN1Block.{ASN1Block}
 use Rattle.asn1_headers.specs.declared.error.ASN1DecodeErr.{ASN1DecodeErr}
@@ -40,7 +40,7 @@ FirstFault-refused octets (Err e) small ok (inl memory) fault f = inl memory
 FirstFault-refused octets (Err e) small ok (inr first) fault f =
     inr (FirstFault-unique octets (fault_of e) fault first f small)
 
--- a first fault that has a place, without it
+-- a first fault at a place is a first fault
 pub FirstFault-without_place : (octets : List ℕ) (e : ASN1DecodeErr) (o : ℕ) →
     OutOfMemoryOr (λ f. FirstFaultAt octets f o) e
     → OutOfMemoryOr (FirstFault octets) e

@@ -1,4 +1,4 @@
--- Steps of the comparison of two lists of blocks.
+-- Steps of the comparison of two lists of blocks, for `block::same`.
 use Rattle.std.proofs.Common.{◌≡◌, ℕ, ◌≤◌, ◌<◌, zero, suc, List, [], ◌∷◌, ◌++◌, length, length-append, get_or, refl, sym, ap, ◌∙◌, arith}
 use Rattle.asn1_blocks.specs.declared.block.ASN1Block.{ASN1Block}
 use Rattle.asn1_blocks.specs.HeadersBegun.{blocks_in, all_blocks_in}
@@ -71,7 +71,7 @@ shape-own_and_inside (unknown c k o m v) (explicit d p n f) e i = cc
 abbrev pub AreSame : List ASN1Block → List ASN1Block → Type 0
 AreSame xs ys = shapes (views xs) ≡ shapes (views ys)
 
--- lists as long and the same are so before the last block, and in the last block
+-- two lists of one length that are the same are the same before their last blocks, and in these blocks
 AreSame-split_last : (xs ys : List ASN1Block) (x y : ASN1Block) → length xs ≡ length ys →
     AreSame (xs ++ x ∷ []) (ys ++ y ∷ [])
     → AreSame xs ys × (shape (view x) ≡ shape (view y))
@@ -85,7 +85,7 @@ AreSame-split_last (a ∷ xs) (b ∷ ys) x y n e =
     let k = h.0 in
     (cc, h.1)
 
--- two lists with a last block are the same where those before are, and the last ones beside and by what they hold
+-- two lists are the same exactly if they are so before their last blocks, and these are, with the blocks inside them
 pub record AreSameByLasts (v w xs ys : List ASN1Block) (x y : ASN1Block) : Type 0 where
   pub fronts : AreSame v w → AreSame xs ys
   pub own : AreSame v w → own_shape (view x) ≡ own_shape (view y)
@@ -114,7 +114,7 @@ AreSame-by_lasts v w xs ys x y e f =
       whole = λ s o h. p ∙ (shapes-append_last xs ys x y s (shape-own_and_inside (view x) (view y) o h) ∙ sym q);
     }
 
--- fewer blocks are before the last one, and inside it
+-- there are fewer blocks before the last one, and fewer inside it, than in the whole list
 pub all_blocks_in-last_lt : (v xs : List ASN1Block) (x : ASN1Block) → v ≡ xs ++ x ∷ [] →
     (all_blocks_in (views xs) < all_blocks_in (views v))
     × (all_blocks_in (inside (view x)) < all_blocks_in (views v))

@@ -1,4 +1,5 @@
--- The octets of a tree of a document, and documents one after another.
+-- The octets of a tree of a document, and documents one after another, for `encoding::encoding_at`, `asn1_outline` and
+-- `simple_asn1`.
 use Rattle.std.proofs.Common.{◌≡◌, ℕ, ◌+◌, ◌-◌, List, [], ◌++◌, ◌↔◌, length, take, drop, sym, ap, ◌∙◌, subst, arith, length-append, append_assoc, append-nil}
 use Rattle.std.specs.List.{slice_range}
 use Rattle.std.proofs.lemmas.List.{take_at, drop_at}
@@ -103,7 +104,7 @@ module _ (i u x v : List ℕ) (w : i ≡ u ++ (x ++ v)) where
   middle-contents t l contents d = middle-rest (t ++ l) contents (d ∙ sym (append_assoc t l contents))
 
 mutual
-  -- a tree that stands in one that was read
+  -- a tree that stands in one that was read is found in the octets
   pub IsFoundIn-tree :
       (a : Tree ℕ) (e : ℕ) (b : Tree ℕ) (j : ℕ) (i u x v : List ℕ) → i ≡ u ++ (x ++ v) →
       e ≡ length u + length x → Encodes (length u) x a → StandsIn a e b j → IsFoundIn i b j
@@ -142,7 +143,7 @@ mutual
       ))
       (subst (λ z. Encodes z contents y) h item) t
 
-  -- a tree that stands among trees that were read
+  -- a tree that stands among trees that were read is found in the octets
   pub IsFoundIn-trees :
       (bs : Trees ℕ) (e : ℕ) (b : Tree ℕ) (j : ℕ) (i u x v : List ℕ) → i ≡ u ++ (x ++ v) →
       e ≡ length u + length x → EncodesAll (length u) x bs → StandsAmong bs e b j → IsFoundIn i b j
@@ -156,7 +157,7 @@ mutual
       (omega (arith, n, h, ap length s.whole, length-append s.first s.rest))
       (subst (λ z. EncodesAll z s.rest cs) h s.items) t
 
--- the slice where octets stand
+-- octets that stand in others are a slice of them
 pub slice_range-middle : (i u x v : List ℕ) (o j : ℕ) → i ≡ u ++ (x ++ v) → o ≡ length u → j ≡ length u + length x →
     slice_range i o j ≡ x
 slice_range-middle i u x v o j w p q =
@@ -211,7 +212,7 @@ EncodingAt-tree_octets i bs b octets d h =
       encoding = IsEncoding-block octets (IsBlock-encodes (tree_offset b) octets b f.encoded);
     }
 
--- one encoding stands at an offset
+-- at most one encoding stands at an offset
 pub EncodingAt-unique : (i : List ℕ) (o : ℕ) (x y : List ℕ) → EncodingAt i o x → EncodingAt i o y → x ≡ y
 EncodingAt-unique i o x y p q =
     (Encoding-unique _ _ _ _ _ _ _ _ _ _ _ _ p.rest q.rest p.encoding.encoding q.encoding.encoding
@@ -225,7 +226,7 @@ EncodingAt-iff_octets i bs b octets other d h =
     let e = EncodingAt-tree_octets i bs b octets d h in
     (λ p. EncodingAt-unique i (tree_offset b) other octets p e, λ q. subst (EncodingAt i (tree_offset b)) (sym q) e)
 
--- trees, and then others
+-- octets that encode trees, and octets behind them that encode others, encode all of these trees
 pub EncodesAll-joined : (o : ℕ) (x y : List ℕ) (xs ys : Trees ℕ) → EncodesAll o x xs → EncodesAll (o + length x) y ys
     → EncodesAll o (x ++ y) (joined xs ys)
 EncodesAll-joined o x y no_trees ys s t =

@@ -1,4 +1,4 @@
--- Steps of the walk that finds the blocks of trees in tree order.
+-- Steps of the walk that finds the blocks of trees in tree order, for `tree_walk` and for all that goes over blocks.
 use Rattle.std.proofs.Common.{◌≡◌, ℕ, zero, suc, ◌+◌, ◌≤◌, List, [], ◌∷◌, ◌++◌, length, map, drop, get_or, refl, sym, ap, subst, ◌∙◌, arith, append_assoc, append-nil, Bor}
 use Rattle.std.proofs.lemmas.List.{drop_more, map_push}
 use Rattle.asn1_blocks.specs.declared.block.ASN1Block.{ASN1Block}
@@ -8,7 +8,7 @@ use Rattle.asn1_blocks.specs.HeadersBegun.{blocks_in, all_blocks_in}
 use Rattle.asn1_blocks.specs.Inner.TreeOrder.{IsInTreeOrder, IsNext, inside, stacked}
 use Rattle.asn1_blocks.specs.View.{view, views}
 
--- lists inside one another, and one more inside
+-- the blocks of lists inside one another are those of the innermost list, and then those of the others
 pub stacked-append_last : (outer : List (List ASN1Block)) (blocks : List ASN1Block) →
     stacked (outer ++ blocks ∷ []) ≡ blocks ++ stacked outer
 stacked-append_last [] blocks = sym (append-nil blocks)
@@ -48,7 +48,7 @@ all_blocks_in-next b before after n =
       ap (λ z. all_blocks_in (views z)) n.first,
     )
 
--- any order of what is ahead, after the blocks that were found, is one of the whole
+-- the blocks that were found, and any tree order of those ahead, are a tree order of all
 abbrev pub IsFoundBefore : List ASN1Block → List ASN1Block → List ASN1Block → Type 0
 IsFoundBefore found ahead whole =
     (order : List ASN1Block) → IsInTreeOrder order ahead → IsInTreeOrder (found ++ order) whole
@@ -66,7 +66,7 @@ pub IsInTreeOrder-found : (found ahead whole : List ASN1Block) → IsFoundBefore
     IsInTreeOrder found whole
 IsInTreeOrder-found found ahead whole f e = subst (λ z. IsInTreeOrder z whole) (append-nil found) (f [] e)
 
--- what is left of an order is one of some blocks
+-- what is left of a tree order is a tree order of some blocks
 pub IsInTreeOrder-drop : (order blocks : List ASN1Block) (i : ℕ) → IsInTreeOrder order blocks → i ≤ length order
     → (left : List ASN1Block) × IsInTreeOrder (drop i order) left
 IsInTreeOrder-drop order blocks zero h l = (blocks, h)

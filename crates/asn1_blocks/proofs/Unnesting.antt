@@ -1,4 +1,4 @@
--- How many blocks are left where a block is taken apart.
+-- How many blocks are left where a block is taken apart, for `block::discard::discard` and `block::same`.
 use Rattle.std.proofs.Common.{◌≡◌, ◌+◌, ◌<◌, ℕ, List, [], ◌∷◌, ◌++◌, arith}
 use Rattle.asn1_blocks.specs.declared.block.ASN1Block.{ASN1Block}
 use Rattle.asn1_blocks.specs.Tree.{Tree, leaf, group, explicit, unknown}

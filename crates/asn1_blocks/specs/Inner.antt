@@ -1,5 +1,5 @@
--- What private contracts and the laws of `==` name, but no public contract: there `same_block` is what `==` answers,
--- and that answer is said without it too.
+-- What private contracts and the laws of `==` name. A public contract names `same_block` alone, as what `==` returns,
+-- and says without that name too what `==` returns.
 pub mod LeafEquality
 pub mod Equality
 pub mod EqualityLaws

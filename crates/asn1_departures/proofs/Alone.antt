@@ -1,4 +1,4 @@
--- Octets have one list of departures, or a header at fault.
+-- Octets have at most one list of departures or one header at fault, and not both, for `laws::law_departures`.
 use Rattle.std.proofs.Common.{◌≡◌, ℕ, ◌+◌, ◌<◌, ◌^◌, Bool, true, false, List, [], ◌∷◌, ◌++◌, inl, inr, length, refl, sym, ap, ◌∙◌, subst, arith, length-append}
 use Rattle.std.specs.Prelude.{MatchBool, Option, Some}
 use Rattle.asn1_headers.specs.Fault.{DecodeFault}
@@ -17,7 +17,7 @@ use Rattle.asn1_departures.specs.declared.rule.Rule.{Rule}
 use Rattle.asn1_departures.specs.declared.rule.Rule.TheVariants.{IndefiniteLength, LongLength}
 use Rattle.asn1_departures.proofs.Fronts.{AreEncodings-nil, AreEncodings-behind_end, AreEncodings-behind_next, AreDerEncodings-are_encodings, Encoding-end_of_contents, Encoding-is_end_of_contents, len-same_encoding}
 
--- a rule is found to be broken, or not
+-- whether a rule is found to be broken has one answer
 Found-unique : (Asked : Type 0) (rule : Rule) (f g : Option Rule) → Found Asked rule f → Found Asked rule g → f ≡ g
 Found-unique Asked rule f g (kept a) (kept b) = refl
 Found-unique Asked rule f g (kept a) (broken b) = absurd (b a)
@@ -43,7 +43,7 @@ TypeFound-unique b Application k n v f g p q = p ∙ sym q
 TypeFound-unique b ContextSpecific k n v f g p q = p ∙ sym q
 TypeFound-unique b Private k n v f g p q = p ∙ sym q
 
--- what an encoding breaks by itself
+-- what an encoding breaks by itself is listed in one way
 own_departures-unique :
     (o : ℕ) (id len : List ℕ) (c : ASN1Class) (k : Bool) (n : ℕ) (v : List ℕ) (r s : OwnRules id len c k n v) →
     own_departures o r ≡ own_departures o s
@@ -70,7 +70,7 @@ record ListsFrom (u o : ℕ) (id len : List ℕ) (c : ASN1Class) (k : Bool) (n :
   later_is : Lists (unended_behind u k len) (o + size) rest later
   all : found ≡ own_departures o own ++ (inside ++ later)
 
--- encodings at the front of one list have the same identifier octets
+-- two encodings of the same octets have the same identifier octets
 identifier-same_encoding :
     (xs ys : List ℕ) (c d : ASN1Class) (j k : Bool) (m n : ℕ) (v w : List ℕ) (g h : ℕ) (F : Encoding xs c j m v g)
     (G : Encoding ys d k n w h) →
@@ -81,7 +81,7 @@ identifier-same_encoding xs ys c d j k m n v w g h F G e =
     (sym F.whole ∙ (e ∙ G.whole))).octets
 
 module _ (u o : ℕ) (found : List Departure) where
-  -- what is listed from an encoding is listed with the fields of another header that are the same
+  -- what is listed from an encoding on is also what is listed with equal fields of its header
   ListsFrom-same_fields :
       (id id' len len' : List ℕ) (c c' : ASN1Class) (k k' : Bool) (n n' : ℕ) (v v' : List ℕ) (h h' size size' : ℕ)
       (rest rest' : List ℕ) →
@@ -133,7 +133,7 @@ module _ (u o : ℕ) (found : List Departure) where
       absurd (m.no_end (omega (arith, more))
       (Encoding-is_end_of_contents x first rest _ m.class m.constructed m.tag m.contents m.header m.encoding m.whole e))
 
-  -- where end-of-contents octets do, what is listed is behind them
+  -- where end-of-contents octets close an encoding, the departures listed are those behind these octets
   Lists-end_of_contents : (x rest : List ℕ) (fewer : ℕ) → u ≡ fewer + 1 → x ≡ 0 ∷ 0 ∷ rest → Lists u o x found →
       Lists fewer (o + 2) rest found
   Lists-end_of_contents x rest fewer more e (none_left z e' f) = absurd (omega (arith, more, z))
@@ -158,7 +158,7 @@ module _ (u o : ℕ) (found : List Departure) where
       ))
   Lists-nil x z e (end_listed more e' ls) = absurd (omega (arith, more, z))
 
--- what has a list is encodings one after another
+-- octets that have a list of departures are encodings one after another
 pub Lists-are_encodings : (u o : ℕ) (x : List ℕ) (found : List Departure) → Lists u o x found → AreEncodings u x
 Lists-are_encodings u o x found (none_left z e f) = no_more z e
 Lists-are_encodings u o x found (encoding_listed {first = first} {rest = rest} {later = later} n r i ls all) =
@@ -167,7 +167,7 @@ Lists-are_encodings u o x found (end_listed {fewer = fewer} {rest = rest} more e
     end_of_contents more e (Lists-are_encodings fewer (o + 2) rest found ls)
 
 mutual
-  -- octets have one list
+  -- octets have at most one list of departures
   pub Lists-unique : (u o : ℕ) (x : List ℕ) (xs ys : List Departure) → Lists u o x xs → Lists u o x ys → xs ≡ ys
   Lists-unique u o x xs ys (none_left z e f) l = f ∙ sym (Lists-nil u o ys x z e l)
   Lists-unique u o x xs ys
@@ -203,7 +203,7 @@ mutual
       absurd (never (Lists-are_encodings 0 s v ys ls))
   ListsInside-unique o s b v xs ys (no_encodings_inside t never e) (no_encodings_inside t' never' e') = e ∙ sym e'
 
--- no header in front of encodings is at fault
+-- the header in front of encodings one after another is not at fault
 AreEncodings-no_front_fault :
     (u o : ℕ) (x : List ℕ) (e : DecodeFault) → o + length x < 2 ^ 64 → 0 < length x → HeaderFault o x e →
     AreEncodings u x → ⊥
@@ -213,7 +213,7 @@ AreEncodings-no_front_fault u o x e small some f (next {first = first} {rest = r
 AreEncodings-no_front_fault u o x e small some f (end_of_contents {rest = rest} more w a) =
     HeaderFault-not_encoding o x (0 ∷ 0 ∷ []) rest e Universal false 0 [] 2 f small w Encoding-end_of_contents
 
--- no header behind the first of encodings is at fault
+-- in encodings one after another no header is at fault, and no end-of-contents octets are missing
 AreEncodings-no_fault_behind :
     (u o place : ℕ) (x : List ℕ) (e : DecodeFault) → o + length x < 2 ^ 64 → AreEncodings u x →
     HeaderFaultBehind u o x place e → ⊥
@@ -228,7 +228,7 @@ AreEncodings-no_fault_behind u o place x e small a (behind_end_of_contents {fewe
     AreEncodings-no_fault_behind fewer (o + 2) place rest e (omega (arith, small, ap length w))
     (AreEncodings-behind_end u fewer x rest more w a) f
 
--- encodings one after another have no fault
+-- encodings one after another, one or more, have no fault
 pub AreEncodings-no_fault : (x : List ℕ) (place : ℕ) (e : DecodeFault) → length x < 2 ^ 64 → 0 < length x →
     AreEncodings 0 x →
     NoEncodingsFault x place e → ⊥
@@ -241,7 +241,7 @@ pub IsDer-no_fault : (x : List ℕ) (place : ℕ) (e : DecodeFault) → length x
 IsDer-no_fault x place e small d f =
     AreEncodings-no_fault x place e small d.some (AreDerEncodings-are_encodings x d.items small d.encodings) f
 
--- what is behind the encoding in front
+-- a fault behind one encoding in front is behind any other in front, since the two are the same
 HeaderFaultBehind-same_next :
     (u o q : ℕ) (x first rest : List ℕ) (e : DecodeFault) (n : IsNext u x first rest) (f r : List ℕ)
     (m : IsNext u x f r) →
@@ -262,7 +262,7 @@ HeaderFaultBehind-same_next u o q x first rest e n f r m h =
     (subst (λ z. HeaderFaultBehind (unended_behind u n.constructed z) (o + length f) r q e) (sym len)
     (subst (λ z. HeaderFaultBehind (unended_behind u z m.encoding.len) (o + length f) r q e) (sym same.constructed) h)))
 
--- an encoding has octets, so that none are left is said of no octets alone
+-- no encoding stands in front where there are no octets
 IsNext-not_nil : (u : ℕ) (x first rest : List ℕ) → IsNext u x first rest → x ≡ [] → ⊥
 IsNext-not_nil u x first rest n none =
     omega (
@@ -292,7 +292,7 @@ IsNext-not_end_of_contents u fewer x first rest later n more w =
     (Encoding-is_end_of_contents x first rest later n.class n.constructed n.tag n.contents n.header n.encoding n.whole
     w)
 
--- there is one fault, at one place
+-- at most one header of encodings one after another is at fault, with one fault
 HeaderFaultBehind-unique :
     (u o p q : ℕ) (x : List ℕ) (e d : DecodeFault) → o + length x < 2 ^ 64 → HeaderFaultBehind u o x p e →
     HeaderFaultBehind u o x q d →
@@ -338,7 +338,7 @@ HeaderFaultBehind-unique u o p q x e d small (behind_end_of_contents {fewer = a}
     HeaderFaultBehind-unique a (o + 2) p q rest e d (omega (arith, small, ap length w)) f
     (subst (λ z. HeaderFaultBehind z (o + 2) rest q d) count (subst (λ z. HeaderFaultBehind b (o + 2) z q d) same g))
 
--- no octets have a header at fault, where no encoding is open
+-- where there are no octets and no encoding is open, no header is at fault
 HeaderFaultBehind-not_nil : {x : List ℕ} {p : ℕ} {e : DecodeFault} → x ≡ [] → HeaderFaultBehind 0 0 x p e → ⊥
 HeaderFaultBehind-not_nil none (at_front some f) = omega (arith, some, ap length none)
 HeaderFaultBehind-not_nil none (unended_at_end some e) = omega (arith, some)

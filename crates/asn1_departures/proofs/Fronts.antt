@@ -1,4 +1,5 @@
--- Encodings one after another by their headers.
+-- What encodings one after another begin with, an encoding or end-of-contents octets, for `encodings`, `listing` and
+-- `laws::law_departures`.
 use Rattle.std.proofs.Common.{◌≡◌, ℕ, ◌+◌, ◌-◌, ◌<◌, ◌≤◌, ◌^◌, Bool, true, false, List, [], ◌∷◌, ◌++◌, drop, take, inl, inr, length, refl, sym, ap, ◌∙◌, subst, arith, append_assoc, length-append}
 use Rattle.std.proofs.lemmas.Bool.{cases_lt, cond_below}
 use Rattle.std.proofs.lemmas.List.{take-append-drop}
@@ -15,7 +16,7 @@ use Rattle.asn1_blocks.specs.Places.{HasNoEncodingAt, IsEncoding}
 use Rattle.asn1_departures.specs.Steps.{IsStep, begins_with_end, is_at_end}
 use Rattle.asn1_departures.specs.Departures.{AreEncodings, IsNext, end_of_contents, is_indefinite, is_open, next, no_more, unended_behind}
 
--- what is behind length octets does not matter
+-- whether length octets are of the indefinite form does not depend on what is behind them
 pub is_indefinite-append : (len v : List ℕ) (n : ℕ) → IsLength len n → is_indefinite (len ++ v) ≡ is_indefinite len
 is_indefinite-append [] v n p = absurd p
 is_indefinite-append (b ∷ len) v n p = refl
@@ -47,7 +48,7 @@ Encoding-end_of_contents = record {
   size = refl;
 }
 
--- an encoding in front of which they stand is they
+-- an encoding at the front of octets that begin with end-of-contents octets is these two octets
 pub Encoding-is_end_of_contents :
     (x first rest behind : List ℕ) (c : ASN1Class) (k : Bool) (n : ℕ) (v : List ℕ) (h : ℕ) → Encoding first c k n v h →
     x ≡ first ++ rest → x ≡ 0 ∷ 0 ∷ behind → first ≡ 0 ∷ 0 ∷ []
@@ -55,7 +56,7 @@ Encoding-is_end_of_contents x first rest behind c k n v h e w z =
     (Encoding-unique first (0 ∷ 0 ∷ []) c Universal k false n 0 v [] h 2 rest behind e Encoding-end_of_contents
     (sym w ∙ z)).octets
 
--- the encoding in front is that of the relation
+-- behind the first of encodings one after another there are encodings
 pub AreEncodings-behind_next :
     (u : ℕ) (x first rest : List ℕ) (n : IsNext u x first rest) → AreEncodings u x →
     AreEncodings (unended_behind u n.constructed n.encoding.len) rest
@@ -94,7 +95,7 @@ AreEncodings-behind_end u fewer x rest more e (end_of_contents {fewer = f} {rest
     let count : f ≡ fewer = omega (arith, more, more') in
     subst (λ z. AreEncodings z rest) count (subst (λ z. AreEncodings f z) same a)
 
--- none are where no encoding stands in front
+-- octets that begin with neither an encoding nor end-of-contents octets are no encodings
 pub AreEncodings-some_next :
     (u : ℕ) (x : List ℕ) → 0 < length x → ((first rest : List ℕ) → IsNext u x first rest → ⊥) →
     ((fewer : ℕ) (rest : List ℕ) → u ≡ fewer + 1 → x ≡ 0 ∷ 0 ∷ rest → ⊥) → AreEncodings u x → ⊥
@@ -124,6 +125,11 @@ is_indefinite-shortest_length n = elim (cases_lt n 128) [
       grind (arith, ge, some)
 ]
 
+-- as many encodings are open behind one of the definite form
+pub unended_behind-definite : (u : ℕ) (k : Bool) (len : List ℕ) → is_indefinite len ≡ false → unended_behind u k len ≡ u
+unended_behind-definite u true len e = ap (λ b. if b then suc u else u) e
+unended_behind-definite u false len e = refl
+
 -- encodings of DER are encodings
 pub AreDerEncodings-are_encodings : (x : List ℕ) (items : List (List ℕ)) → length x < 2 ^ 64 → AreDerEncodings x items →
     AreEncodings 0 x
@@ -143,14 +149,11 @@ AreDerEncodings-are_encodings x items small (more_encodings {first = f} {rest = 
     } in
     let definite : is_indefinite s.found.encoding.len ≡ false =
     ap is_indefinite s.shortest ∙ is_indefinite-shortest_length (length s.found.contents) in
-    next n (subst (λ z. AreEncodings z r) (sym (closed 0 s.found.constructed s.found.encoding.len definite))
+    next n (subst (λ z. AreEncodings z r)
+    (sym (unended_behind-definite 0 s.found.constructed s.found.encoding.len definite))
     (AreDerEncodings-are_encodings r is (omega (arith, small, size)) ds))
-  where
-    closed : (u : ℕ) (k : Bool) (len : List ℕ) → is_indefinite len ≡ false → unended_behind u k len ≡ u
-    closed u true len e = ap (λ b. if b then suc u else u) e
-    closed u false len e = refl
 
--- identifier octets at the front are those that are there
+-- identifier octets that are found at the front of octets are those that the octets begin with
 pub IsSomeIdentifier-front :
     (octets identifier behind : List ℕ) (tag number size : ℕ) → IsSomeIdentifier identifier tag →
     octets ≡ identifier ++ behind →
@@ -181,7 +184,7 @@ begins_with_end-not_at_end u x t some =
     let yes : nat_lt 0 u ≡ true = grind (arith, some) in
     sym (ap (λ b. b && begins_with_end x) yes) ∙ t
 
--- where none stand in front, an encoding in front is none of them
+-- where no end-of-contents octets close an encoding, the first encoding is not end-of-contents octets
 pub is_at_end-none_in_front :
     (u : ℕ) (x first rest : List ℕ) → x ≡ first ++ rest → is_at_end u x ≡ false → 0 < u → first ≡ 0 ∷ 0 ∷ [] → ⊥
 is_at_end-none_in_front u x first rest w t some is =

@@ -1,22 +1,22 @@
--- None are listed exactly of DER.
+-- No departures are listed exactly if the octets are DER, for `listing::departures`.
 use Rattle.std.proofs.Common.{◌≡◌, ℕ, ◌+◌, ◌<◌, ◌^◌, Bool, true, false, List, [], ◌∷◌, ◌++◌, length, refl, sym, ap, ◌∙◌, subst, arith, length-append}
-use Rattle.std.specs.Prelude.{◌↔◌, suc, if◌then◌else◌, not, MatchBool, Option, None, Some}
+use Rattle.std.specs.Prelude.{◌↔◌, not, MatchBool, Option, None, Some}
 use Rattle.asn1_headers.specs.Header.{Encoding, shortest_identifier, shortest_length}
 use Rattle.asn1_headers.specs.declared.header.ASN1Class.{ASN1Class}
 use Rattle.asn1_headers.specs.declared.header.ASN1Class.TheVariants.{Universal, Application, ContextSpecific, Private}
-use Rattle.asn1_headers.proofs.Prefixes.{Encoding-unique, Encoding-not_empty, IsIdentifier-unique, IsLength-unique}
+use Rattle.asn1_headers.proofs.Prefixes.{IsIdentifier-unique, IsLength-unique}
 use Rattle.asn1_headers.proofs.Shortest.{IsIdentifier-shortest, IsLength-shortest}
 use Rattle.asn1_der.specs.Der.{AreDerEncodings, IsDer, IsDerEncoding, IsRightAlone, IsShortest, more_encodings, no_encodings}
 use Rattle.asn1_der.specs.Steps.{AreDer, IsDerAlone, IsWhole}
-use Rattle.asn1_der.proofs.Encodings.{Encoding-der, IsWhole-der, IsDerEncoding-whole}
+use Rattle.asn1_der.proofs.Encodings.{IsWhole-der, IsDerEncoding-whole, AreDer-first, IsDerInFront}
 use Rattle.asn1_departures.specs.Departures.{Found, IsNext, Lists, ListsInside, OwnRules, TypeFound, broken, encoding_listed, encodings_inside, end_listed, is_indefinite, is_looked_into, kept, listed, no_encodings_inside, none_left, nothing_inside, own_departures, unended_behind}
 use Rattle.asn1_departures.specs.Rules.{identifier_rule, type_rule}
 use Rattle.asn1_departures.specs.declared.rule.Departure.{Departure}
 use Rattle.asn1_departures.specs.declared.rule.Rule.{Rule}
 use Rattle.asn1_departures.specs.declared.rule.Rule.TheVariants.{IndefiniteLength, LongLength}
-use Rattle.asn1_departures.proofs.Fronts.{AreDerEncodings-are_encodings, is_indefinite-shortest_length}
+use Rattle.asn1_departures.proofs.Fronts.{AreDerEncodings-are_encodings, is_indefinite-shortest_length, unended_behind-definite}
 
--- lists that are none together are none each
+-- two lists that are empty when joined are empty
 nil_from_append-first : (xs ys : List Departure) → xs ++ ys ≡ [] → xs ≡ []
 nil_from_append-first [] ys e = refl
 nil_from_append-first (x ∷ xs) ys e = absurd cc
@@ -48,10 +48,6 @@ MatchBool-false : (b : Bool) (found : Option Rule) (P : Type 0) → b ≡ false 
 MatchBool-false true found P e h = absurd cc
 MatchBool-false false found P e h = h
 
-unended_behind-definite : (u : ℕ) (k : Bool) (len : List ℕ) → is_indefinite len ≡ false → unended_behind u k len ≡ u
-unended_behind-definite u true len e = ap (λ b. if b then suc u else u) e
-unended_behind-definite u false len e = refl
-
 is_looked_into-definite : (k : Bool) (len : List ℕ) → is_indefinite len ≡ false → is_looked_into k len ≡ k
 is_looked_into-definite true len e = ap not e
 is_looked_into-definite false len e = refl
@@ -74,7 +70,7 @@ TypeFound-right_none Application k n v found h a = h
 TypeFound-right_none ContextSpecific k n v found h a = h
 TypeFound-right_none Private k n v found h a = h
 
--- an encoding that breaks nothing by itself
+-- an encoding of the definite form that breaks no rule by itself
 record IsAlone (x id len : List ℕ) (c : ASN1Class) (k : Bool) (n : ℕ) (v : List ℕ) : Type 0 where
   definite : is_indefinite len ≡ false
   alone : IsDerAlone x c k n v
@@ -107,7 +103,7 @@ IsAlone-no_departures o x id len c k n v r w e =
     }
 
 mutual
-  -- where none are listed, the octets are DER
+  -- where no departures are listed, the octets are DER
   pub AreDer-none_listed :
       (u o : ℕ) (x : List ℕ) (found : List Departure) → Lists u o x found → u ≡ 0 → length x < 2 ^ 64 → found ≡ [] →
       AreDer x
@@ -153,7 +149,7 @@ mutual
       AreDer-none_listed 0 s v found ls refl small none
   AreDer-none_inside o s b v found (no_encodings_inside t never e) k same small none t' = absurd cc
 
--- the shortest header that an encoding can have is its header
+-- identifier and length octets are the shortest
 record HasShortest (id len : List ℕ) (c : ASN1Class) (k : Bool) (n : ℕ) (size : ℕ) : Type 0 where
   identifier : id ≡ shortest_identifier c k n
   len_is : len ≡ shortest_length size
@@ -174,29 +170,10 @@ HasShortest-encoding x c k n v h e small s =
     IsLength-unique e.len l v v (length v) (length v) e.length_octets (IsLength-shortest (length v) size) a.rest in
     record { identifier = a.octets; len_is = b.octets }
 
--- encodings of DER by the first
-record IsSplit (x first rest : List ℕ) : Type 0 where
-  der : IsDerEncoding first
-  more : AreDer rest
-
-AreDer-next : (x first rest : List ℕ) (n : IsNext 0 x first rest) → length x < 2 ^ 64 → AreDer x → IsSplit x first rest
-AreDer-next x first rest n small (items, no_encodings) =
-    absurd (omega (
-      arith,
-      Encoding-not_empty first n.class n.constructed n.tag n.contents n.header n.encoding,
-      ap length n.whole,
-      length-append first rest,
-    ))
-AreDer-next x first rest n small (items, more_encodings {first = f} {rest = r} {items = is} w d ds) =
-    let size : length x ≡ length f + length r = ap length w ∙ length-append f r in
-    let (c, k, t, v, h, e) = Encoding-der f (omega (arith, small, size)) d in
-    let same = Encoding-unique first f n.class c n.constructed k n.tag t n.contents v n.header h rest r n.encoding e
-    (sym n.whole ∙ w) in
-    record {
-      der = subst IsDerEncoding (sym same.octets) d;
-      more =
-          (is, subst (λ z. AreDerEncodings z is) (sym same.rest) ds);
-    }
+AreDer-next : (x first rest : List ℕ) (n : IsNext 0 x first rest) → length x < 2 ^ 64 → AreDer x →
+    IsDerInFront first rest
+AreDer-next x first rest n small d =
+    AreDer-first x first rest n.class n.constructed n.tag n.contents n.header n.encoding n.whole small d
 
 own_departures-right_alone :
     (o : ℕ) (id len : List ℕ) (c : ASN1Class) (k : Bool) (n : ℕ) (v : List ℕ) (r : OwnRules id len c k n v) →
@@ -214,7 +191,7 @@ own_departures-right_alone o id len c k n v r i l t =
     ∙ (ap (λ z. listed o z ++ listed o r.of_type) b ∙ ap (listed o) d)
 
 mutual
-  -- no departures of DER are listed
+  -- where the octets are DER, no departures are listed
   pub Lists-der :
       (u o : ℕ) (x : List ℕ) (found : List Departure) → Lists u o x found → u ≡ 0 → length x < 2 ^ 64 → AreDer x →
       found ≡ []
@@ -258,7 +235,7 @@ mutual
   ListsInside-der o s b v found (no_encodings_inside t never e) k same small d =
       let (items, ds) = d (sym same ∙ t) in absurd (never (AreDerEncodings-are_encodings v items small ds))
 
--- none are listed exactly if the octets are DER
+-- no departures are listed exactly if the octets are DER
 pub Lists-nil_iff_der :
     (x : List ℕ) (found : List Departure) → 0 < length x → length x < 2 ^ 64 → Lists 0 0 x found →
     (found ≡ []) ↔ IsDer x

@@ -1,5 +1,5 @@
--- What is left of octets, encoding by encoding.
-use Rattle.std.proofs.Common.{◌≡◌, ℕ, ◌+◌, ◌-◌, ◌<◌, ◌≤◌, Bool, true, false, List, [], ◌∷◌, ◌++◌, drop, length, refl, sym, ap, ◌∙◌, subst, take, arith, append_assoc, length-append}
+-- One turn of the list of departures, and of the check of headers, for `listing` and `encodings`.
+use Rattle.std.proofs.Common.{◌≡◌, ℕ, ◌+◌, ◌-◌, ◌<◌, ◌≤◌, Bool, true, false, List, [], ◌∷◌, ◌++◌, drop, length, refl, sym, ap, ◌∙◌, subst, arith, append_assoc, length-append}
 use Rattle.std.specs.List.{slice_range}
 use Rattle.std.specs.Prelude.{suc, if◌then◌else◌, not}
 use Rattle.std.proofs.lemmas.List.{drop_at}
@@ -13,14 +13,9 @@ use Rattle.asn1_departures.specs.Departures.{HeaderFaultBehind, IsNext, Lists, b
 use Rattle.asn1_departures.specs.Steps.{AreExtents, IsParted, ListsUpTo, begins_with_end, is_at_end, rest_of}
 use Rattle.asn1_departures.specs.declared.listing.Extent.{Extent}
 use Rattle.asn1_departures.specs.declared.rule.Departure.{Departure}
+use Rattle.asn1_blocks.proofs.Frames.Slices.{slice_range-empty}
 
--- nothing is between an index and itself
-pub slice_range-nil : (x : List ℕ) (i e : ℕ) → i ≡ e → slice_range x i e ≡ []
-slice_range-nil x i e h =
-    let zero : e - i ≡ 0 = omega (arith, h) in
-    ap (λ n. take n (drop i x)) zero
-
--- extents one after another are no further than the last
+-- the last of extents that ascend from an index does not end before the index
 pub AreExtents-le : (i : ℕ) (es : List Extent) (n : ℕ) → AreExtents i es n → i ≤ n
 AreExtents-le i [] n h = omega (arith, h)
 AreExtents-le i (e ∷ es) n h = omega (arith, h.0, AreExtents-le e.end es n h.2)
@@ -37,7 +32,7 @@ module _ (x : List ℕ) (i e : ℕ) (h : PlacedHeader) (f : HeaderFound x i e h)
 
   module _ (id len : List ℕ)
       (p : IsParted (slice_range x i h.start) id len h.class h.constructed h.tag (h.end - h.start)) where
-    -- the encoding with this header
+    -- the octets from a header to the end of its contents octets are an encoding
     pub Encoding-at_header : Encoding (slice_range x i h.end) h.class h.constructed h.tag (slice_range x h.start h.end)
         (h.start - i)
     Encoding-at_header =
@@ -71,7 +66,7 @@ module _ (x : List ℕ) (i e : ℕ) (h : PlacedHeader) (f : HeaderFound x i e h)
             slice_range-at_header no_end;
       }
 
-      -- the departures of an encoding, those inside it, and those behind it
+      -- what is listed is the departures of the encoding in front, those inside it, and those behind it
       pub Lists-at_header :
           (r : OwnRules id len h.class h.constructed h.tag (slice_range x h.start h.end))
           (inside later : List Departure) →
@@ -96,7 +91,7 @@ append-regrouped a b c d g =
     ∙ ap (λ z. a ++ z) (append_assoc b c (d ++ g)
     ∙ (ap (λ z. b ++ z) (sym (append_assoc c d g)) ∙ sym (append_assoc b (c ++ d) g)))
 
--- what is behind an encoding that was passed, with the encoding's own, is all that was left
+-- the departures behind an encoding that was passed, with its own and those inside it, are all that were left
 pub ListsUpTo-passed :
     (x : List ℕ) (u i v j e : ℕ) (es : List Extent) (own inside found later : List Departure) →
     ((more : List Departure) → Lists v j (slice_range x j e) more →
@@ -110,7 +105,7 @@ ListsUpTo-passed x u i v j e es own inside found later step (a, b, la, lb, w) = 
   ap (λ z. (found ++ (own ++ inside)) ++ z) w ∙ append-regrouped found own inside a b,
 )
 
--- what is inside and behind an encoding that was opened, with the encoding's own, is all that was left
+-- the departures inside and behind an encoding that was opened, with its own, are all that were left
 pub ListsUpTo-opened :
     (x : List ℕ) (u i s t e : ℕ) (es : List Extent) (own found later : List Departure) →
     ((inside more : List Departure) → Lists 0 s (slice_range x s t) inside → Lists u t (slice_range x t e) more →
@@ -126,7 +121,7 @@ ListsUpTo-opened x u i s t e es own found later step (a, b, la, (c, d, lc, ld, g
       ∙ ap (λ z. found ++ z) (ap (λ z. own ++ z) (sym (append_assoc a c d)) ∙ sym (append_assoc own (a ++ c) d))),
 )
 
--- end-of-contents octets, and what is behind them
+-- octets that begin with end-of-contents octets are these two and what is behind them
 pub slice_range-end_of_contents :
     (x : List ℕ) (i e : ℕ) → i ≤ e → e ≤ length x → begins_with_end (slice_range x i e) ≡ true →
     (i + 2 ≤ e) × (slice_range x i e ≡ 0 ∷ 0 ∷ slice_range x (i + 2) e)
@@ -150,11 +145,11 @@ pub ListsUpTo-ended :
 ListsUpTo-ended x u i e es later some order within front (a, b, la, lb, w) =
     (a, b, end_listed (omega (arith, some)) (slice_range-end_of_contents x i e order within front).1 la, lb, w)
 
--- nothing is left of what has ended
+-- of an encoding that has ended no octets are left, and no departures are listed
 pub Lists-none_left : (x : List ℕ) (u i e : ℕ) → u ≡ 0 → i ≡ e → Lists u i (slice_range x i e) []
-Lists-none_left x u i e none h = none_left none (slice_range-nil x i e h) refl
+Lists-none_left x u i e none h = none_left none (slice_range-empty x i e h) refl
 
--- a fault behind an encoding
+-- the encoding of a header that was found stands in front of what follows it
 pub IsNext-found :
     (x : List ℕ) (i e : ℕ) (h : PlacedHeader) (f : HeaderFound x i e h) (u : ℕ) →
     is_at_end u (slice_range x i e) ≡ false →

@@ -24,12 +24,12 @@ is_indefinite (first ∷ more) = first == 128
 abbrev pub is_open : Bool → List ℕ → Bool
 is_open constructed len = constructed && is_indefinite len
 
--- one whose contents octets are encodings that stand by themselves: a constructed one of the definite form
+-- an encoding whose contents octets are encodings that stand by themselves: a constructed one of the definite form
 abbrev pub is_looked_into : Bool → List ℕ → Bool
 is_looked_into constructed len = constructed && not (is_indefinite len)
 
--- an encoding stands in front, or the header of one that is open. While some are open, end-of-contents octets are no
--- encoding
+-- an encoding stands in front, or the header of one that stays open. While an encoding is open, end-of-contents octets
+-- are no encoding
 pub record IsNext (unended : ℕ) (octets first rest : List ℕ) : Type 0 where
   pub class : ASN1Class
   pub constructed : Bool
@@ -40,11 +40,11 @@ pub record IsNext (unended : ℕ) (octets first rest : List ℕ) : Type 0 where
   pub whole : octets ≡ first ++ rest
   pub no_end : 0 < unended → first ≢ 0 ∷ 0 ∷ []
 
--- how many are open behind it
+-- how many encodings are open behind an encoding
 abbrev pub unended_behind : (unended : ℕ) → Bool → List ℕ → ℕ
 unended_behind unended constructed len = if is_open constructed len then suc unended else unended
 
--- the octets are encodings one after another by their headers; before them so many are open
+-- the octets are encodings one after another by their headers, before which so many encodings are open
 pub data AreEncodings : ℕ → List ℕ → Type 0 where
   no_more : {unended : ℕ} {octets : List ℕ} → unended ≡ 0 → octets ≡ [] → AreEncodings unended octets
   next : {unended : ℕ} {octets first rest : List ℕ} (n : IsNext unended octets first rest)
@@ -124,7 +124,7 @@ mutual
         → Lists fewer (offset + 2) rest found → Lists unended offset octets found
 
   -- the departures inside an encoding at the offset, whose contents octets begin at the start, if it is constructed and
-  -- definite: where they are no encodings, that is one, and none are listed inside (8.1.2.5)
+  -- definite: where its contents octets are no encodings, that is the one departure (8.1.2.5)
   pub data ListsInside : ℕ → ℕ → Bool → List ℕ → List Departure → Type 0 where
     nothing_inside : {offset start : ℕ} {looked_at : Bool} {contents : List ℕ} {found : List Departure}
         → looked_at ≡ false → found ≡ [] → ListsInside offset start looked_at contents found
@@ -153,8 +153,8 @@ pub data HeaderFaultBehind : ℕ → ℕ → List ℕ → ℕ → DecodeFault �
       → unended ≡ fewer + 1 → octets ≡ 0 ∷ 0 ∷ rest
       → HeaderFaultBehind fewer (offset + 2) rest place fault → HeaderFaultBehind unended offset octets place fault
 
--- why octets are no encodings one after another, and at which offset: there are none, or the first of their headers
--- that is at fault. Headers inside definite encodings are not among these
+-- why octets are no encodings one after another, and at which offset: there are no octets, or it is the first of their
+-- headers that is at fault. Headers inside definite encodings are not among these
 abbrev pub NoEncodingsFault : List ℕ → ℕ → DecodeFault → Type 0
 NoEncodingsFault octets place fault =
     ((octets ≡ []) × (place ≡ 0) × (fault ≡ empty_buffer)) ⊎ HeaderFaultBehind 0 0 octets place fault

@@ -12,11 +12,11 @@ pub record OneListOfDepartures : Type 0 where
   pub one_list :
       (octets : List ℕ) (some others : List Departure) →
       AreDepartures octets some → AreDepartures octets others → some ≡ others
-  -- octets in which a header is at fault have no list, if there are any octets
+  -- octets in which a header is at fault have no list of departures, if there are any octets
   pub not_both :
       (octets : List ℕ) (found : List Departure) (place : ℕ) (fault : DecodeFault) → FitInSlice octets →
       0 < length octets → AreDepartures octets found → NoEncodingsFault octets place fault → ⊥
-  -- the header at fault is one, with one fault
+  -- at most one header is at fault, with one fault
   pub one_fault :
       (octets : List ℕ) (some other : ℕ) (fault another : DecodeFault) → FitInSlice octets →
       NoEncodingsFault octets some fault → NoEncodingsFault octets other another →

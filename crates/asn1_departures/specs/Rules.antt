@@ -37,7 +37,7 @@ section_of Time = codes "8.26"
 section_of Order = codes "10.3, 11.6"
 section_of NotEncodings = codes "8.1.2.5"
 
--- what is wrong where it is broken
+-- what is wrong where a rule is broken
 abbrev pub text_of : Rule → List ℕ
 text_of LongIdentifier = codes "tag number below 31 in more than one byte"
 text_of PaddedTag = codes "tag number not in the fewest bytes"
@@ -67,8 +67,8 @@ text_of Time = codes "no date or time of the type"
 text_of Order = codes "SET out of order"
 text_of NotEncodings = codes "contents that are not encodings"
 
--- identifier octets that are not the shortest: of a tag number below 31 they are one (8.1.2.2), of any other the number
--- is in the fewest octets (8.1.2.4.2)
+-- the rule that identifier octets break which are not the shortest: those of a tag number below 31 are one octet
+-- (8.1.2.2), and any other tag number is in the fewest octets (8.1.2.4.2)
 abbrev pub identifier_rule : ℕ → Rule
 identifier_rule tag = if nat_lt tag 31 then LongIdentifier else PaddedTag
 

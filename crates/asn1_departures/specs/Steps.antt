@@ -13,7 +13,7 @@ use Rattle.asn1_departures.specs.declared.listing.Place.{Place}
 abbrev pub extents_of : Place → List Extent
 extents_of place = place.inner ∷ reverse place.outer.items
 
--- the ends ascend from the index on; an open one has taken an octet at least
+-- the ends ascend from the index on; each encoding that is open has taken an octet at least
 abbrev pub AreExtents : ℕ → List Extent → ℕ → Type 0
 AreExtents index [] whole = index ≡ whole
 AreExtents index (extent ∷ extents) whole =
@@ -36,14 +36,14 @@ ListsAll octets place found all =
     (later : List Departure) × ListsUpTo octets place.index (extents_of place) later × (all ≡ found ++ later)
 
 -- a measure: an encoding that is opened takes two octets
-abbrev pub left : List ℕ → Place → ℕ
-left octets place = 2 * (length octets - place.index) + length place.outer.items
+abbrev pub work_left : List ℕ → Place → ℕ
+work_left octets place = 2 * (length octets - place.index) + length place.outer.items
 
--- what is all is so as before, and less is left
+-- the departures of all octets are unchanged, and less is left to do
 pub record GoesOn (octets : List ℕ) (old new : Place) (found_old found_new : List Departure) : Type 0 where
   pub placed : IsPlaced octets new
   pub all : (all : List Departure) → ListsAll octets new found_new all → ListsAll octets old found_old all
-  pub fewer : left octets new < left octets old
+  pub fewer : work_left octets new < work_left octets old
 
 abbrev pub HasTurned : List ℕ → Bool → Place → Place → List Departure → List Departure → Type 0
 HasTurned octets true old new found_old found_new = GoesOn octets old new found_old found_new
@@ -65,7 +65,7 @@ pub record IsParted (octets identifier len : List ℕ) (class : ASN1Class) (cons
   pub identifier_octets : IsIdentifier identifier class constructed tag
   pub length_octets : IsLength len size
 
--- what is behind decides whether the octets are encodings, and is less
+-- the octets are encodings exactly if those behind are, and these are fewer
 pub record IsStep (unended : ℕ) (octets : List ℕ) (unended_behind : ℕ) (behind : List ℕ) : Type 0 where
   pub same : AreEncodings unended octets ↔ AreEncodings unended_behind behind
   pub fewer : length behind < length octets
@@ -75,7 +75,7 @@ pub record IsStep (unended : ℕ) (octets : List ℕ) (unended_behind : ℕ) (be
 abbrev pub rest_of : List ℕ → ℕ → List ℕ
 rest_of octets index = slice_range octets index (length octets)
 
--- a fault behind the next place is one behind the place
+-- a fault behind the next place is a fault behind the place
 pub record IsPassed (octets : List ℕ) (at next : Cursor) : Type 0 where
   pub fault : (place : ℕ) (fault : DecodeFault)
       → HeaderFaultBehind next.unended next.index (rest_of octets next.index) place fault
@@ -84,12 +84,12 @@ pub record IsPassed (octets : List ℕ) (at next : Cursor) : Type 0 where
   pub within : next.index ≤ length octets
   pub room : next.unended ≤ next.index
 
--- what is left decides whether the octets are encodings
+-- the octets are encodings exactly if those that are left are
 pub record IsLeft (octets : List ℕ) (unended : ℕ) (rest : List ℕ) : Type 0 where
   pub same : AreEncodings 0 octets ↔ AreEncodings unended rest
   pub room : unended + length rest ≤ length octets
 
--- a fault behind the place is one of the octets
+-- a fault behind the place is a fault of all octets
 pub record IsReached (octets : List ℕ) (at : Cursor) : Type 0 where
   pub fault : (place : ℕ) (fault : DecodeFault)
       → HeaderFaultBehind at.unended at.index (rest_of octets at.index) place fault

@@ -1,4 +1,5 @@
--- Lists by their elements, and moments of which some octets are given.
+-- Lists by their elements, and moments of which some octets are given, for `contents::is_date`,
+-- `contents::is_time_of_day` and `contents::is_date_time`.
 use Rattle.std.proofs.Common.{◌≡◌, ℕ, List, [], ◌∷◌, ◌++◌, Bool, length, get_or, refl, sym, subst, arith}
 use Rattle.std.specs.Prelude.{◌↔◌, IsTrue}
 use Rattle.asn1_der.specs.Contents.{IsMoment, IsWithinMoment}
@@ -49,7 +50,7 @@ get_or-fourteen (a ∷ b ∷ c ∷ d ∷ e ∷ f ∷ g ∷ h ∷ i ∷ j ∷ k �
 get_or-fourteen (a ∷ b ∷ c ∷ d ∷ e ∷ f ∷ g ∷ h ∷ i ∷ j ∷ k ∷ l ∷ m ∷ n ∷ []) size = refl
 get_or-fourteen (a ∷ b ∷ c ∷ d ∷ e ∷ f ∷ g ∷ h ∷ i ∷ j ∷ k ∷ l ∷ m ∷ n ∷ o ∷ more) size = absurd (omega (arith, size))
 
--- the octets between these others are given
+-- octets are within a moment exactly if the whole, with the octets before and behind them, is a moment
 pub IsWithinMoment-whole :
     (found : Bool) (size : ℕ) (front octets end whole : List ℕ) → length octets ≡ size →
     whole ≡ front ++ (octets ++ end) → IsTrue found ↔ IsMoment whole

@@ -1,4 +1,4 @@
--- Encodings of DER by their headers.
+-- Encodings of DER by their headers, for this crate, `asn1_departures` and `asn1_laws`.
 use Rattle.std.proofs.Common.{◌≡◌, ◌≢◌, ℕ, ◌+◌, ◌<◌, ◌^◌, Bool, true, false, List, [], ◌++◌, inl, inr, length, refl, sym, ap, ◌∙◌, subst, arith, length-append}
 use Rattle.std.proofs.lemmas.Bool.{cases_lt}
 use Rattle.asn1_headers.specs.Header.{Encoding, shortest_identifier, shortest_length}
@@ -8,7 +8,7 @@ use Rattle.asn1_headers.proofs.Prefixes.{Encoding-unique, Encoding-not_empty}
 use Rattle.asn1_headers.proofs.Shortest.{IsIdentifier-shortest, IsLength-shortest}
 use Rattle.asn1_blocks.specs.Places.{IsEncoding}
 use Rattle.asn1_der.specs.Der.{AreDerEncodings, IsDerEncoding, IsInOrder, IsRightAlone, IsShortest, more_encodings, no_encodings, of_other_constructed, of_other_primitive, of_primitive_type, of_sequence, of_set}
-use Rattle.asn1_der.specs.Steps.{IsWhole}
+use Rattle.asn1_der.specs.Steps.{IsWhole, AreDer}
 
 -- octets in the shortest form are an encoding
 Encoding-shortest : (x : List ℕ) (c : ASN1Class) (k : Bool) (n : ℕ) (v : List ℕ) → length x < 2 ^ 64
@@ -30,40 +30,40 @@ Encoding-shortest x c k n v small s =
     )
 
 -- octets that are in the shortest form, with some fields
-pub record IsSomeWhole (x : List ℕ) : Type 0 where
+pub record HasShortestForm (x : List ℕ) : Type 0 where
   pub c : ASN1Class
   pub k : Bool
   pub n : ℕ
   pub v : List ℕ
   pub shortest : IsShortest x c k n v
 
-IsSomeWhole-der : (x : List ℕ) → IsDerEncoding x → IsSomeWhole x
-IsSomeWhole-der x (of_primitive_type {tag = n} s r t h) =
+HasShortestForm-der : (x : List ℕ) → IsDerEncoding x → HasShortestForm x
+HasShortestForm-der x (of_primitive_type {tag = n} s r t h) =
     record { c = Universal; k = false; n = n; v = _; shortest = s }
-IsSomeWhole-der x (of_sequence {tag = n} s t other items d) =
+HasShortestForm-der x (of_sequence {tag = n} s t other items d) =
     record { c = Universal; k = true; n = n; v = _; shortest = s }
-IsSomeWhole-der x (of_set s items d o) = record { c = Universal; k = true; n = 17; v = _; shortest = s }
-IsSomeWhole-der x (of_other_constructed {class = c} {tag = n} other s items d) =
+HasShortestForm-der x (of_set s items d o) = record { c = Universal; k = true; n = 17; v = _; shortest = s }
+HasShortestForm-der x (of_other_constructed {class = c} {tag = n} other s items d) =
     record { c = c; k = true; n = n; v = _; shortest = s }
-IsSomeWhole-der x (of_other_primitive {class = c} {tag = n} other s) =
+HasShortestForm-der x (of_other_primitive {class = c} {tag = n} other s) =
     record { c = c; k = false; n = n; v = _; shortest = s }
 
--- an encoding of DER is one by its header
+-- an encoding of DER is an encoding
 pub Encoding-der : (x : List ℕ) → length x < 2 ^ 64 → IsDerEncoding x →
     (c : ASN1Class) × (k : Bool) × (n : ℕ) × (v : List ℕ) × (h : ℕ) × Encoding x c k n v h
 Encoding-der x small d =
-    let s = IsSomeWhole-der x d in
+    let s = HasShortestForm-der x d in
     let e = Encoding-shortest x s.c s.k s.n s.v small s.shortest in
     (s.c, s.k, s.n, s.v, e.0, e.1)
 
--- the length of an encoding has the shortest form
+-- an encoding whose length octets are the shortest
 pub record IsLengthShortest (x : List ℕ) : Type 0 where
   pub found : IsEncoding x
   pub shortest : found.encoding.len ≡ shortest_length (length found.contents)
 
 pub IsLengthShortest-der : (x : List ℕ) → length x < 2 ^ 64 → IsDerEncoding x → IsLengthShortest x
 IsLengthShortest-der x small d =
-    let s = IsSomeWhole-der x d in
+    let s = HasShortestForm-der x d in
     let i = shortest_identifier s.c s.k s.n in
     let l = shortest_length (length s.v) in
     let size : length s.v < 2 ^ 64 =
@@ -87,7 +87,7 @@ IsLengthShortest-der x small d =
       shortest = refl;
     }
 
--- octets have one list of items
+-- octets have at most one list of encodings of DER
 pub AreDerEncodings-unique : (x y : List ℕ) (is js : List (List ℕ)) → length x < 2 ^ 64 → x ≡ y → AreDerEncodings x is
     → AreDerEncodings y js → is ≡ js
 AreDerEncodings-unique x y is js small e no_encodings no_encodings = refl
@@ -118,7 +118,7 @@ IsRightAlone-other_class Application k n v other = tt
 IsRightAlone-other_class ContextSpecific k n v other = tt
 IsRightAlone-other_class Private k n v other = tt
 
--- equal fields have the same properties
+-- what is asked of an encoding of DER holds with equal fields too
 IsWhole-same_fields :
     (x : List ℕ) (c c' : ASN1Class) (k k' : Bool) (n n' : ℕ) (v v' : List ℕ) → c ≡ c' → k ≡ k' → n ≡ n' → v ≡ v' →
     IsWhole x c' k' n' v' → IsWhole x c k n v
@@ -153,7 +153,7 @@ IsWhole-some_fields x small (of_other_constructed {contents = v} {class = c} {ta
 IsWhole-some_fields x small (of_other_primitive {contents = v} {class = c} {tag = n} other s) =
     (c, false, n, v, record { alone = (s, IsRightAlone-other_class c false n v other); items = λ e. absurd cc })
 
--- an encoding of DER is asked for it with the fields of its header
+-- an encoding of DER meets `IsWhole` with the fields of its header
 pub IsWhole-der :
     (x : List ℕ) (c : ASN1Class) (k : Bool) (n : ℕ) (v : List ℕ) (h : ℕ) → length x < 2 ^ 64 → Encoding x c k n v h →
     IsDerEncoding x → IsWhole x c k n v
@@ -163,7 +163,7 @@ IsWhole-der x c k n v h small e d =
     let same = Encoding-unique x x c c' k k' n n' v v' h h' [] [] e e' refl in
     IsWhole-same_fields x c c' k k' n n' v v' same.class same.constructed same.tag same.contents w
 
--- octets with the properties that an encoding of DER has are one
+-- octets with the properties that an encoding of DER has are an encoding of DER
 pub IsDerEncoding-whole : (x : List ℕ) (c : ASN1Class) (k : Bool) (n : ℕ) (v : List ℕ) → IsWhole x c k n v
     → IsDerEncoding x
 IsDerEncoding-whole x Universal false n v w =
@@ -189,3 +189,23 @@ IsDerEncoding-whole x Private true n v w = let (items, d) =
 IsDerEncoding-whole x Application false n v w = of_other_primitive (λ e. cc) w.alone.0
 IsDerEncoding-whole x ContextSpecific false n v w = of_other_primitive (λ e. cc) w.alone.0
 IsDerEncoding-whole x Private false n v w = of_other_primitive (λ e. cc) w.alone.0
+
+-- the first of encodings of DER is an encoding of DER, and the rest are encodings of DER
+pub record IsDerInFront (first rest : List ℕ) : Type 0 where
+  pub der : IsDerEncoding first
+  pub more : AreDer rest
+
+pub AreDer-first :
+    (x first rest : List ℕ) (c : ASN1Class) (k : Bool) (n : ℕ) (v : List ℕ) (h : ℕ) → Encoding first c k n v h →
+    x ≡ first ++ rest →
+    length x < 2 ^ 64 → AreDer x → IsDerInFront first rest
+AreDer-first x first rest c k n v h e whole small (items, no_encodings) =
+    absurd (omega (arith, Encoding-not_empty first c k n v h e, ap length whole, length-append first rest))
+AreDer-first x first rest c k n v h e whole small (items, more_encodings {first = f} {rest = r} {items = is} w d ds) =
+    let (c', k', n', v', h', e') = Encoding-der f (omega (arith, small, ap length w, length-append f r)) d in
+    let same = Encoding-unique first f c c' k k' n n' v v' h h' rest r e e' (sym whole ∙ w) in
+    record {
+      der = subst IsDerEncoding (sym same.octets) d;
+      more =
+          (is, subst (λ z. AreDerEncodings z is) (sym same.rest) ds);
+    }

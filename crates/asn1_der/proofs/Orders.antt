@@ -1,11 +1,10 @@
--- Whether encodings one after another ascend.
-use Rattle.std.proofs.Common.{◌≡◌, ℕ, ◌+◌, ◌<◌, ◌≤◌, ◌^◌, min, Bool, List, [], ◌∷◌, ◌++◌, drop, length, refl, sym, ap, ◌∙◌, subst, arith, length-append}
+-- Whether encodings one after another ascend, for `order::ascend`, `order::is_in_order` and `order::may_follow`.
+use Rattle.std.proofs.Common.{◌≡◌, ℕ, ◌+◌, ◌<◌, ◌^◌, Bool, List, [], ◌∷◌, ◌++◌, length, refl, sym, ap, ◌∙◌, subst, arith, length-append}
 use Rattle.std.specs.Prelude.{◌↔◌, IsTrue, Option, None, Some}
 use Rattle.std.specs.List.{All, concat}
-use Rattle.std.proofs.lemmas.List.{drop_at}
 use Rattle.std.proofs.lemmas.List.Elements.{All-cons, All-drop, All-head, All-nil}
 use Rattle.asn1_headers.proofs.Prefixes.{Encoding-unique, Encoding-not_empty}
-use Rattle.asn1_blocks.specs.Places.{EncodingAt, HasNoEncodingAt, IsEncoding}
+use Rattle.asn1_blocks.specs.Places.{HasNoEncodingAt, IsEncoding}
 use Rattle.asn1_der.specs.Der.{AreDerEncodings, Ascend, more_encodings, no_encodings}
 use Rattle.asn1_der.specs.Steps.{MayFollow, MayStandBefore, behind}
 use Rattle.asn1_der.specs.declared.order.Order.{Order}
@@ -50,7 +49,7 @@ IsFirst-front rest part after (p ∷ ps) all e i w =
     after (concat ps) i.encoding j.encoding (sym w ∙ e) in
     record { more = ps; is = ap (λ z. z ∷ ps) (sym same.octets); whole = same.rest }
 
--- what is left decides, with the last one that was passed
+-- the items ascend exactly if the last one passed and those that are left do
 pub record IsLeft (order : Order) (items : List (List ℕ)) (before : Option (List ℕ)) (rest : List ℕ) : Type 0 where
   pub later : List (List ℕ)
   pub all : All IsEncoding (behind before later)
@@ -80,7 +79,7 @@ IsLeft-next order items (Some first) rest part after d i w may =
       same = (λ a. (same.0 a).1, λ b. same.1 (may, b));
     }
 
--- what may stand behind one that there is
+-- behind an encoding may follow what it may stand before
 pub MayFollow-Some :
     (order : Order) (before : Option (List ℕ)) (first next : List ℕ) (found : Bool) → before ≡ Some first →
     (IsEncoding first → IsEncoding next → IsTrue found ↔ MayStandBefore order first next) →
@@ -90,7 +89,7 @@ MayFollow-Some order before first next found is h =
     (λ all. h (All-head IsEncoding first (next ∷ []) all)
     (All-head IsEncoding next [] (All-drop IsEncoding 1 (first ∷ next ∷ []) all)))
 
--- the encoding behind the last one that was passed is one
+-- the last encoding that was passed, if there is one, and the next are encodings
 pub All-behind :
     (order : Order) (items : List (List ℕ)) (before : Option (List ℕ)) (rest part : List ℕ) →
     IsLeft order items before rest → IsEncoding part → All IsEncoding (behind before (part ∷ []))
@@ -129,16 +128,3 @@ Ascend-none_left order items before rest d none = d.same.1 (none_later d.later (
     none_later [] all e = Ascend-behind_nil order before
     none_later (p ∷ ps) all e =
         absurd (none p (record { rest = concat ps; at_offset = e; encoding = All-head IsEncoding p ps all }))
-
--- what stands behind the encoding at the front
-pub EncodingAt-append :
-    (octets part after : List ℕ) → EncodingAt octets 0 part → after ≡ drop (min (length part) (length octets)) octets →
-    octets ≡ part ++ after
-EncodingAt-append octets part after at is =
-    let l : length part ≤ length octets = omega (arith, ap length at.at_offset, length-append part at.rest) in
-    let least : min (length part) (length octets) ≡ length part = omega (arith, l) in
-    let e : after ≡ at.rest =
-    is ∙ (ap (λ m. drop m octets) least
-    ∙ (ap (drop (length part)) at.at_offset ∙ drop_at part at.rest (length part) refl))
-    in
-    at.at_offset ∙ ap (λ z. part ++ z) (sym e)

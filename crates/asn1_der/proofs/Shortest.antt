@@ -1,29 +1,16 @@
--- Headers in their shortest form.
-use Rattle.std.proofs.Common.{◌≡◌, ℕ, ◌+◌, ◌-◌, ◌<◌, ◌≤◌, Bool, true, List, [], ◌∷◌, ◌++◌, inl, inr, length, sym, subst, ap, ◌∙◌, arith, append-nil, append_assoc, length-append}
-use Rattle.std.specs.Prelude.{◌↔◌, IsTrue}
+-- Headers in their shortest form, for `header_rules`, and for `listing::advance` of `asn1_departures`.
+use Rattle.std.proofs.Common.{◌≡◌, ℕ, ◌+◌, ◌-◌, ◌<◌, ◌≤◌, Bool, true, List, [], ◌∷◌, ◌++◌, inl, inr, length, sym, subst, ap, ◌∙◌, arith, append_assoc, length-append}
+use Rattle.std.specs.Prelude.{◌↔◌}
 use Rattle.std.specs.List.{slice_range}
 use Rattle.std.proofs.lemmas.Bool.{cond_below}
-use Rattle.std.proofs.lemmas.List.{nil_from_length}
 use Rattle.std.specs.Int.Digits.{digits_of}
 use Rattle.asn1_numbers.specs.Base128.{shortest_base128}
-use Rattle.asn1_numbers.specs.Inner.Comparisons.{compared}
-use Rattle.asn1_numbers.specs.declared.sink.Comparison.{Comparison}
 use Rattle.asn1_headers.specs.Header.{Encoding, IsIdentifier, IsLength, leading_octet, shortest_identifier, shortest_length}
 use Rattle.asn1_headers.specs.declared.header.ASN1Class.{ASN1Class}
 use Rattle.asn1_headers.proofs.Prefixes.{append-injective}
 use Rattle.asn1_blocks.proofs.ReadSteps.{slice_range-append, length-slice_range}
 use Rattle.asn1_der.specs.Der.{IsShortest}
 use Rattle.asn1_der.specs.Steps.{IsHeaderOf, is_short}
-
--- where as many octets were compared as there are, they are the same exactly if all were
-pub compared-all :
-    (a c : Comparison) (xs : List ℕ) → compared a xs c → IsTrue a.same → length a.rest.now ≡ length xs →
-    IsTrue c.same ↔ (a.rest.now ≡ xs)
-compared-all a c xs (first, starts, length_is, (equal, meant)) same size =
-    let none : c.rest.now ≡ [] =
-    nil_from_length c.rest.now (omega (arith, ap length starts, length-append first c.rest.now, length_is, size)) in
-    let all : a.rest.now ≡ first = starts ∙ (ap (λ z. first ++ z) none ∙ append-nil first) in
-    (λ t. all ∙ (equal t).1, λ e. meant (same, sym all ∙ e))
 
 -- the octets before the contents are the shortest exactly if the encoding has its shortest form
 pub IsShortest-front :

@@ -1,5 +1,6 @@
--- Tags are ordered as their identifier octets are.
-use Rattle.std.proofs.Common.{◌≡◌, ℕ, ◌+◌, ◌/◌, ◌%◌, ◌<◌, Bool, true, false, List, [], ◌∷◌, ◌++◌, drop, get_or, length, map, refl, sym, ap, ◌∙◌, subst, inl, inr, arith, length-append}
+-- Tags are ordered as their identifier octets are, for `order::has_less_tag`, `order::is_less_number` and
+-- `order::without_zeros`.
+use Rattle.std.proofs.Common.{◌≡◌, ℕ, ◌+◌, ◌/◌, ◌%◌, ◌<◌, Bool, true, false, List, [], ◌∷◌, ◌++◌, drop, get_or, length, map, refl, sym, ap, ◌∙◌, subst, inl, inr, arith}
 use Rattle.std.specs.Prelude.{◌↔◌, IsTrue, nat_lt}
 use Rattle.std.specs.Int.Digits.{digits_of, number_from_digits}
 use Rattle.std.specs.declared.cmp.Ordering.{Ordering}
@@ -9,13 +10,13 @@ use Rattle.std.specs.Cmp.{nat_cmp_is, ranked}
 use Rattle.std.specs.Cmp.Lexicographic.{slice_cmp}
 use Rattle.std.proofs.lemmas.Bool.{cases_lt}
 use Rattle.std.proofs.lemmas.Int.Digits.{number_digits_of}
-use Rattle.std.proofs.lemmas.List.{length-map}
 use Rattle.asn1_numbers.specs.Base128.{IsBase128, base128_number, shortest_base128}
 use Rattle.asn1_numbers.proofs.DigitOrder.{ordering_then-digits}
 use Rattle.asn1_headers.proofs.Prefixes.{Encoding-unique}
 use Rattle.asn1_blocks.specs.Places.{IsEncoding}
 use Rattle.asn1_der.specs.Der.{HasLessTag, is_less_tag}
 use Rattle.asn1_der.specs.Steps.{IsFront}
+use Rattle.asn1_headers.proofs.Shortest.{length-shortest_base128}
 
 ordering_then-Equal : (r : Ordering) → ordering_then r Equal ≡ r
 ordering_then-Equal Less = refl
@@ -68,12 +69,6 @@ slice_cmp-marked (x ∷ xs) (y ∷ ys) a b e =
     ∙ (ap (λ s. ordering_then (nat_cmp x y) s) (slice_cmp-marked xs ys a b (omega (arith, e)))
     ∙ ordering_then-assoc (nat_cmp x y) (slice_cmp nat_cmp xs ys) (nat_cmp a b))
 
--- the shortest base-128 number has an octet more than its quotient has digits
-length-shortest_base128 : (n : ℕ) → length (shortest_base128 n) ≡ 1 + length (digits_of 128 (n / 128))
-length-shortest_base128 n =
-    let ds = digits_of 128 (n / 128) in
-    omega (arith, length-append (map (λ d. 128 + d) ds) (n % 128 ∷ []), length-map ds (λ d. 128 + d))
-
 -- of shortest base-128 numbers the number of octets decides, and then the first octet that differs
 pub nat_cmp-shortest_base128 : (m n : ℕ)
     → ordering_then (nat_cmp (length (shortest_base128 m)) (length (shortest_base128 n)))
@@ -119,7 +114,7 @@ nat_cmp-shortest_base128 m n =
     by_length Equal e h = slice_cmp-marked ds es (m % 128) (n % 128) h ∙ by_digits Equal e
     by_length Greater e h = by_digits Greater e
 
--- octets of a base-128 number that begin with 80 are of the same number without it
+-- octets of a base-128 number that begin with 80 are of the same number without this octet
 pub IsBase128-behind_80 : (octets : List ℕ) (n : ℕ) → get_or octets 0 0 ≡ 128 → IsBase128 octets n
     → IsBase128 (drop 1 octets) n
 IsBase128-behind_80 [] n e p = absurd p.continued
@@ -131,7 +126,7 @@ IsBase128-behind_80 (a ∷ b ∷ octets) n e p =
       value = subst (λ z. n ≡ number_from_digits 128 (z ∷ map (λ b. b % 128) (b ∷ octets))) (sym low) p.value;
     }
 
--- encodings have one tag each
+-- an encoding has a less tag than another exactly if its class and tag number say so
 pub HasLessTag-fields :
     (x y : List ℕ) (e : IsEncoding x) (f : IsEncoding y) (found : Bool)
     → found ≡ is_less_tag e.class e.tag f.class f.tag →

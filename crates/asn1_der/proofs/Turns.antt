@@ -1,5 +1,5 @@
--- What is left of octets, encoding by encoding.
-use Rattle.std.proofs.Common.{◌≡◌, ℕ, ◌-◌, ◌<◌, ◌≤◌, ◌^◌, true, List, [], ◌∷◌, ◌++◌, length, sym, ap, ◌∙◌, subst, arith, length-append, drop, take}
+-- One turn over open encodings, for `der::take_turn`, `der::advance` and `der::close`.
+use Rattle.std.proofs.Common.{◌≡◌, ℕ, ◌-◌, ◌<◌, ◌≤◌, ◌^◌, true, List, [], ◌∷◌, ◌++◌, length, sym, ap, ◌∙◌, subst, arith, length-append}
 use Rattle.std.specs.Prelude.{◌↔◌}
 use Rattle.std.specs.List.{slice_range}
 use Rattle.asn1_headers.specs.Fault.{DecodeFault}
@@ -12,18 +12,19 @@ use Rattle.asn1_blocks.proofs.ReadSteps.{slice_range-append, length-slice_range}
 use Rattle.asn1_der.specs.Der.{AreDerEncodings, IsDerEncoding, more_encodings, no_encodings}
 use Rattle.asn1_der.specs.Steps.{AreDer, AreDerUpTo, AreEnds, IsDerAlone, IsWhole}
 use Rattle.asn1_der.proofs.Encodings.{Encoding-der, IsWhole-der, IsDerEncoding-whole}
+use Rattle.asn1_blocks.proofs.Frames.Slices.{slice_range-empty}
 
--- encodings of DER that are some octets, by the first
-record IsSplit (x : List ℕ) : Type 0 where
+-- an encoding of DER in front, and encodings of DER behind it
+record FirstOfDer (x : List ℕ) : Type 0 where
   first : List ℕ
   rest : List ℕ
   whole : x ≡ first ++ rest
   der : IsDerEncoding first
   more : AreDer rest
 
-IsSplit-some : (x : List ℕ) (items : List (List ℕ)) → 0 < length x → AreDerEncodings x items → IsSplit x
-IsSplit-some x items some no_encodings = absurd (omega (arith, some))
-IsSplit-some x items some (more_encodings {first = f} {rest = r} {items = is} w d ds) =
+FirstOfDer-some : (x : List ℕ) (items : List (List ℕ)) → 0 < length x → AreDerEncodings x items → FirstOfDer x
+FirstOfDer-some x items some no_encodings = absurd (omega (arith, some))
+FirstOfDer-some x items some (more_encodings {first = f} {rest = r} {items = is} w d ds) =
     record { first = f; rest = r; whole = w; der = d; more = (is, ds) }
 
 -- the encoding with the header is of DER, and so is what follows it
@@ -47,7 +48,8 @@ module _ (x : List ℕ) (small : length x < 2 ^ 64) (i e : ℕ) (within : e ≤ 
 
     pub IsAhead-der : AreDer (slice_range x i e) → IsAhead x e i h
     IsAhead-der (items, ds) =
-        let s = IsSplit-some (slice_range x i e) items (omega (arith, all_size, f.starts_after, f.order, f.ends_within))
+        let s = FirstOfDer-some (slice_range x i e) items
+        (omega (arith, all_size, f.starts_after, f.order, f.ends_within))
         ds in
         let long : length s.first ≤ length x =
         omega (arith, all_size, within, ap length s.whole, length-append s.first s.rest) in
@@ -78,26 +80,24 @@ module _ (x : List ℕ) (small : length x < 2 ^ 64) (i e : ℕ) (within : e ≤ 
       → AreDer (slice_range x i e) → ⊥
   AreDer-not_at_fault fault more w (items, ds) =
       let all_size : length (slice_range x i e) ≡ e - i = length-slice_range x i e (omega (arith, more)) within in
-      let s = IsSplit-some (slice_range x i e) items (omega (arith, all_size, more)) ds in
+      let s = FirstOfDer-some (slice_range x i e) items (omega (arith, all_size, more)) ds in
       let long : length s.first ≤ length x =
       omega (arith, all_size, within, ap length s.whole, length-append s.first s.rest) in
       let (c, k, n, v, g, p) = Encoding-der s.first (omega (arith, long, small)) s.der in
       HeaderFault-not_encoding (i - i) (slice_range x i e) s.first s.rest fault c k n v g w
       (omega (arith, all_size, within, small)) s.whole p
 
--- ends one after another are no further than the last
+-- the last of ends that ascend from an index is not before the index
 pub AreEnds-le : (i : ℕ) (es : List ℕ) (n : ℕ) → AreEnds i es n → i ≤ n
 AreEnds-le i [] n h = omega (arith, h)
 AreEnds-le i (e ∷ es) n h = omega (arith, h.0, AreEnds-le e es n h.1)
 
--- nothing is left of an encoding that has ended
+-- of an encoding that has ended nothing is left, so that what is left is DER
 pub AreDer-none_left : (x : List ℕ) (i e : ℕ) → i ≡ e → AreDer (slice_range x i e)
 AreDer-none_left x i e h =
-    let zero : e - i ≡ 0 = omega (arith, h) in
-    let none : slice_range x i e ≡ [] = ap (λ n. take n (drop i x)) zero in
-    ([], subst (λ z. AreDerEncodings z []) (sym none) no_encodings)
+    ([], subst (λ z. AreDerEncodings z []) (sym (slice_range-empty x i e h)) no_encodings)
 
--- what is inside an encoding and behind it decides of what was there
+-- where an encoding is opened, the octets left are DER exactly if those inside it and those behind it are
 pub AreDerUpTo-opened :
     (x : List ℕ) (i e : ℕ) (es : List ℕ) (h : PlacedHeader) → length x < 2 ^ 64 → e ≤ length x → HeaderFound x i e h →
     h.constructed ≡ true →

@@ -90,8 +90,8 @@ abbrev pub is_iri : List ℕ → Bool
 is_iri [] = false
 is_iri (first ∷ more) = (first == byte "/") && is_utf8 (first ∷ more)
 
--- the other types. Of OCTET STRING (8.7), ObjectDescriptor, TeletexString, VideotexString, GraphicString and
--- GeneralString (8.23.5, by escapes of ISO 2022) any octets are right
+-- contents octets with the tag number, as far as `HasDerTime` says no more. Of OCTET STRING (8.7), ObjectDescriptor,
+-- TeletexString, VideotexString, GraphicString and GeneralString (8.23.5, by escapes of ISO 2022) any octets are right
 abbrev pub has_der_octets : ℕ → List ℕ → Bool
 has_der_octets tag octets =
     if tag == BOOLEAN then is_boolean octets
@@ -112,7 +112,7 @@ has_der_octets tag octets =
     else if tag == RELATIVE_OID_IRI then nat_lt 0 (length octets) && is_utf8 octets
     else true
 
--- the types that are times
+-- contents octets of a UTCTime, GeneralizedTime, DATE, TIME-OF-DAY or DATE-TIME are of a moment that exists
 abbrev pub HasDerTime : ℕ → List ℕ → Type 0
 HasDerTime tag octets =
     MatchBool (tag == UTC_TIME) (IsUtcTime octets)

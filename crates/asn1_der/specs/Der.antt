@@ -43,14 +43,14 @@ HasLessTag first next =
     (class : ASN1Class) × (tag : ℕ) × (next_class : ASN1Class) × (next_tag : ℕ) × HasTag first class tag
     × HasTag next next_class next_tag × (is_less_tag class tag next_class next_tag ≡ true)
 
--- the octets of the first are not greater (11.6)
+-- the octets of the first are not greater than those of the next (11.6)
 abbrev pub is_not_greater : List ℕ → List ℕ → Bool
 is_not_greater first next = not (is_gt (slice_cmp nat_cmp first next))
 
 abbrev pub HasNoGreaterOctets : List ℕ → List ℕ → Type 0
 HasNoGreaterOctets first next = is_not_greater first next ≡ true
 
--- each stands before the next so
+-- each item stands before the next in the order
 abbrev pub Ascend : (List ℕ → List ℕ → Type 0) → List (List ℕ) → Type 0
 Ascend MayStandBefore [] = Unit {0}
 Ascend MayStandBefore (first ∷ []) = Unit {0}
@@ -80,7 +80,7 @@ mutual
     of_other_constructed : {octets contents : List ℕ} {class : ASN1Class} {tag : ℕ}
         → class ≢ Universal → IsShortest octets class true tag contents
         → (items : List (List ℕ)) → AreDerEncodings contents items → IsDerEncoding octets
-    -- primitive: the type is not known, and any octets are right
+    -- another class, primitive: the type is not known, and any octets are right
     of_other_primitive : {octets contents : List ℕ} {class : ASN1Class} {tag : ℕ}
         → class ≢ Universal → IsShortest octets class false tag contents → IsDerEncoding octets
 

@@ -1,4 +1,4 @@
--- Contents octets with octets that they do not take.
+-- Contents octets with more octets than their value takes.
 use Rattle.std.specs.Prelude.{◌==◌, ◌&&◌, ◌||◌, ℕ, ◌-◌, nat_lt, Bool, true, false, not, if◌then◌else◌, List, [], ◌∷◌, get_or, length}
 use Rattle.std.specs.Str.{byte}
 use Rattle.asn1_numbers.specs.Octets.{digit}

@@ -42,7 +42,7 @@ abbrev pub MayStandBefore : Order → List ℕ → List ℕ → Type 0
 MayStandBefore Tags = HasLessTag
 MayStandBefore Octets = HasNoGreaterOctets
 
--- what may stand behind another, if there is one
+-- an encoding may stand behind another, if there is another
 abbrev pub MayFollow : (List ℕ → List ℕ → Type 0) → Option (List ℕ) → List ℕ → Type 0
 MayFollow May None next = Unit {0}
 MayFollow May (Some first) next = May first next

@@ -17,14 +17,14 @@ abbrev pub IsLeftDer : List ℕ → Place → Type 0
 IsLeftDer octets place = AreDerUpTo octets place.index (ends_of place)
 
 -- a measure: an encoding that is opened takes two octets
-abbrev pub left : List ℕ → Place → ℕ
-left octets place = 2 * (length octets - place.index) + length place.outer.items
+abbrev pub work_left : List ℕ → Place → ℕ
+work_left octets place = 2 * (length octets - place.index) + length place.outer.items
 
--- what is left decides as before, and is less
+-- what is left after a turn is DER exactly if what was left before it is, and less is left to do
 pub record GoesOn (octets : List ℕ) (old new : Place) : Type 0 where
   pub placed : IsPlaced octets new
   pub same : IsLeftDer octets old ↔ IsLeftDer octets new
-  pub fewer : left octets new < left octets old
+  pub fewer : work_left octets new < work_left octets old
 
 abbrev pub HasTurned : List ℕ → Place → Turn → Place → Type 0
 HasTurned octets old More new = GoesOn octets old new

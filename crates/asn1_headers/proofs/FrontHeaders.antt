@@ -1,4 +1,5 @@
--- The header at the front of octets, or that there is none.
+-- The header at the front of octets, or that there is none, for `whole_header::header_at` and
+-- `whole_header::short_header`.
 use Rattle.std.proofs.Common.{◌≡◌, ℕ, zero, suc, ◌-◌, ◌%◌, ◌<◌, ◌≤◌, Bool, List, [], ◌∷◌, ◌++◌, inl, inr, length, take, drop, refl, sym, ap, ◌∙◌, subst, arith, append_assoc}
 use Rattle.std.specs.List.{slice_range}
 use Rattle.std.proofs.lemmas.List.{drop_at, length-take-le, take-append-drop, take_at}
@@ -36,7 +37,7 @@ HasNoHeader-no_length octets s m fits (c, j, found) none header rest (identifier
     ap (take (length len)) behind ∙ take_at len rest (length len) refl in
     none n (length len) (subst (λ z. IsLength z n) (sym e) l)
 
--- identifier octets that are not there
+-- where octets begin with no identifier octets, their header is at fault
 pub HeaderFault-no_identifier : (place : ℕ) (octets : List ℕ) (e : ASN1DecodeErr)
     → OutOfMemoryOr (IsIncomplete IsSomeIdentifier octets) e
     → OutOfMemoryOr (HeaderFault place octets) e
@@ -48,7 +49,7 @@ HeaderFault-no_identifier place octets e (inr (f, missing)) =
       subst (λ l. IsIdentifier l c k n) (sym (ap (take (length s)) d ∙ take_at s (b ∷ rest) (length s) refl)) t,
     ))))
 
--- length octets that are not there
+-- where no length octets stand behind identifier octets, the header is at fault
 pub HeaderFault-no_length : (place : ℕ) (octets s rest : List ℕ) (c : ASN1Class) (k : Bool) (n : ℕ) (e : DecodeFault)
     → IsIdentifier s c k n → octets ≡ s ++ rest
     → ((m j : ℕ) → IsLength (take j rest) m → ⊥) → e ≡ length_fault rest → HeaderFault place octets e

@@ -1,4 +1,5 @@
--- Octets begin with a header, or their header is at fault.
+-- Octets begin with a header, or their header is at fault, for `header::identifier_at`, and for `laws::law_one_reading`
+-- of `simple_asn1`.
 use Rattle.std.proofs.Common.{◌≡◌, ℕ, zero, suc, ◌+◌, ◌*◌, ◌/◌, ◌%◌, ◌^◌, ◌-◌, ◌<◌, ◌≤◌, Bool, true, false, List, [], ◌∷◌, ◌++◌, ◌⊎◌, inl, inr, length, take, drop, refl, sym, ap, ◌∙◌, subst, arith, length-append, append_assoc}
 use Rattle.std.specs.Int.Digits.{number_from_digits}
 use Rattle.std.proofs.lemmas.Bool.{cases_lt}
@@ -16,17 +17,17 @@ data ContinuedFront (octets : List ℕ) : Type 0 where
   ends : (s rest : List ℕ) → IsContinued s → octets ≡ s ++ rest → ContinuedFront octets
   never_ends : ((s rest : List ℕ) → IsContinued s → octets ≡ s ++ rest → ⊥) → ContinuedFront octets
 
--- continued octets are some
+-- continued octets are one or more
 IsContinued-not_nil : (s rest : List ℕ) → IsContinued s → [] ≡ s ++ rest → ⊥
 IsContinued-not_nil [] rest p e = p
 IsContinued-not_nil (a ∷ s) rest p e = omega (arith, ap length e)
 
--- an octet with bit 8 set before continued octets
+-- an octet whose bit 8 is set, and continued octets behind it, are continued octets
 pub IsContinued-cons : (b : ℕ) (s : List ℕ) → 128 ≤ b → IsContinued s → IsContinued (b ∷ s)
 IsContinued-cons b [] h p = absurd p
 IsContinued-cons b (c ∷ s) h p = (h, p)
 
--- octets that begin with no continued octets do not with an octet before them whose bit 8 is set
+-- an octet whose bit 8 is set, before octets that begin with no continued octets, begins none
 IsContinued-not_behind_cons : (b : ℕ) (octets : List ℕ) → 128 ≤ b
     → ((s rest : List ℕ) → IsContinued s → octets ≡ s ++ rest → ⊥)
     → (s rest : List ℕ)
@@ -40,11 +41,11 @@ IsContinued-not_behind_cons b octets h none (a ∷ c ∷ s) rest p e =
     none (c ∷ s) rest p.1 d
 
 -- octets begin with continued octets, or bit 8 is set in all
-continued_front : (octets : List ℕ) → ContinuedFront octets
-continued_front [] = never_ends IsContinued-not_nil
-continued_front (b ∷ octets) = elim (cases_lt b 128) [
+ContinuedFront-total : (octets : List ℕ) → ContinuedFront octets
+ContinuedFront-total [] = never_ends IsContinued-not_nil
+ContinuedFront-total (b ∷ octets) = elim (cases_lt b 128) [
   | inl lt ↦ ends (b ∷ []) octets lt refl
-  | inr ge ↦ elim (continued_front octets) [
+  | inr ge ↦ elim (ContinuedFront-total octets) [
     | ends s rest p e ↦ ends (b ∷ s) rest (IsContinued-cons b s ge p) (ap (λ l. b ∷ l) e)
     | never_ends none ↦ never_ends (IsContinued-not_behind_cons b octets ge none)
   ]
@@ -80,12 +81,12 @@ leading_octet-parts b h =
     let (k, d) = constructed_bit-onto (q % 2) (omega arith) in
     (c, k, omega (arith, e, d, whole))
 
--- a leading octet is an octet
+-- the first of identifier octets is below 256
 IsIdentifier-first_lt : (b : ℕ) (s : List ℕ) (c : ASN1Class) (k : Bool) (n : ℕ) → IsIdentifier (b ∷ s) c k n → b < 256
 IsIdentifier-first_lt b [] c k n p = omega (arith, p.0, p.1, class_number-lt c, constructed_bit-lt k)
 IsIdentifier-first_lt b (d ∷ s) c k n p = omega (arith, p.0, class_number-lt c, constructed_bit-lt k)
 
--- a leading octet that ends in 31, and a base-128 number
+-- a leading octet that ends in 31, and a base-128 number behind it, are identifier octets
 pub IsIdentifier-long : (b : ℕ) (s : List ℕ) (c : ASN1Class) (k : Bool) (n : ℕ) → b ≡ leading_octet c k 31
     → IsBase128 s n
     → IsIdentifier (b ∷ s) c k n
@@ -123,17 +124,17 @@ IsIdentifier-not_without_base128 b octets h none (a ∷ d ∷ s) rest c k n p e 
     none (d ∷ s) rest p.1.continued r
 
 -- octets begin with identifier octets, or with none
-identifier_front : (octets : List ℕ) → IdentifierFront octets
-identifier_front [] =
+IdentifierFront-total : (octets : List ℕ) → IdentifierFront octets
+IdentifierFront-total [] =
     not_identified
     (λ s rest c k n p e. omega (arith, IsIdentifier-not_empty s c k n p, ap length e, length-append s rest))
-identifier_front (b ∷ octets) = elim (cases_lt b 256) [
+IdentifierFront-total (b ∷ octets) = elim (cases_lt b 256) [
   | inr ge ↦ not_identified (IsIdentifier-not_from_256 b octets ge)
   | inl lt ↦
       let (c, k, e) = leading_octet-parts b lt in
       elim (cases_lt (b % 32) 31) [
         | inl low ↦ identified (b ∷ []) octets c k (b % 32) (low, e) refl
-        | inr high ↦ elim (continued_front octets) [
+        | inr high ↦ elim (ContinuedFront-total octets) [
           | never_ends none ↦ not_identified (IsIdentifier-not_without_base128 b octets high none)
           | ends s rest p d ↦
               let f : b % 32 ≡ 31 = omega (arith, high) in
@@ -161,13 +162,13 @@ IsLength-shape b octets (a ∷ l) rest m (inr p) e =
     inr (omega (arith, d, p.0, p.1), omega (arith, d, p.0, ap length r, length-append l rest))
 
 -- octets begin with length octets, or with none
-length_front : (octets : List ℕ) → LengthFront octets
-length_front [] = not_measured (λ l rest m p e. none l rest m p e)
+LengthFront-total : (octets : List ℕ) → LengthFront octets
+LengthFront-total [] = not_measured (λ l rest m p e. none l rest m p e)
   where
     none : (l rest : List ℕ) (m : ℕ) → IsLength l m → [] ≡ l ++ rest → ⊥
     none [] rest m p e = p
     none (a ∷ l) rest m p e = omega (arith, ap length e)
-length_front (b ∷ octets) = elim (cases_lt b 128) [
+LengthFront-total (b ∷ octets) = elim (cases_lt b 128) [
   | inl lt ↦ measured (b ∷ []) octets b (inl (lt, refl, refl)) refl
   | inr ge ↦ elim (cases_lt 136 b) [
     | inl big ↦ not_measured (λ l rest m p e. elim (IsLength-shape b octets l rest m p e)
@@ -194,12 +195,13 @@ pub data EncodingFront (place : ℕ) (octets : List ℕ) : Type 0 where
       → EncodingFront place octets
   begins_not : (e : DecodeFault) → HeaderFault place octets e → EncodingFront place octets
 
--- what follows identifier and length octets
-contents_front : (place : ℕ) (octets s l rest : List ℕ) (c : ASN1Class) (k : Bool) (n m : ℕ) → IsIdentifier s c k n
+-- octets that begin with identifier and length octets begin with an encoding, or their header is at fault
+EncodingFront-rest : (place : ℕ) (octets s l rest : List ℕ) (c : ASN1Class) (k : Bool) (n m : ℕ) →
+    IsIdentifier s c k n
     → IsLength l m
     → octets ≡ s ++ (l ++ rest)
     → EncodingFront place octets
-contents_front place octets s l rest c k n m t u g = elim (cases_lt (place + (length s + length l) + m) (2 ^ 64)) [
+EncodingFront-rest place octets s l rest c k n m t u g = elim (cases_lt (place + (length s + length l) + m) (2 ^ 64)) [
   | inr far ↦ begins_not (length_too_large m) (too_far s l rest c k n m t u g far refl)
   | inl near ↦ elim (cases_lt (length rest) m) [
     | inl long ↦ begins_not incomplete (too_long s l rest c k n m t u g near long)
@@ -219,21 +221,21 @@ contents_front place octets s l rest c k n m t u g = elim (cases_lt (place + (le
     regroup : (a b c d : List ℕ) → a ++ (b ++ (c ++ d)) ≡ (a ++ (b ++ c)) ++ d
     regroup a b c d = simp append_assoc
 
--- what follows identifier octets
-length_front_after : (place : ℕ) (octets s rest : List ℕ) (c : ASN1Class) (k : Bool) (n : ℕ) → IsIdentifier s c k n
+-- octets that begin with identifier octets begin with an encoding, or their header is at fault
+EncodingFront-length : (place : ℕ) (octets s rest : List ℕ) (c : ASN1Class) (k : Bool) (n : ℕ) → IsIdentifier s c k n
     → octets ≡ s ++ rest
     → EncodingFront place octets
-length_front_after place octets s [] c k n t g = begins_not incomplete (no_identifier (λ s' rest c' k' n' b t' g'.
+EncodingFront-length place octets s [] c k n t g = begins_not incomplete (no_identifier (λ s' rest c' k' n' b t' g'.
     let q = IsIdentifier-unique s s' [] (b ∷ rest) c c' k k' n n' t t' (sym g ∙ g') in
     omega (arith, ap length q.rest)))
-length_front_after place octets s (b ∷ rest) c k n t g = elim (length_front (b ∷ rest)) [
+EncodingFront-length place octets s (b ∷ rest) c k n t g = elim (LengthFront-total (b ∷ rest)) [
   | not_measured none ↦ begins_not (length_fault (b ∷ rest)) (no_length s b rest c k n t g none refl)
-  | measured l r m u e ↦ contents_front place octets s l r c k n m t u (g ∙ ap (λ z. s ++ z) e)
+  | measured l r m u e ↦ EncodingFront-rest place octets s l r c k n m t u (g ∙ ap (λ z. s ++ z) e)
 ]
 
 -- an encoding stands at the front of octets, or their header is at fault
-pub encoding_front : (place : ℕ) (octets : List ℕ) → EncodingFront place octets
-encoding_front place octets = elim (identifier_front octets) [
+pub EncodingFront-total : (place : ℕ) (octets : List ℕ) → EncodingFront place octets
+EncodingFront-total place octets = elim (IdentifierFront-total octets) [
   | not_identified none ↦ begins_not incomplete (no_identifier (λ s rest c k n b t g. none s (b ∷ rest) c k n t g))
-  | identified s rest c k n t g ↦ length_front_after place octets s rest c k n t g
+  | identified s rest c k n t g ↦ EncodingFront-length place octets s rest c k n t g
 ]

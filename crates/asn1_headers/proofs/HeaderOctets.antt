@@ -1,4 +1,4 @@
--- Octets at the front of a slice that are, or are not, identifier and length octets.
+-- Octets at the front of a slice that are, or are not, identifier and length octets, for `header`.
 use Rattle.std.proofs.Common.{◌≡◌, ℕ, zero, suc, ◌+◌, ◌*◌, ◌%◌, ◌^◌, ◌<◌, ◌≤◌, List, [], ◌∷◌, length, get_or, take, arith}
 use Rattle.std.specs.Int.Digits.{digits_of}
 use Rattle.std.proofs.lemmas.Int.Digits.{length-digits_of-le}
@@ -6,7 +6,7 @@ use Rattle.std.proofs.Math.Nat.{pow-le-pow_right}
 use Rattle.asn1_numbers.specs.Base128.{IsContinued, IsBase128}
 use Rattle.asn1_headers.specs.Header.{BeginsWithNo, IsSomeIdentifier}
 
--- octets up to the first whose bit 8 is clear
+-- octets up to the first whose bit 8 is clear are continued octets
 pub IsContinued-take : (octets : List ℕ) (i : ℕ) → i < length octets → get_or octets i 0 < 128
     → ((j : ℕ) → j < i → 128 ≤ get_or octets j 0)
     → IsContinued (take (suc i) octets)
@@ -32,7 +32,7 @@ IsContinued-not_high (b ∷ c ∷ octets) (suc zero) high e = omega (arith, e, h
 IsContinued-not_high (b ∷ c ∷ octets) (suc (suc k)) high e =
     IsContinued-not_high (c ∷ octets) (suc k) (λ j l. high (suc j) (omega (arith, l))) e.1
 
--- a leading octet that announces a number that does not come
+-- a leading octet that announces a base-128 number, with none behind it, begins no identifier octets
 pub BeginsWithNo-long_identifier : (b : ℕ) (rest : List ℕ) → b % 32 ≡ 31 → BeginsWithNo IsBase128 rest
     → BeginsWithNo IsSomeIdentifier (b ∷ rest)
 BeginsWithNo-long_identifier b rest low missing n k = go rest k low missing
@@ -45,7 +45,7 @@ BeginsWithNo-long_identifier b rest low missing n k = go rest k low missing
     go (d ∷ rest) (suc zero) low missing (c, k, t) = omega (arith, t.0, t.1, low)
     go (d ∷ rest) (suc (suc i)) low missing (c, k, t) = missing n (suc i) t.1
 
--- the octets of a length are few
+-- a length below 2^64 has at most eight octets
 pub length-octets_le : (n : ℕ) → n < 2 ^ 64 → length (digits_of 256 n) ≤ 8
 length-octets_le n h = length-digits_of-le 256 8 n (omega arith) h
 

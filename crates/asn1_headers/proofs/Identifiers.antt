@@ -1,4 +1,4 @@
--- Identifier octets at the front.
+-- Identifier octets at the front of octets, for `header::identifier_at`.
 use Rattle.std.proofs.Common.{◌≡◌, ◌≢◌, ℕ, suc, ◌+◌, ◌%◌, ◌<◌, ◌≤◌, List, [], ◌∷◌, get_or, take, refl, sym, ap, ◌∙◌, subst, arith, length}
 use Rattle.std.proofs.lemmas.List.{take_at}
 use Rattle.asn1_numbers.specs.Base128.{IsBase128, low_bits_number}

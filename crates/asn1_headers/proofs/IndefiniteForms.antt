@@ -1,4 +1,4 @@
--- Headers of the indefinite form.
+-- Headers of the indefinite form, for `whole_header::header_at`.
 use Rattle.std.proofs.Common.{◌≡◌, ◌↔◌, ℕ, ◌≤◌, Bool, true, false, List, ◌∷◌, ◌++◌, drop, length, take, sym, ap, ◌∙◌, subst}
 use Rattle.std.proofs.lemmas.List.{drop_at, length-take-le, take-append-drop}
 use Rattle.std.specs.Prelude.{IsTrue}
@@ -8,7 +8,7 @@ use Rattle.asn1_headers.proofs.Prefixes.{IsIdentifier-unique}
 
 module _ (octets behind : List ℕ) (s m : ℕ) (class : _) (constructed : Bool) (fits : s ≤ length octets)
     (found : IsIdentifier (take s octets) class constructed m) (back : behind ≡ drop s octets) where
-  -- a header of the form has these identifier octets
+  -- a header of the indefinite form is constructed identifier octets before 80 (hexadecimal)
   pub HasIndefiniteForm-parts : HasIndefiniteForm octets
       → (constructed ≡ true) × ((rest : List ℕ) × (behind ≡ 128 ∷ rest))
   HasIndefiniteForm-parts (identifier, rest, whole, (other, tag, is)) =
@@ -17,7 +17,7 @@ module _ (octets behind : List ℕ) (s m : ℕ) (class : _) (constructed : Bool)
       let size : length identifier ≡ s = sym (ap length same.octets) ∙ length-take-le s octets fits in
       (same.constructed, (rest, back ∙ (ap (drop s) whole ∙ drop_at identifier (128 ∷ rest) s size)))
 
-  -- constructed identifier octets before 80 (hexadecimal) are a header of the form
+  -- constructed identifier octets before 80 (hexadecimal) are a header of the indefinite form
   HasIndefiniteForm-from_parts : (rest : List ℕ) → constructed ≡ true → behind ≡ 128 ∷ rest → HasIndefiniteForm octets
   HasIndefiniteForm-from_parts rest is_so is = (
     take s octets,
@@ -26,7 +26,7 @@ module _ (octets behind : List ℕ) (s m : ℕ) (class : _) (constructed : Bool)
     (class, m, subst (λ z. IsIdentifier (take s octets) class z m) is_so found),
   )
 
-  -- constructed identifier octets begin a header of the form exactly where the octet behind them is 80 (hexadecimal)
+  -- constructed identifier octets begin a header of the indefinite form exactly if 80 (hexadecimal) stands behind them
   pub HasIndefiniteForm-iff_80 :
       (has r : Bool) → constructed ≡ true → IsTrue has ↔ ((rest : List ℕ) × (behind ≡ 128 ∷ rest)) → r ≡ has →
       IsTrue r ↔ HasIndefiniteForm octets
@@ -35,7 +35,7 @@ module _ (octets behind : List ℕ) (s m : ℕ) (class : _) (constructed : Bool)
     λ h. let (bits, there) = HasIndefiniteForm-parts h in e ∙ from there,
   )
 
-  -- primitive identifier octets begin no header of the form
+  -- primitive identifier octets begin no header of the indefinite form
   pub HasIndefiniteForm-not_primitive : (r : Bool) → constructed ≡ false → r ≡ false
       → IsTrue r ↔ HasIndefiniteForm octets
   HasIndefiniteForm-not_primitive r is_not e =

@@ -1,4 +1,5 @@
--- Types that have no name.
+-- Tag numbers whose types have no name, for `block::ASN1Block::type_name` of `asn1_blocks` and `tag::name_of` of
+-- `der_pieces`.
 use Rattle.std.proofs.Common.{◌≡◌, ◌≤◌, ℕ, None, refl, sym}
 use Rattle.std.proofs.lemmas.List.{get_or_past}
 use Rattle.asn1_headers.specs.declared.header.ASN1Class.{ASN1Class}

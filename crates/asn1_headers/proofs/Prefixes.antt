@@ -1,12 +1,13 @@
--- No identifier octets, length octets or encoding begin others.
-use Rattle.std.proofs.Common.{◌≡◌, ℕ, zero, suc, ◌+◌, ◌<◌, Bool, true, false, List, [], ◌∷◌, ◌++◌, inl, inr, length, refl, sym, ap, ◌∙◌, arith, append_assoc, length-append}
+-- No identifier octets, length octets or encoding begin others, for all that reads headers or encodings.
+use Rattle.std.proofs.Common.{◌≡◌, ℕ, zero, suc, ◌+◌, ◌<◌, Bool, true, false, List, [], ◌∷◌, ◌++◌, inl, inr, length, refl, sym, ap, ◌∙◌, arith, append_assoc, length-append, drop, take}
 use Rattle.std.specs.Int.Digits.{number_from_digits}
 use Rattle.asn1_headers.specs.declared.header.ASN1Class.{ASN1Class}
 use Rattle.asn1_headers.specs.declared.header.ASN1Class.TheVariants.{Universal, Application, ContextSpecific, Private}
 use Rattle.asn1_numbers.specs.Base128.{IsBase128, IsContinued, low_bits_number}
 use Rattle.asn1_headers.specs.Header.{IsIdentifier, IsLength, Encoding, class_number, constructed_bit, leading_octet}
+use Rattle.std.proofs.lemmas.List.{drop_at, take_at}
 
--- identifier octets are some
+-- identifier octets are not empty
 pub IsIdentifier-not_empty : (s : List ℕ) (c : ASN1Class) (k : Bool) (n : ℕ) → IsIdentifier s c k n → 0 < length s
 IsIdentifier-not_empty [] c k n t = absurd t
 IsIdentifier-not_empty (b ∷ s) c k n t = omega arith
@@ -22,17 +23,13 @@ Encoding-not_empty octets c k n contents h f =
       length-append f.identifier (f.len ++ contents),
     )
 
--- two splits of one list at one place are one
-pub append-injective : (s t x y : List ℕ) → length s ≡ length t → s ++ x ≡ t ++ y → (s ≡ t) × (x ≡ y)
-append-injective [] [] x y l e = (refl, e)
-append-injective [] (b ∷ t) x y l e = absurd (omega (arith, l))
-append-injective (a ∷ s) [] x y l e = absurd (omega (arith, l))
-append-injective (a ∷ s) (b ∷ t) x y l e =
-    let h : a ≡ b = cc in
-    let r : s ++ x ≡ t ++ y = cc in
-    let p = append-injective s t x y (omega (arith, l)) r in
-    let q : s ≡ t = p.0 in
-    (cc, p.1)
+-- two splits of one list at one place are the same
+pub append-injective : {A : Type 0} (s t x y : List A) → length s ≡ length t → s ++ x ≡ t ++ y → (s ≡ t) × (x ≡ y)
+append-injective s t x y l e =
+    let n = length s in (
+      sym (take_at s x n refl) ∙ ap (take n) e ∙ take_at t y n (sym l),
+      sym (drop_at s x n refl) ∙ ap (drop n) e ∙ drop_at t y n (sym l),
+    )
 
 -- continued octets begin no others
 pub IsContinued-unique : (s t x y : List ℕ) → IsContinued s → IsContinued t → s ++ x ≡ t ++ y → (s ≡ t) × (x ≡ y)
@@ -59,7 +56,7 @@ class_with (suc zero) = Application
 class_with (suc (suc zero)) = ContextSpecific
 class_with (suc (suc (suc n))) = Private
 
--- the two bits of a class are those of that class
+-- the class of the two bits of a class is that class
 class_with-class_number : (c : ASN1Class) → class_with (class_number c) ≡ c
 unfolding class_with
 class_with-class_number Universal = refl
@@ -67,12 +64,12 @@ class_with-class_number Application = refl
 class_with-class_number ContextSpecific = refl
 class_with-class_number Private = refl
 
--- primitive or constructed, of one bit
+-- whether a bit is that of constructed
 bit_with : ℕ → Bool
 bit_with zero = false
 bit_with (suc n) = true
 
--- the bit of primitive or constructed is that of which it is
+-- the constructed bit of primitive or constructed says which of the two it is
 bit_with-constructed_bit : (b : Bool) → bit_with (constructed_bit b) ≡ b
 unfolding bit_with
 bit_with-constructed_bit true = refl
@@ -83,7 +80,7 @@ pub constructed_bit-lt : (b : Bool) → constructed_bit b < 2
 constructed_bit-lt true = omega arith
 constructed_bit-lt false = omega arith
 
--- the class, the constructed bit and the low bits of a leading octet
+-- two leading octets have the same class, constructed bit and low bits
 pub record SameLeading (c d : ASN1Class) (j k : Bool) (m n : ℕ) : Type 0 where
   pub class : c ≡ d
   pub constructed : j ≡ k

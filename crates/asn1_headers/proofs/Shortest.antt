@@ -1,4 +1,5 @@
--- The shortest forms of headers are such forms, and no others are shorter or as short.
+-- The shortest forms of headers are such forms, and no others are shorter or as short, for all that writes headers or
+-- says whether they are the shortest.
 use Rattle.std.proofs.Common.{◌≡◌, ◌≢◌, ℕ, zero, suc, ◌+◌, ◌*◌, ◌/◌, ◌%◌, ◌^◌, ◌<◌, ◌≤◌, Bool, List, [], ◌∷◌, ◌++◌, inl, inr, length, get_or, map, refl, sym, ap, ◌∙◌, subst, arith, length-append, append_assoc, append-nil}
 use Rattle.std.specs.Int.Digits.{digits_of, AllBelowBase, number_from_digits, number_from_digits_after}
 use Rattle.std.specs.List.{All}
@@ -14,17 +15,17 @@ use Rattle.asn1_numbers.specs.Base128.{IsBase128, IsContinued, shortest_base128}
 use Rattle.asn1_numbers.specs.Inner.Natural.{HasNoLeadingZeros}
 use Rattle.asn1_headers.specs.Header.{IsIdentifier, IsLength, leading_octet, shortest_identifier, shortest_length}
 use Rattle.asn1_numbers.proofs.Base128Digits.{HasNoLeadingZeros-push}
-use Rattle.asn1_numbers.proofs.Base128Forms.{length-shortest_base128 as length-shortest_base128-digits}
+use Rattle.asn1_numbers.proofs.Base128Forms.{length-shortest_base128-some_digits}
 use Rattle.asn1_headers.proofs.Fronts.{IsContinued-cons, IsIdentifier-long}
 use Rattle.asn1_headers.proofs.Prefixes.{IsIdentifier-not_empty}
 
--- digits with bit 8 set, and a last octet
+-- digits with bit 8 set, and a last octet below 128, are continued octets
 IsContinued-marked : (ds : List ℕ) (d : ℕ) → d < 128 → IsContinued (map (λ d. 128 + d) ds ++ d ∷ [])
 IsContinued-marked [] d h = h
 IsContinued-marked (e ∷ ds) d h =
     IsContinued-cons (128 + e) (map (λ d. 128 + d) ds ++ d ∷ []) (omega arith) (IsContinued-marked ds d h)
 
--- their low bits are the digits
+-- the low bits of digits with bit 8 set, and of a last digit, are these digits
 map-low_bits-marked : (ds : List ℕ) (d : ℕ) → AllBelowBase 128 ds → d < 128
     → map (λ b. b % 128) (map (λ d. 128 + d) ds ++ d ∷ []) ≡ ds ++ d ∷ []
 map-low_bits-marked [] d all h =
@@ -35,7 +36,7 @@ map-low_bits-marked (a ∷ ds) d all h =
     let t = map-low_bits-marked ds d all.1 h in
     cc
 
--- the shortest base-128 number is one
+-- the shortest form of a base-128 number is a base-128 number
 pub IsBase128-shortest : (n : ℕ) → IsBase128 (shortest_base128 n) n
 IsBase128-shortest n =
     let ds = digits_of 128 (n / 128) in
@@ -74,12 +75,12 @@ IsIdentifier-shortest c k n =
     ]
 
 -- low bits are base-128 digits
-AllBelowBase-low_bits : (octets : List ℕ) → AllBelowBase 128 (map (λ b. b % 128) octets)
+pub AllBelowBase-low_bits : (octets : List ℕ) → AllBelowBase 128 (map (λ b. b % 128) octets)
 AllBelowBase-low_bits [] = tt
 AllBelowBase-low_bits (b ∷ octets) = (omega arith, AllBelowBase-low_bits octets)
 
--- the shortest base-128 number has an octet for each digit
-length-shortest_base128 : (n : ℕ) → length (shortest_base128 n) ≡ length (digits_of 128 (n / 128)) + 1
+-- the shortest form of a base-128 number has an octet more than its quotient by 128 has digits
+pub length-shortest_base128 : (n : ℕ) → length (shortest_base128 n) ≡ 1 + length (digits_of 128 (n / 128))
 length-shortest_base128 n =
     let ds = digits_of 128 (n / 128) in
     omega (arith, length-append (map (λ d. 128 + d) ds) (n % 128 ∷ []), length-map ds (λ d. 128 + d))
@@ -137,7 +138,7 @@ length-shortest_length_le (b ∷ octets) n all p =
         subst (λ z. z < 256 ^ length octets) (sym e) (number_lt 256 octets below) in
         omega (arith, length-digits_of-le 256 (length octets) n (omega arith) small)
 
--- as many digits of the same number, after digits of some numbers, are the same, and so are those numbers
+-- where as many digits after two numbers give the same number, the digits and the two numbers are the same
 number_from_digits_after-injective : (b m n : ℕ) (xs ys : List ℕ) → AllBelowBase b xs → AllBelowBase b ys
     → length xs ≡ length ys
     → number_from_digits_after b m xs ≡ number_from_digits_after b n ys → (m ≡ n) × (xs ≡ ys)
@@ -177,7 +178,7 @@ AllBelowBase-marked : (ds : List ℕ) (d : ℕ) → AllBelowBase 128 ds → d < 
 AllBelowBase-marked [] d all h = (omega (arith, h), tt)
 AllBelowBase-marked (a ∷ ds) d all h = (omega (arith, all.0), AllBelowBase-marked ds d all.1 h)
 
--- no others of the same base-128 number are as short
+-- no other octets of the same base-128 number are as short
 pub shortest_base128-only : (octets : List ℕ) (n : ℕ) → All (λ b. b < 256) octets → IsBase128 octets n
     → length octets ≤ length (shortest_base128 n) → octets ≡ shortest_base128 n
 shortest_base128-only octets n all p few =
@@ -285,7 +286,7 @@ shortest_base128-not_80 n rest = leading (n / 128) (n % 128) (omega arith)
         marked-not_80 (digits_of 128 (suc front)) rest last
         (first_digits_of 128 (suc front) (omega arith) (omega arith)) e
 
--- digits after some that have no leading zeros
+-- digits that begin with digits without leading zeros have no leading zeros
 HasNoLeadingZeros-append : (front ds : List ℕ) → HasNoLeadingZeros front → 0 < length front → AllBelowBase 128 ds
     → HasNoLeadingZeros (front ++ ds)
 HasNoLeadingZeros-append front [] short some all = subst HasNoLeadingZeros (sym (append-nil front)) short
@@ -314,5 +315,5 @@ shortest_base128-without_80 (b ∷ c ∷ octets) n all p other =
     ap (digits_of 128) (sym p.value) in
     let size : length low ≡ length (b ∷ c ∷ octets) = length-map (b ∷ c ∷ octets) (λ b. b % 128) in
     let many : length (shortest_base128 n) ≡ length (digits_of 128 n) =
-    length-shortest_base128-digits n (omega (arith, ap length short, size)) in
+    length-shortest_base128-some_digits n (omega (arith, ap length short, size)) in
     shortest_base128-only (b ∷ c ∷ octets) n all p (omega (arith, many, ap length short, size))

@@ -31,7 +31,7 @@ IsIdentifier (b ∷ d ∷ octets) class constructed tag = (b ≡ leading_octet c
     × IsBase128 (d ∷ octets) tag
 
 -- length octets of the definite form: the short form (X.690 8.1.3.4), or 128 + k and k octets (X.690 8.1.3.5). k is at
--- most 8, the octets of a usize. Of none the length is 0, where X.690 has the indefinite form (8.1.3.6)
+-- most 8, the octets of a usize. Where k is 0, the length is 0, and X.690 has the indefinite form (8.1.3.6)
 abbrev pub IsLength : List ℕ → ℕ → Type 0
 IsLength [] n = ⊥
 IsLength (b ∷ octets) n =

@@ -1,4 +1,5 @@
--- A document that is DER is its canonical octets exactly if no leaf of it is written otherwise.
+-- A document that is DER is its canonical octets exactly if no leaf of it is written otherwise, for
+-- `laws::law_der_is_canonical`.
 use Rattle.std.proofs.Common.{◌≡◌, ◌↔◌, ℕ, ◌+◌, ◌<◌, ◌^◌, Bool, true, false, List, [], ◌++◌, length, refl, sym, ap, ◌∙◌, subst, arith, length-append, append-nil}
 use Rattle.std.specs.List.{slice_range}
 use Rattle.asn1_numbers.specs.Octets.{AreOctets}
@@ -15,13 +16,14 @@ use Rattle.asn1_blocks.proofs.OneReading.{IsBlock-encodes}
 use Rattle.asn1_blocks.proofs.Slices.{end_before-encodes, middle-contents, middle-first, middle-rest, slice_range-middle}
 use Rattle.asn1_der.specs.Der.{IsDer, IsDerEncoding}
 use Rattle.asn1_der.specs.Steps.{AreDer}
-use Rattle.asn1_der.proofs.Encodings.{IsWhole-der}
+use Rattle.asn1_der.proofs.Encodings.{IsWhole-der, AreDer-first}
 use Rattle.simple_asn1.specs.Canonical.{all_canonical, canonical, shortest_encoding}
 use Rattle.simple_asn1.proofs.Placed.{length-le_shortest_encoding, Encoding-shortest_encoding}
 use Rattle.simple_asn1.proofs.Strict.{IsEncoding-canonical}
 use Rattle.asn1_laws.specs.Spellings.{HasNoOtherSpelling, is_written_otherwise}
-use Rattle.asn1_laws.proofs.Encodings.{AreOctets-first, AreOctets-second, AreOctets-contents, length-contents-lt, IsRightAlone-group, IsRightAlone-leaf, AreDer-first}
+use Rattle.asn1_laws.proofs.Encodings.{length-contents-lt, IsRightAlone-group, IsRightAlone-leaf}
 use Rattle.asn1_laws.proofs.Kept.{LeafContents-plain, is_written_otherwise-leaf_contents}
+use Rattle.simple_asn1.proofs.Writable.{AreOctets-first, AreOctets-second, AreOctets-contents}
 
 -- the leaf from an offset to an end is not written otherwise
 abbrev IsPlain : List ℕ → ℕ → Leaf → ℕ → Type 0
@@ -29,17 +31,17 @@ IsPlain i o l j =
     (contents : List ℕ) (header : ℕ) → Encoding (slice_range i o j) Universal false (leaf_tag l) contents header
     → is_written_otherwise (leaf_tag l) contents ≡ false
 
--- where octets stand
-record Stand (i u x v : List ℕ) (e : ℕ) : Type 0 where
+-- in a document i the octets x stand behind u and before v, and end at the offset e
+record StandsBetween (i u x v : List ℕ) (e : ℕ) : Type 0 where
   pub whole : i ≡ u ++ (x ++ v)
   pub end : e ≡ length u + length x
   pub small : length x < 2 ^ 64
 
-Stand-inside : (i u x v : List ℕ) (e : ℕ) (c : ASN1Class) (k : Bool) (n : ℕ) (w : List ℕ) (h : ℕ)
+StandsBetween-inside : (i u x v : List ℕ) (e : ℕ) (c : ASN1Class) (k : Bool) (n : ℕ) (w : List ℕ) (h : ℕ)
     (F : Encoding x c k n w h) →
-    Stand i u x v e →
-    Stand i (u ++ (F.identifier ++ F.len)) w v e
-Stand-inside i u x v e c k n w h F s = record {
+    StandsBetween i u x v e →
+    StandsBetween i (u ++ (F.identifier ++ F.len)) w v e
+StandsBetween-inside i u x v e c k n w h F s = record {
   whole = middle-contents i u x v s.whole F.identifier F.len w F.whole;
   end = omega (
     arith,
@@ -61,7 +63,7 @@ add-header_size u x c k n w h F =
 mutual
   -- octets of DER are the canonical octets of the tree, where no leaf is written otherwise
   IsDerEncoding-plain_canonical :
-      (a : Tree ℕ) (i u x v : List ℕ) (e : ℕ) → Stand i u x v e → AreOctets x → Encodes (length u) x a →
+      (a : Tree ℕ) (i u x v : List ℕ) (e : ℕ) → StandsBetween i u x v e → AreOctets x → Encodes (length u) x a →
       IsDerEncoding x →
       ((o : ℕ) (l : Leaf) (j : ℕ) → StandsIn a e (leaf o l) j → IsPlain i o l j) → x ≡ canonical a
   IsDerEncoding-plain_canonical (leaf p l) i u x v e at all (o, k, w, h, F, means) d plain =
@@ -81,7 +83,7 @@ mutual
       let constructed = IsRightAlone-group g k w whole.alone.1 in
       let same : w ≡ all_canonical bs =
       AreDer-plain_canonical bs i (u ++ (F.identifier ++ F.len)) w v e
-      (Stand-inside i u x v e Universal k (group_tag g) w h F at)
+      (StandsBetween-inside i u x v e Universal k (group_tag g) w h F at)
       (AreOctets-contents x Universal k (group_tag g) w h F all)
       (subst (λ z. EncodesAll z w bs) (add-header_size u x Universal k (group_tag g) w h F) items)
       (whole.items constructed)
@@ -98,7 +100,7 @@ mutual
       (whole.items refl) in
       let same : w ≡ canonical b =
       IsDerEncoding-plain_canonical b i (u ++ (F.identifier ++ F.len)) w v e
-      (Stand-inside i u x v e c true n w h F at)
+      (StandsBetween-inside i u x v e c true n w h F at)
       (AreOctets-contents x c true n w h F all)
       (subst (λ z. Encodes z w b) (add-header_size u x c true n w h F) item) one.der
       (λ o l j t. plain o l j (in_explicit t)) in
@@ -107,7 +109,7 @@ mutual
       (IsWhole-der x c k n w h at.small F d).alone.0.whole
 
   AreDer-plain_canonical :
-      (bs : Trees ℕ) (i u x v : List ℕ) (e : ℕ) → Stand i u x v e → AreOctets x → EncodesAll (length u) x bs →
+      (bs : Trees ℕ) (i u x v : List ℕ) (e : ℕ) → StandsBetween i u x v e → AreOctets x → EncodesAll (length u) x bs →
       AreDer x →
       ((o : ℕ) (l : Leaf) (j : ℕ) → StandsAmong bs e (leaf o l) j → IsPlain i o l j) → x ≡ all_canonical bs
   AreDer-plain_canonical no_trees i u x v e at all s d plain = s
@@ -124,14 +126,16 @@ mutual
         end = end_before-encodes (length u + length s.first) e s.rest bs s.items (omega (arith, at.end, size));
         small = omega (arith, at.small, size);
       })
-      (AreOctets-first s.first s.rest octets) s.item parts.der (λ o l j t. plain o l j (in_first t)) in
+      (AreOctets-first (s.first ++ s.rest) s.first s.rest refl octets) s.item parts.der
+      (λ o l j t. plain o l j (in_first t)) in
       let others : s.rest ≡ all_canonical bs = AreDer-plain_canonical bs i (u ++ s.first) s.rest v e
       (record {
         whole = middle-rest i u x v at.whole s.first s.rest s.whole;
         end = omega (arith, at.end, size, here);
         small = omega (arith, at.small, size);
       })
-      (AreOctets-second s.first s.rest octets) (subst (λ z. EncodesAll z s.rest bs) here s.items) parts.more
+      (AreOctets-second (s.first ++ s.rest) s.first s.rest refl octets)
+      (subst (λ z. EncodesAll z s.rest bs) here s.items) parts.more
       (λ o l j t. plain o l j (in_later t)) in
       s.whole ∙ (ap (λ z. z ++ s.rest) one ∙ ap (λ z. canonical b ++ z) others)
 
@@ -145,7 +149,7 @@ record IsCanonicalAt (i : List ℕ) (b : Tree ℕ) (j : ℕ) : Type 0 where
   pub der : IsDerEncoding octets
   pub same : octets ≡ canonical b
 
--- contents octets of canonical octets
+-- the shortest encoding of contents octets has these contents octets
 shortest_encoding-same_contents :
     (x : List ℕ) (c d : ASN1Class) (j k : Bool) (m n : ℕ) (v w : List ℕ) (h : ℕ) → length x < 2 ^ 64 →
     Encoding x c j m v h →
@@ -155,15 +159,15 @@ shortest_encoding-same_contents x c d j k m n v w h small F e =
     (Encoding-unique x (shortest_encoding d k n w) c d j k m n v w h _ [] [] F (Encoding-shortest_encoding d k n w size)
     (ap (λ z. z ++ []) e)).contents
 
--- the first of canonical octets
-record Fronts (first rest : List ℕ) (b : Tree ℕ) (bs : Trees ℕ) : Type 0 where
+-- octets split in two are the canonical octets of the first tree and those of the trees behind it
+record AreCanonicalParts (first rest : List ℕ) (b : Tree ℕ) (bs : Trees ℕ) : Type 0 where
   pub one : first ≡ canonical b
   pub others : rest ≡ all_canonical bs
 
 all_canonical-fronts :
     (o : ℕ) (x first rest : List ℕ) (b : Tree ℕ) (bs : Trees ℕ) → length x < 2 ^ 64 → Encodes o first b →
     x ≡ first ++ rest →
-    x ≡ all_canonical (more_trees b bs) → Fronts first rest b bs
+    x ≡ all_canonical (more_trees b bs) → AreCanonicalParts first rest b bs
 all_canonical-fronts o x first rest b bs small s w e =
     let F = IsEncoding-block first (IsBlock-encodes o first b s) in
     let G =
@@ -175,7 +179,7 @@ all_canonical-fronts o x first rest b bs small s w e =
 
 mutual
   IsCanonicalAt-in_tree :
-      (a : Tree ℕ) (e : ℕ) (b : Tree ℕ) (j : ℕ) (i u x v : List ℕ) → Stand i u x v e → Encodes (length u) x a →
+      (a : Tree ℕ) (e : ℕ) (b : Tree ℕ) (j : ℕ) (i u x v : List ℕ) → StandsBetween i u x v e → Encodes (length u) x a →
       IsDerEncoding x →
       x ≡ canonical a → StandsIn a e b j → IsCanonicalAt i b j
   IsCanonicalAt-in_tree a e b j i u x v at s d same itself = record {
@@ -191,7 +195,7 @@ mutual
       let (_, bit, contents, size, F, items) = s in
       let whole = IsWhole-der x Universal bit (group_tag g) contents size at.small F d in
       IsCanonicalAt-among_trees bs e b j i (u ++ (F.identifier ++ F.len)) contents v
-      (Stand-inside i u x v e Universal bit (group_tag g) contents size F at)
+      (StandsBetween-inside i u x v e Universal bit (group_tag g) contents size F at)
       (subst (λ z. EncodesAll z contents bs) (add-header_size u x Universal bit (group_tag g) contents size F) items)
       (whole.items (IsRightAlone-group g bit contents whole.alone.1))
       (shortest_encoding-same_contents x Universal Universal bit true (group_tag g) (group_tag g) contents
@@ -204,12 +208,13 @@ mutual
       (sym (append-nil contents))
       (length-contents-lt x c true n contents size F at.small) (whole.items refl) in
       IsCanonicalAt-in_tree y e b j i (u ++ (F.identifier ++ F.len)) contents v
-      (Stand-inside i u x v e c true n contents size F at)
+      (StandsBetween-inside i u x v e c true n contents size F at)
       (subst (λ z. Encodes z contents y) (add-header_size u x c true n contents size F) inner) one.der
       (shortest_encoding-same_contents x c c true true n n contents (canonical y) size at.small F same) t
 
   IsCanonicalAt-among_trees :
-      (bs : Trees ℕ) (e : ℕ) (b : Tree ℕ) (j : ℕ) (i u x v : List ℕ) → Stand i u x v e → EncodesAll (length u) x bs →
+      (bs : Trees ℕ) (e : ℕ) (b : Tree ℕ) (j : ℕ) (i u x v : List ℕ) → StandsBetween i u x v e →
+      EncodesAll (length u) x bs →
       AreDer x →
       x ≡ all_canonical bs → StandsAmong bs e b j → IsCanonicalAt i b j
   IsCanonicalAt-among_trees bs e b j i u x v at s d same (in_first {a = a} {bs = cs} t) =
@@ -240,9 +245,9 @@ mutual
       })
       (subst (λ z. EncodesAll z s.rest cs) here s.items) parts.more f.others t
 
--- a whole document
-Stand-whole : (i : List ℕ) → length i < 2 ^ 64 → Stand i [] i [] (length i)
-Stand-whole i small = record { whole = sym (append-nil i); end = omega arith; small = small }
+-- a whole document stands with no octets before it and none behind it
+StandsBetween-whole : (i : List ℕ) → length i < 2 ^ 64 → StandsBetween i [] i [] (length i)
+StandsBetween-whole i small = record { whole = sym (append-nil i); end = omega arith; small = small }
 
 -- a leaf in canonical octets is not written otherwise
 is_written_otherwise-canonical_leaf :
@@ -267,14 +272,14 @@ pub IsDer-canonical_iff_plain :
     (i ≡ all_canonical bs) ↔ HasNoOtherSpelling i bs
 IsDer-canonical_iff_plain i bs all small d s = (
   λ same o l octets contents header h F.
-      let f = IsCanonicalAt-among_trees bs (length i) (leaf o l) h.end i [] i [] (Stand-whole i small) s.blocks
+      let f = IsCanonicalAt-among_trees bs (length i) (leaf o l) h.end i [] i [] (StandsBetween-whole i small) s.blocks
       (d.items, d.encodings)
       same h.place in
       let here : octets ≡ f.octets = h.octets_are ∙ f.at o f.encoded.0 in
       is_written_otherwise-canonical_leaf f.octets f.offset o l contents header f.small f.encoded f.der f.same
       (subst (λ z. Encoding z Universal false (leaf_tag l) contents header) here F),
   λ plain.
-      AreDer-plain_canonical bs i [] i [] (length i) (Stand-whole i small) all s.blocks (d.items, d.encodings)
+      AreDer-plain_canonical bs i [] i [] (length i) (StandsBetween-whole i small) all s.blocks (d.items, d.encodings)
       (λ o l j t contents header F. plain o l (slice_range i o j) contents header
       (record { end = j; place = t; octets_are = refl }) F),
 )

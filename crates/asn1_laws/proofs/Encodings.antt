@@ -1,37 +1,17 @@
--- Encodings of DER that encode trees.
-use Rattle.std.proofs.Common.{◌≡◌, ℕ, ◌<◌, ◌≤◌, ◌^◌, Bool, true, false, List, ◌++◌, length, refl, sym, ap, ◌∙◌, subst, arith, length-append}
+-- Encodings of DER by their parts: octets, form and contents octets, and the first of several, for the laws of this
+-- crate.
+use Rattle.std.proofs.Common.{◌≡◌, ℕ, ◌<◌, ◌≤◌, ◌^◌, Bool, true, false, List, ◌++◌, length, refl, sym, ap, ◌∙◌, arith, length-append}
 use Rattle.std.proofs.lemmas.Bool.{false≢true}
-use Rattle.std.proofs.lemmas.List.{drop_at, take_at}
-use Rattle.std.proofs.lemmas.List.Elements.{All-drop, All-take}
-use Rattle.asn1_numbers.specs.Octets.{AreOctets}
 use Rattle.asn1_headers.specs.Header.{Encoding}
 use Rattle.asn1_headers.specs.declared.header.ASN1Class.{ASN1Class}
 use Rattle.asn1_headers.specs.declared.header.ASN1Class.TheVariants.{Universal}
-use Rattle.asn1_headers.proofs.Prefixes.{Encoding-unique, Encoding-not_empty}
 use Rattle.asn1_leaves.specs.StringKind.{utf8, printable, teletex, ia5, universal, bmp}
 use Rattle.asn1_blocks.specs.Contents.{group_tag, leaf_tag}
 use Rattle.asn1_blocks.specs.Tree.{Leaf, boolean, integer, bit_string, octet_string, null, object_identifier, text, utc_time, generalized_time}
 use Rattle.asn1_blocks.specs.declared.block.GroupKind.{GroupKind}
 use Rattle.asn1_blocks.specs.declared.block.GroupKind.TheVariants.{Sequence, Set}
 use Rattle.asn1_der.specs.Contents.{HasDerContents}
-use Rattle.asn1_der.specs.Der.{AreDerEncodings, IsDerEncoding, IsRightAlone, is_constructed_type, more_encodings, no_encodings}
-use Rattle.asn1_der.specs.Steps.{AreDer}
-use Rattle.asn1_der.proofs.Encodings.{Encoding-der}
-
--- octets before others, and those behind them
-pub AreOctets-first : (x y : List ℕ) → AreOctets (x ++ y) → AreOctets x
-AreOctets-first x y all =
-    subst AreOctets (take_at x y (length x) refl) (All-take (λ b. b < 256) (length x) (x ++ y) all)
-
-pub AreOctets-second : (x y : List ℕ) → AreOctets (x ++ y) → AreOctets y
-AreOctets-second x y all =
-    subst AreOctets (drop_at x y (length x) refl) (All-drop (λ b. b < 256) (length x) (x ++ y) all)
-
--- the contents octets of an encoding
-pub AreOctets-contents : (x : List ℕ) (c : ASN1Class) (k : Bool) (n : ℕ) (v : List ℕ) (h : ℕ) → Encoding x c k n v h →
-    AreOctets x → AreOctets v
-AreOctets-contents x c k n v h e all =
-    AreOctets-second e.len v (AreOctets-second e.identifier (e.len ++ v) (subst AreOctets e.whole all))
+use Rattle.asn1_der.specs.Der.{IsRightAlone, is_constructed_type}
 
 pub length-contents-le : (x : List ℕ) (c : ASN1Class) (k : Bool) (n : ℕ) (v : List ℕ) (h : ℕ) → Encoding x c k n v h →
     length v ≤ length x
@@ -79,23 +59,3 @@ is_constructed_type-group_tag Set = refl
 pub IsRightAlone-group : (g : GroupKind) (k : Bool) (v : List ℕ) → IsRightAlone Universal k (group_tag g) v → k ≡ true
 IsRightAlone-group g true v r = refl
 IsRightAlone-group g false v r = absurd (false≢true (sym r.1 ∙ is_constructed_type-group_tag g))
-
--- an encoding in front of encodings of DER is one, and so are those behind it
-pub record IsSplit (first rest : List ℕ) : Type 0 where
-  pub der : IsDerEncoding first
-  pub more : AreDer rest
-
-pub AreDer-first :
-    (x first rest : List ℕ) (c : ASN1Class) (k : Bool) (n : ℕ) (v : List ℕ) (h : ℕ) → Encoding first c k n v h →
-    x ≡ first ++ rest →
-    length x < 2 ^ 64 → AreDer x → IsSplit first rest
-AreDer-first x first rest c k n v h e whole small (items, no_encodings) =
-    absurd (omega (arith, Encoding-not_empty first c k n v h e, ap length whole, length-append first rest))
-AreDer-first x first rest c k n v h e whole small (items, more_encodings {first = f} {rest = r} {items = is} w d ds) =
-    let (c', k', n', v', h', e') = Encoding-der f (omega (arith, small, ap length w, length-append f r)) d in
-    let same = Encoding-unique first f c c' k k' n n' v v' h h' rest r e e' (sym whole ∙ w) in
-    record {
-      der = subst IsDerEncoding (sym same.octets) d;
-      more =
-          (is, subst (λ z. AreDerEncodings z is) (sym same.rest) ds);
-    }

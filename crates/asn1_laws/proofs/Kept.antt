@@ -1,4 +1,5 @@
--- A leaf whose contents octets are DER is written as it came, or it is one of those that are written otherwise.
+-- A leaf whose contents octets are DER is written as it came, unless it is among those that are written otherwise, for
+-- `laws::law_der_is_canonical`.
 use Rattle.std.proofs.Common.{◌≡◌, ℕ, false, List, length, refl, sym}
 use Rattle.std.proofs.lemmas.Bool.{eqb-true}
 use Rattle.std.proofs.lemmas.List.{nil_from_length}

@@ -1,4 +1,5 @@
--- Contents octets of leaves that are DER: the same are written, or they are one of those that are written otherwise.
+-- Contents octets of leaves that are DER are written as they came, or are among those that are written otherwise, for
+-- the laws of this crate.
 use Rattle.std.proofs.Common.{◌≡◌, ◌≢◌, ◌==◌, ℕ, zero, suc, ◌+◌, ◌-◌, ◌*◌, ◌<◌, Bool, true, false, not, List, [], ◌∷◌, ◌++◌, inl, inr, length, refl, sym, ap, ap₂, ◌∙◌, subst, arith, IsTrue}
 use Rattle.std.specs.Prelude.{ℤ, ◌&&◌, ◌||◌, nat_lt, if◌then◌else◌}
 use Rattle.std.specs.List.{flat_map}
@@ -17,10 +18,11 @@ use Rattle.asn1_leaves.specs.Contents.ObjectIdentifier.{ObjectIdentifierContents
 use Rattle.asn1_leaves.proofs.ShortSubidentifiers.{NoneLeads, NoneLeads-object_identifier_contents}
 use Rattle.asn1_der.specs.Contents.{are_subidentifiers, is_bit_string, is_boolean, is_integer}
 use Rattle.asn1_der.specs.Padding.{has_padded_component, is_padded_from, last_octet}
-use Rattle.asn1_leaves.proofs.Fractions.{get_or-last}
+use Rattle.asn1_leaves.proofs.Fractions.{get_or-last_cons}
 use Rattle.asn1_laws.specs.Spellings.{goes_on_with_80, has_no_bits}
+use Rattle.asn1_leaves.proofs.Leaves.BitString.{bit_string_contents-suc}
 
--- a BOOLEAN
+-- the octet of a BOOLEAN that is DER is the octet that is written for it
 octet_of_boolean : (x : ℕ) → ((x == 0) || (x == 255)) ≡ true → x ≡ (if not (x == 0) then 255 else 0)
 octet_of_boolean x t = elim (cases_Bool (x == 0)) [
   | inl e ↦ eqb-true x 0 e ∙ sym (ap (λ b. if not b then 255 else 0) e)
@@ -34,7 +36,7 @@ BooleanContents-der b contents (x, e, is) der =
     let octet = octet_of_boolean x (sym (ap is_boolean e) ∙ der) in
     e ∙ (ap (λ z. z ∷ []) octet ∙ ap (λ z. (if z then 255 else 0) ∷ []) (sym is))
 
--- an INTEGER
+-- the first octet of an INTEGER that is DER does not only repeat the sign of the second
 sign_before-needed : (b c : ℕ) → (if nat_lt c 128 then b == 0 else (b == 255)) ≡ false → b ≢ sign_before c
 sign_before-needed b c t e = elim (cases_lt c 128) [
   | inl low ↦ grind (arith, nat_tests, t, e, low)
@@ -55,14 +57,9 @@ IntegerContents-der n (b ∷ c ∷ more) all is der =
     not_true true e = absurd cc
     not_true false e = refl
 
--- a BIT STRING
-eqb-suc-zero : (n : ℕ) → (suc n == 0) ≡ false
-eqb-suc-zero n =
-    elim (cases_Bool (suc n == 0)) [ inl e ↦ absurd (omega (arith, eqb-true (suc n) 0 e)) | inr e ↦ e ]
-
 pub bit_string_contents-some : (n : ℕ) (v : List ℕ) → 0 < n → bit_string_contents n v ≡ (8 * length v - n) ∷ v
 bit_string_contents-some zero v some = absurd (omega (arith, some))
-bit_string_contents-some (suc n) v some = ap (λ z. if z then [] else ((8 * length v - suc n) ∷ v)) (eqb-suc-zero n)
+bit_string_contents-some (suc n) v some = bit_string_contents-suc n v
 
 pub is_bit_string-few_unused : (unused first : ℕ) (more : List ℕ) → is_bit_string (unused ∷ first ∷ more) ≡ true →
     unused < 8
@@ -94,7 +91,7 @@ has_no_bits-written n v (u ∷ first ∷ more) p der e = elim (cases_Bool (has_n
   | inr not_one ↦ not_one
 ]
 
--- an OBJECT IDENTIFIER
+-- where no subidentifier of an OBJECT IDENTIFIER is padded and the last is ended, none begins with an octet 80
 NoneLeads-unpadded : (begins : Bool) (octets : List ℕ) → is_padded_from begins octets ≡ false →
     (length octets ≡ 0 → IsTrue begins)
     → (0 < length octets → last_octet octets < 128) → NoneLeads begins octets
@@ -125,7 +122,7 @@ NoneLeads-unpadded begins (b ∷ octets) padded ended last = (
 
     more : (b : ℕ) (octets : List ℕ) → 0 < length octets → last_octet (b ∷ octets) < 128 → last_octet octets < 128
     more b [] some low = absurd (omega (arith, some))
-    more b (c ∷ octets) some low = omega (arith, low, get_or-last b c octets)
+    more b (c ∷ octets) some low = omega (arith, low, get_or-last_cons b c octets)
 
 is_padded_from-behind_first : (b : ℕ) (rest : List ℕ) → is_padded_from true (b ∷ rest) ≡ false →
     goes_on_with_80 (b ∷ rest) ≡ false →
@@ -148,13 +145,13 @@ is_padded_from-behind_first b (c ∷ more) padded on = elim (cases_lt b 128) [
     second true y e = absurd cc
     second false y e = e
 
--- what is asked of subidentifiers
-pub record AreWell (octets : List ℕ) : Type 0 where
+-- subidentifiers that are DER: the last is ended, and none is padded
+pub record EndUnpadded (octets : List ℕ) : Type 0 where
   pub last : last_octet octets < 128
   pub unpadded : has_padded_component octets ≡ false
 
-pub AreWell-subidentifiers : (octets : List ℕ) → are_subidentifiers octets ≡ true → AreWell octets
-AreWell-subidentifiers octets t =
+pub EndUnpadded-subidentifiers : (octets : List ℕ) → are_subidentifiers octets ≡ true → EndUnpadded octets
+EndUnpadded-subidentifiers octets t =
     let p =
     and_parts (nat_lt 0 (length octets) && nat_lt (last_octet octets) 128) (not (has_padded_component octets)) t in
     let q = and_parts (nat_lt 0 (length octets)) (nat_lt (last_octet octets) 128) p.0 in
@@ -171,7 +168,7 @@ pub ObjectIdentifierContents-der :
     goes_on_with_80 contents ≡ false → contents ≡ object_identifier_contents ns
 ObjectIdentifierContents-der ns [] all p der on = absurd cc
 ObjectIdentifierContents-der ns (b ∷ rest) all p der on =
-    let well = AreWell-subidentifiers (b ∷ rest) der in
+    let well = EndUnpadded-subidentifiers (b ∷ rest) der in
     let leads : NoneLeads true rest =
     NoneLeads-unpadded true rest (is_padded_from-behind_first b rest well.unpadded on) (λ none. refl)
     (λ some. last_of_more b rest some well.last) in
@@ -180,14 +177,14 @@ ObjectIdentifierContents-der ns (b ∷ rest) all p der on =
     last_of_more : (b : ℕ) (octets : List ℕ) → 0 < length octets → last_octet (b ∷ octets) < 128 →
         last_octet octets < 128
     last_of_more b [] some low = absurd (omega (arith, some))
-    last_of_more b (c ∷ octets) some low = omega (arith, low, get_or-last b c octets)
+    last_of_more b (c ∷ octets) some low = omega (arith, low, get_or-last_cons b c octets)
 
--- a base-128 number has octets
-pub IsContinued-some : (octets : List ℕ) → IsContinued octets → 0 < length octets
-IsContinued-some [] p = absurd p
-IsContinued-some (b ∷ octets) p = omega arith
+-- continued octets are not empty
+pub IsContinued-not_empty : (octets : List ℕ) → IsContinued octets → 0 < length octets
+IsContinued-not_empty [] p = absurd p
+IsContinued-not_empty (b ∷ octets) p = omega arith
 
--- octets that do not begin with 80, and others behind them
+-- octets, one or more, that do not begin with 80 do not with others joined behind them either
 append-not_80 : (first rest more : List ℕ) → 0 < length first → ((more : List ℕ) → first ≢ 128 ∷ more) →
     first ++ rest ≢ 128 ∷ more
 append-not_80 [] rest more some other e = omega (arith, some)
@@ -212,9 +209,9 @@ goes_on_with_80-shortest b [] = refl
 goes_on_with_80-shortest b (n ∷ ns) =
     goes_on_with_80-cons b (shortest_base128 n ++ flat_map shortest_base128 ns) (λ more.
     append-not_80 (shortest_base128 n) (flat_map shortest_base128 ns) more
-    (IsContinued-some (shortest_base128 n) (IsBase128-shortest n).continued) (shortest_base128-not_80 n))
+    (IsContinued-not_empty (shortest_base128 n) (IsBase128-shortest n).continued) (shortest_base128-not_80 n))
 
--- an octet 80 is not written there
+-- a written OBJECT IDENTIFIER does not go on with an octet 80 behind its first octet
 pub goes_on_with_80-written :
     (ns contents : List ℕ) → ObjectIdentifierContents ns contents → contents ≡ object_identifier_contents ns →
     goes_on_with_80 contents ≡ false

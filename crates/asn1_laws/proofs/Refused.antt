@@ -1,4 +1,4 @@
--- The faults of octets that are DER.
+-- Octets that are DER have no first fault but that of a string or of too many bits, for `laws::law_der_is_read`.
 use Rattle.std.proofs.Common.{◌≡◌, ℕ, ◌+◌, ◌<◌, ◌≤◌, ◌^◌, true, false, List, [], ◌∷◌, ◌++◌, inl, inr, length, refl, ap, ◌∙◌, subst, arith, length-append, append_assoc}
 use Rattle.std.proofs.lemmas.Str.{IsUtf8-from_is_utf8}
 use Rattle.asn1_headers.specs.Fault.{DecodeFault}
@@ -17,13 +17,13 @@ use Rattle.asn1_blocks.proofs.Faults.{IsEncoding-block, HeaderFault-not_encoding
 use Rattle.asn1_der.specs.Contents.{HasDerContents, IsMoment, are_subidentifiers, is_bit_string, is_boolean}
 use Rattle.asn1_der.specs.Der.{IsDer, is_constructed_type, more_encodings, no_encodings}
 use Rattle.asn1_der.specs.Steps.{AreDer}
-use Rattle.asn1_der.proofs.Encodings.{Encoding-der, IsWhole-der}
+use Rattle.asn1_der.proofs.Encodings.{Encoding-der, IsWhole-der, AreDer-first}
 use Rattle.asn1_laws.specs.Refused.{IsFaultOfDer, of_bits, of_string}
-use Rattle.asn1_laws.proofs.Encodings.{length-contents-le, length-contents-lt, IsRightAlone-group, IsRightAlone-primitive, AreDer-first}
-use Rattle.asn1_leaves.proofs.Fractions.{get_or-last}
-use Rattle.asn1_laws.proofs.Leaves.{AreWell-subidentifiers, is_bit_string-few_unused}
+use Rattle.asn1_laws.proofs.Encodings.{length-contents-le, length-contents-lt, IsRightAlone-group, IsRightAlone-primitive}
+use Rattle.asn1_leaves.proofs.Fractions.{get_or-last_cons}
+use Rattle.asn1_laws.proofs.Leaves.{EndUnpadded-subidentifiers, is_bit_string-few_unused}
 
--- a fault of fewer octets is one of more
+-- a fault that octets of DER may have is one that longer octets may have
 IsFaultOfDer-longer : (x y : List ℕ) (e : DecodeFault) → length x ≤ length y → IsFaultOfDer x e → IsFaultOfDer y e
 IsFaultOfDer-longer x y e more (of_string kind contents other f) = of_string kind contents other f
 IsFaultOfDer-longer x y e more (of_bits size many f) = of_bits size (omega (arith, many, more)) f
@@ -33,7 +33,7 @@ length-is_boolean [] t = absurd cc
 length-is_boolean (b ∷ []) t = refl
 length-is_boolean (b ∷ c ∷ more) t = absurd cc
 
--- a BIT STRING
+-- a BIT STRING that is DER has no fault but that of too many bits
 IsFaultOfDer-bit_string : (contents : List ℕ) (e : DecodeFault) → is_bit_string contents ≡ true →
     BitStringFault contents e →
     IsFaultOfDer contents e
@@ -46,21 +46,21 @@ IsFaultOfDer-bit_string (u ∷ first ∷ more) e t (inl f) = of_bits (length (u 
 IsFaultOfDer-bit_string (u ∷ first ∷ more) e t (inr f) =
     absurd (omega (arith, f.1, is_bit_string-few_unused u first more t))
 
--- an OBJECT IDENTIFIER
+-- subidentifiers that are DER are the contents octets of an OBJECT IDENTIFIER
 are_subidentifiers-components : (contents : List ℕ) → are_subidentifiers contents ≡ true →
     (ns : List ℕ) × ObjectIdentifierContents ns contents
 are_subidentifiers-components [] t = absurd cc
 are_subidentifiers-components (b ∷ []) t = ObjectIdentifierContents-ended b [] (omega arith)
 are_subidentifiers-components (b ∷ c ∷ more) t =
     ObjectIdentifierContents-ended b (c ∷ more)
-    (omega (arith, (AreWell-subidentifiers (b ∷ c ∷ more) t).last, get_or-last b c more))
+    (omega (arith, (EndUnpadded-subidentifiers (b ∷ c ∷ more) t).last, get_or-last_cons b c more))
 
 IsMoment-contents : (P : Type 0) (contents : List ℕ) → IsMoment contents →
     ((m : Moment) → GeneralizedTimeContents m contents → P) → P
 unfolding IsMoment
 IsMoment-contents P contents (m, h) f = f m h
 
--- a string
+-- a string that is DER has a fault only if it is read as UTF-8 and has another code in DER
 IsFaultOfDer-text : (kind : StringKind) (contents : List ℕ) (e : DecodeFault) →
     HasDerContents (string_tag kind) contents →
     TextFault (text_form kind) contents e
@@ -72,7 +72,7 @@ IsFaultOfDer-text ia5 contents e d f = absurd f
 IsFaultOfDer-text universal contents e d f = of_string universal contents refl f
 IsFaultOfDer-text bmp contents e d f = of_string bmp contents refl f
 
--- contents octets that are DER
+-- contents octets that are DER have no fault but that of a string or of too many bits
 IsFaultOfDer-leaf : (n : ℕ) (contents : List ℕ) (e : DecodeFault) → HasDerContents n contents → LeafFault n contents e →
     IsFaultOfDer contents e
 IsFaultOfDer-leaf n contents e d (of_boolean t f) =
@@ -90,7 +90,7 @@ IsFaultOfDer-leaf n contents e d (of_generalized_time t f) =
 IsFaultOfDer-leaf n contents e d (of_text kind t f) =
     IsFaultOfDer-text kind contents e (subst (λ z. HasDerContents z contents) t d) f
 
--- only types that are not constructed have such a fault
+-- the type of a string is not a constructed type
 is_constructed_type-string_tag : (kind : StringKind) → is_constructed_type (string_tag kind) ≡ false
 is_constructed_type-string_tag utf8 = refl
 is_constructed_type-string_tag printable = refl
@@ -109,7 +109,7 @@ is_constructed_type-leaf_fault n contents e (of_generalized_time t f) = ap is_co
 is_constructed_type-leaf_fault n contents e (of_text kind t f) =
     ap is_constructed_type t ∙ is_constructed_type-string_tag kind
 
--- what stands behind blocks
+-- what stands behind blocks in encodings of DER is encodings of DER
 AreDer-behind_blocks : (x front rest : List ℕ) → AreBlocks front → x ≡ front ++ rest → length x < 2 ^ 64 → AreDer x →
     AreDer rest
 AreDer-behind_blocks x front rest no_blocks whole small d = subst AreDer whole d
@@ -130,7 +130,7 @@ AreDer-no_header_fault o x e small some f (items, more_encodings {first = first}
     let (c, k, n, v, h, F) = Encoding-der first (omega (arith, small, ap length w, length-append first rest)) d in
     HeaderFault-not_encoding o x first rest e c k n v h f small w F
 
--- the fault of DER
+-- encodings of DER have no fault but that of a string or of too many bits
 IsFaultOfDer-blocks : (x : List ℕ) (e : DecodeFault) (o : ℕ) → length x < 2 ^ 64 → AreDer x → BlocksFaultAt x e o →
     IsFaultOfDer x e
 IsFaultOfDer-blocks x e o small d (in_header front rest w bs some f) =

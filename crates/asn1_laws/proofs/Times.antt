@@ -1,35 +1,18 @@
--- Contents octets of a GeneralizedTime that are DER.
+-- A GeneralizedTime that is DER, with at most nine digits of a fraction, is written as it came, for
+-- `laws::law_der_is_canonical` and `laws::law_written_is_der`.
 use Rattle.std.proofs.Common.{◌≡◌, ◌≢◌, ◌==◌, ℕ, zero, ◌+◌, ◌-◌, ◌<◌, ◌≤◌, ◌⊎◌, Bool, true, false, not, List, [], ◌∷◌, ◌++◌, inl, inr, length, get_or, refl, sym, ap, ap₂, ◌∙◌, arith, length-append}
-use Rattle.std.specs.Prelude.{◌&&◌, ◌||◌, nat_lt, if◌then◌else◌}
+use Rattle.std.specs.Prelude.{◌&&◌, ◌||◌, nat_lt}
 use Rattle.std.specs.Char.{is_ascii_digit}
 use Rattle.std.specs.List.{list_all}
-use Rattle.std.proofs.lemmas.Bool.{and_parts, cases_Bool, cases_lt, eqb-true, false≢true}
+use Rattle.std.proofs.lemmas.Bool.{and_parts, cases_lt, false≢true}
 use Rattle.std.proofs.lemmas.Bool.Decides.{nat_tests}
-use Rattle.std.proofs.lemmas.List.{get_or-append-add, get_or_append_left}
-use Rattle.asn1_leaves.specs.Contents.GeneralizedTime.{GeneralizedTimeContents, fraction_digits, fraction_number, generalized_time_contents, tenth, to_second, written_fraction}
+use Rattle.std.proofs.lemmas.List.{get_or-append-add}
+use Rattle.asn1_leaves.specs.Contents.GeneralizedTime.{GeneralizedTimeContents, fraction_number, generalized_time_contents, tenth, to_second, written_fraction}
 use Rattle.asn1_leaves.specs.Contents.Moment.{Moment}
 use Rattle.asn1_der.specs.Padding.{has_padded_fraction, last_octet}
 use Rattle.asn1_laws.specs.Spellings.{has_many_digits}
-use Rattle.asn1_leaves.proofs.Fractions.{is_ascii_digit-range, length-fraction_digits-le, IsFraction-digits}
-
--- what is written of some nanoseconds, or of none
-pub written_fraction-some : (n : ℕ) → 0 < n → written_fraction n ≡ 46 ∷ fraction_digits 9 tenth n
-written_fraction-some n some = elim (cases_Bool (n == 0)) [
-  | inl e ↦ absurd (omega (arith, some, eqb-true n 0 e))
-  | inr e ↦ ap (λ z. if z then [] else 46 ∷ fraction_digits 9 tenth n) e
-]
-
--- the octet before the last
-pub get_or-before_last : (front digits : List ℕ) (z : ℕ) → 0 < length digits →
-    get_or (front ++ (digits ++ z ∷ [])) (length (front ++ (digits ++ z ∷ [])) - 2) 0 ≡ last_octet digits
-get_or-before_last front digits z some =
-    let size = length-append front (digits ++ z ∷ []) in
-    let more = length-append digits (z ∷ []) in
-    let place : length (front ++ (digits ++ z ∷ [])) - 2 ≡ length front + (length digits - 1) =
-    omega (arith, size, more, some) in
-    ap (λ i. get_or (front ++ (digits ++ z ∷ [])) i 0) place
-    ∙ (get_or-append-add front (digits ++ z ∷ []) (length digits - 1) 0
-    ∙ get_or_append_left digits (z ∷ []) 0 (length digits - 1) (omega (arith, some)))
+use Rattle.asn1_leaves.proofs.Fractions.{is_ascii_digit-range, length-fraction_digits-le, IsFraction-digits, get_or-before_last}
+use Rattle.asn1_leaves.proofs.Leaves.GeneralizedTime.{written_fraction-some}
 
 or-either : (a b c : Bool) → (b ≡ true) ⊎ (c ≡ true) → (not a || b || c) ≡ true
 or-either true true c h = refl
@@ -46,7 +29,7 @@ module _ (contents : List ℕ) (size : 15 < length contents) where
   nat_lt-15-length : nat_lt 15 (length contents) ≡ true
   nat_lt-15-length = grind (arith, nat_tests, size)
 
-  -- no point stands before a fraction
+  -- a fraction without a point before it is padded
   has_padded_fraction-without_point : (get_or contents 14 0 == 46) ≡ false → has_padded_fraction contents ≡ true
   has_padded_fraction-without_point e =
       ap₂ (λ x y. x && y) nat_lt-15-length
@@ -107,7 +90,7 @@ module _ (m : Moment) where
       ∙ has_padded_fraction-padded_end whole (omega (arith, length-to_second (46 ∷ (digits ++ 90 ∷ [])), more))
       (inl is))
 
-  -- what is written of the nanoseconds
+  -- a fraction that is not padded and has at most nine digits is what is written of its nanoseconds
   written_fraction-end : (digits end : List ℕ) → list_all is_ascii_digit digits ≡ true →
       m.nanosecond ≡ fraction_number tenth digits
       → (end ≡ digits ++ 90 ∷ []) ⊎ (end ≡ 46 ∷ (digits ++ 90 ∷ [])) → has_padded_fraction (to_second m ++ end) ≡ false
@@ -142,7 +125,7 @@ GeneralizedTimeContents-der m contents p unpadded few =
     (omega (arith, size, ap length p.octets, length-to_second m p.end)) in
     p.octets ∙ ap (λ z. to_second m ++ z) end
 
--- at most nine digits are written
+-- a point and at most nine digits are written of nanoseconds
 length-written_fraction-le : (n : ℕ) → length (written_fraction n) ≤ 10
 length-written_fraction-le n = elim (cases_lt 0 n) [
   | inl some ↦ omega (arith, ap length (written_fraction-some n some), length-fraction_digits-le 9 tenth n)

@@ -1,4 +1,4 @@
--- When what is written of faithful trees is DER.
+-- What is written of faithful trees is DER exactly if they are trees of DER, for `laws::law_written_is_der`.
 use Rattle.std.proofs.Common.{◌≡◌, ◌≢◌, ◌↔◌, ℕ, ◌<◌, ◌^◌, Bool, true, false, List, [], ◌∷◌, ◌++◌, length, refl, sym, ap, arith, length-append, append-nil}
 use Rattle.asn1_headers.specs.declared.header.ASN1Class.{ASN1Class}
 use Rattle.asn1_headers.specs.declared.header.ASN1Class.TheVariants.{Universal}
@@ -9,12 +9,12 @@ use Rattle.asn1_blocks.specs.Tree.{Leaf, Tree, Trees, leaf, group, explicit, unk
 use Rattle.asn1_blocks.specs.declared.block.GroupKind.TheVariants.{Sequence, Set}
 use Rattle.asn1_der.specs.Der.{AreDerEncodings, IsDer, IsDerEncoding, IsShortest, is_constructed_type, is_reserved, more_encodings, no_encodings, of_other_constructed, of_primitive_type, of_sequence, of_set}
 use Rattle.asn1_der.specs.Steps.{AreDer, IsWhole}
-use Rattle.asn1_der.proofs.Encodings.{IsWhole-der, IsDerEncoding-whole}
+use Rattle.asn1_der.proofs.Encodings.{IsWhole-der, IsDerEncoding-whole, AreDer-first}
 use Rattle.simple_asn1.specs.Canonical.{all_canonical, canonical, shortest_encoding}
-use Rattle.simple_asn1.proofs.Placed.{length-canonical_some, length-le_shortest_encoding, header_size, Encoding-shortest_encoding}
+use Rattle.simple_asn1.proofs.Placed.{canonical-not_empty, length-le_shortest_encoding, header_size, Encoding-shortest_encoding}
 use Rattle.simple_asn1.proofs.Strict.{IsEncoding-canonical}
 use Rattle.asn1_laws.specs.DerTrees.{AreDerTrees, IsDerTree, each_canonical}
-use Rattle.asn1_laws.proofs.Encodings.{IsRightAlone-leaf, AreDer-first}
+use Rattle.asn1_laws.proofs.Encodings.{IsRightAlone-leaf}
 use Rattle.asn1_laws.proofs.WrittenLeaves.{is_der_leaf-leaf_contents, HasDerContents-leaf_contents}
 
 IsShortest-shortest_encoding : (c : ASN1Class) (k : Bool) (n : ℕ) (v : List ℕ) →
@@ -65,7 +65,7 @@ mutual
   AreDerEncodings-all_canonical (more_trees b bs) f t =
       more_encodings refl (IsDerEncoding-canonical b f.0 t.0) (AreDerEncodings-all_canonical bs f.1 t.1)
 
--- what an encoding that is written has to be
+-- a DER encoding that is written of a class, a form, a tag and contents octets keeps the rules of DER for these
 IsWhole-shortest_encoding : (c : ASN1Class) (k : Bool) (n : ℕ) (v : List ℕ) →
     length (shortest_encoding c k n v) < 2 ^ 64 →
     IsDerEncoding (shortest_encoding c k n v)
@@ -74,7 +74,8 @@ IsWhole-shortest_encoding c k n v small d =
     IsWhole-der (shortest_encoding c k n v) c k n v (header_size c k n v) small
     (Encoding-shortest_encoding c k n v (omega (arith, small, length-le_shortest_encoding c k n v))) d
 
--- the first that is written, and the others
+-- where encodings of DER begin with the canonical octets of a tree, these octets are the first encoding, and the rest
+-- are encodings of DER
 AreDer-canonical_first : (b : Tree ℕ) (rest whole : List ℕ) → whole ≡ canonical b ++ rest → length whole < 2 ^ 64 →
     AreDer whole → IsDerEncoding (canonical b) × AreDer rest
 AreDer-canonical_first b rest whole e small d =
@@ -131,7 +132,7 @@ IsDer-canonical b small f = (
   λ d. IsDerTree-canonical b small f
       (AreDer-canonical_first b [] (canonical b) (sym (append-nil (canonical b))) small (d.items, d.encodings)).0,
   λ t. record {
-    some = length-canonical_some b;
+    some = canonical-not_empty b;
     items = canonical b ∷ [];
     encodings = more_encodings (sym (append-nil (canonical b))) (IsDerEncoding-canonical b f t) no_encodings;
   },
@@ -149,4 +150,4 @@ IsDer-all_canonical bs some small f = (
     octets : (bs : Trees ℕ) → bs ≢ no_trees → 0 < length (all_canonical bs)
     octets no_trees some = absurd (some refl)
     octets (more_trees b bs) some =
-        omega (arith, length-canonical_some b, length-append (canonical b) (all_canonical bs))
+        omega (arith, canonical-not_empty b, length-append (canonical b) (all_canonical bs))

@@ -1,8 +1,8 @@
--- When what is written of a faithful leaf is DER.
+-- What is written of a faithful leaf is DER exactly if the leaf is one of DER, for `laws::law_written_is_der`.
 use Rattle.std.proofs.Common.{◌≡◌, ◌≢◌, ◌==◌, ℕ, zero, suc, ◌+◌, ◌-◌, ◌*◌, ◌%◌, ◌<◌, ◌≤◌, ◌^◌, Bool, true, false, not, List, [], ◌∷◌, ◌++◌, inl, inr, length, refl, sym, ap, ap₂, ◌∙◌, arith, length-append}
 use Rattle.std.specs.Prelude.{ℤ, encode_utf8_all, ◌&&◌, ◌||◌, nat_lt, if◌then◌else◌}
 use Rattle.std.specs.List.{flat_map}
-use Rattle.std.proofs.lemmas.Bool.{and_from, cases_Bool, cases_lt, eqb-true, false≢true}
+use Rattle.std.proofs.lemmas.Bool.{and_from, cases_Bool, cases_lt, eqb-true, false≢true, and_right}
 use Rattle.std.proofs.lemmas.Bool.Decides.{nat_tests}
 use Rattle.std.proofs.lemmas.Str.{is_utf8-from_IsUtf8}
 use Rattle.asn1_numbers.specs.TwosComplement.{shortest_octets}
@@ -17,11 +17,11 @@ use Rattle.asn1_blocks.specs.Tree.{Leaf, boolean, integer, bit_string, octet_str
 use Rattle.asn1_der.specs.Contents.{HasDerContents, HasDerTime, has_der_octets, are_subidentifiers, is_bit_string, is_integer}
 use Rattle.asn1_der.specs.Padding.{has_padded_component, is_padded_from, last_octet}
 use Rattle.asn1_laws.specs.DerTrees.{are_der_bits, are_der_components, is_der_leaf}
-use Rattle.asn1_leaves.proofs.Fractions.{get_or-last}
-use Rattle.asn1_laws.proofs.Leaves.{bit_string_contents-some, IsContinued-some}
+use Rattle.asn1_leaves.proofs.Fractions.{get_or-last_cons}
+use Rattle.asn1_laws.proofs.Leaves.{bit_string_contents-some, IsContinued-not_empty}
 use Rattle.asn1_laws.proofs.WrittenTimes.{IsGeneralizedTime-written}
 
--- an INTEGER
+-- octets, one or more, whose first nine bits are neither all 0 nor all 1 are an INTEGER of DER
 is_integer-unpadded :
     (octets : List ℕ) → 0 < length octets → ((c : ℕ) (more : List ℕ) → c < 128 → octets ≢ 0 ∷ c ∷ more)
     → ((c : ℕ) (more : List ℕ) → 128 ≤ c → octets ≢ 255 ∷ c ∷ more) → is_integer octets ≡ true
@@ -47,7 +47,7 @@ is_integer-shortest_octets n =
     is_integer-unpadded (shortest_octets n) (shortest_octets-not_empty n) (shortest_octets-not_zeros n)
     (shortest_octets-not_ones n)
 
--- a BIT STRING
+-- a BIT STRING has fewer than 8 unused bits exactly if its octets have fewer than 8 bits more than are used
 nat_lt-unused : (n size unused : ℕ) → n ≤ size → unused ≡ size - n → nat_lt unused 8 ≡ nat_lt size (n + 8)
 nat_lt-unused n size unused enough e = elim (cases_lt unused 8) [
   | inl low ↦ grind (arith, nat_tests, low, e, enough)
@@ -71,9 +71,8 @@ is_bit_string-bit_string_contents (suc n) v (inl f) = absurd (omega (arith, f.0)
 is_bit_string-bit_string_contents (suc n) v (inr (some, enough, few, fits)) =
     ap is_bit_string (bit_string_contents-some (suc n) v some) ∙ is_bit_string-some (suc n) v some enough
 
--- an OBJECT IDENTIFIER
--- subidentifiers behind others: the last is ended, and none begins with 80
-record AreEnded (octets : List ℕ) : Type 0 where
+-- subidentifiers behind others in an OBJECT IDENTIFIER: the last is ended, and none begins with an octet 80
+record FollowUnpadded (octets : List ℕ) : Type 0 where
   pub last : 0 < length octets → last_octet octets < 128
   pub unpadded : is_padded_from true octets ≡ false
 
@@ -88,7 +87,7 @@ and-not_leading true b front other = elim (cases_Bool (b == 128)) [
 
 is_padded_from-continued :
     (first rest : List ℕ) (begins : Bool) → IsContinued first → (begins ≡ true → (more : List ℕ) → first ≢ 128 ∷ more) →
-    AreEnded rest →
+    FollowUnpadded rest →
     (is_padded_from begins (first ++ rest) ≡ false) × (last_octet (first ++ rest) < 128)
 is_padded_from-continued [] rest begins p other e = absurd p
 is_padded_from-continued (b ∷ []) rest begins p other e =
@@ -101,20 +100,20 @@ is_padded_from-continued (b ∷ []) rest begins p other e =
     last_of : (b : ℕ) (rest : List ℕ) → b < 128 → (0 < length rest → last_octet rest < 128) →
         last_octet (b ∷ rest) < 128
     last_of b [] low h = low
-    last_of b (c ∷ rest) low h = omega (arith, get_or-last b c rest, h (omega arith))
+    last_of b (c ∷ rest) low h = omega (arith, get_or-last_cons b c rest, h (omega arith))
 is_padded_from-continued (b ∷ c ∷ first) rest begins (high, p) other e =
     let goes : nat_lt b 128 ≡ false = grind (arith, nat_tests, high) in
     let i = is_padded_from-continued (c ∷ first) rest false p (λ t. absurd (false≢true t)) e in (
       ap₂ (λ x y. x || is_padded_from y ((c ∷ first) ++ rest)) (and-not_leading begins b (c ∷ first) other) goes ∙ i.0,
-      omega (arith, get_or-last b c (first ++ rest), i.1),
+      omega (arith, get_or-last_cons b c (first ++ rest), i.1),
     )
 
-AreEnded-shortest : (ns : List ℕ) → AreEnded (flat_map shortest_base128 ns)
-AreEnded-shortest [] = record { last = λ some. absurd (omega (arith, some)); unpadded = refl }
-AreEnded-shortest (n ∷ ns) =
+FollowUnpadded-shortest : (ns : List ℕ) → FollowUnpadded (flat_map shortest_base128 ns)
+FollowUnpadded-shortest [] = record { last = λ some. absurd (omega (arith, some)); unpadded = refl }
+FollowUnpadded-shortest (n ∷ ns) =
     let i = is_padded_from-continued (shortest_base128 n) (flat_map shortest_base128 ns) true
     (IsBase128-shortest n).continued
-    (λ t. shortest_base128-not_80 n) (AreEnded-shortest ns) in
+    (λ t. shortest_base128-not_80 n) (FollowUnpadded-shortest ns) in
     record { last = λ some. i.1; unpadded = i.0 }
 
 -- behind an octet with bit 8 set, the shortest subidentifiers are not padded
@@ -122,7 +121,7 @@ is_padded_from-shortest : (n : ℕ) (ns : List ℕ) → is_padded_from false (fl
 is_padded_from-shortest n ns =
     (is_padded_from-continued (shortest_base128 n) (flat_map shortest_base128 ns) false
     (IsBase128-shortest n).continued
-    (λ t. absurd (false≢true t)) (AreEnded-shortest ns)).0
+    (λ t. absurd (false≢true t)) (FollowUnpadded-shortest ns)).0
 
 are_subidentifiers-ended : (octets : List ℕ) → 0 < length octets → last_octet octets < 128 →
     has_padded_component octets ≡ false →
@@ -133,42 +132,39 @@ are_subidentifiers-ended octets some low unpadded =
     and_from (nat_lt 0 (length octets) && nat_lt (last_octet octets) 128) (not (has_padded_component octets))
     (and_from (nat_lt 0 (length octets)) (nat_lt (last_octet octets) 128) a b) (ap not unpadded)
 
-and-false : (a b : Bool) → b ≡ false → (a && b) ≡ false
-and-false true b e = e
-and-false false b e = refl
-
 are_subidentifiers-padded : (octets : List ℕ) → has_padded_component octets ≡ true → are_subidentifiers octets ≡ false
 are_subidentifiers-padded octets e =
-    and-false (nat_lt 0 (length octets) && nat_lt (last_octet octets) 128) (not (has_padded_component octets))
+    and_right (nat_lt 0 (length octets) && nat_lt (last_octet octets) 128) (not (has_padded_component octets))
     (ap not e)
 
 are_subidentifiers-unended : (octets : List ℕ) → 128 ≤ last_octet octets → are_subidentifiers octets ≡ false
 are_subidentifiers-unended octets high =
     let b : nat_lt (last_octet octets) 128 ≡ false = grind (arith, nat_tests, high) in
     ap (λ z. z && not (has_padded_component octets))
-    (and-false (nat_lt 0 (length octets)) (nat_lt (last_octet octets) 128) b)
+    (and_right (nat_lt 0 (length octets)) (nat_lt (last_octet octets) 128) b)
 
 get_or-last-lt : (b : ℕ) (rest : List ℕ) → (0 < length rest → last_octet rest < 128) → (length rest ≡ 0 → b < 128) →
     last_octet (b ∷ rest) < 128
 get_or-last-lt b [] h low = low refl
-get_or-last-lt b (c ∷ rest) h low = omega (arith, get_or-last b c rest, h (omega arith))
+get_or-last-lt b (c ∷ rest) h low = omega (arith, get_or-last_cons b c rest, h (omega arith))
 
 length-shortest-positive : (n : ℕ) (ns : List ℕ) → 0 < length (flat_map shortest_base128 (n ∷ ns))
 length-shortest-positive n ns =
     omega (
       arith,
-      IsContinued-some (shortest_base128 n) (IsBase128-shortest n).continued,
+      IsContinued-not_empty (shortest_base128 n) (IsBase128-shortest n).continued,
       length-append (shortest_base128 n) (flat_map shortest_base128 ns),
     )
 
--- an octet in front, and the subidentifiers of other components
+-- an octet before the shortest subidentifiers is DER with them if it is below 128, or if it is above 128 and some
+-- follow
 are_subidentifiers-cons :
     (b : ℕ) (ns : List ℕ) →
     are_subidentifiers (b ∷ flat_map shortest_base128 ns) ≡ (nat_lt b 128 || (nat_lt 128 b && nat_lt 0 (length ns)))
 are_subidentifiers-cons b ns = elim (cases_lt b 128) [
   | inl low ↦ let is : nat_lt b 128 ≡ true = grind (arith, nat_tests, low) in
       let other : (b == 128) ≡ false = grind (arith, nat_tests, low) in
-      let rest = AreEnded-shortest ns in
+      let rest = FollowUnpadded-shortest ns in
       are_subidentifiers-ended (b ∷ flat_map shortest_base128 ns) (omega arith)
       (get_or-last-lt b (flat_map shortest_base128 ns) rest.last (λ none. low))
       (ap₂ (λ x y. x || is_padded_from y (flat_map shortest_base128 ns)) other is ∙ rest.unpadded)
@@ -194,7 +190,7 @@ are_subidentifiers-cons b ns = elim (cases_lt b 128) [
     by_more b [] above = are_subidentifiers-unended (b ∷ []) (omega (arith, above)) ∙ sym (right_is b above false)
     by_more b (n ∷ ns) above =
         let rest = flat_map shortest_base128 (n ∷ ns) in
-        let ended = AreEnded-shortest (n ∷ ns) in
+        let ended = FollowUnpadded-shortest (n ∷ ns) in
         let goes : nat_lt b 128 ≡ false = grind (arith, nat_tests, above) in
         let other : (b == 128) ≡ false = grind (arith, nat_tests, above) in
         let more : nat_lt 0 (length (n ∷ ns)) ≡ true = grind (arith, nat_tests) in
@@ -210,7 +206,7 @@ are_subidentifiers-object_identifier_contents [] f = absurd cc
 are_subidentifiers-object_identifier_contents (x ∷ []) f = absurd cc
 are_subidentifiers-object_identifier_contents (x ∷ y ∷ ns) f = are_subidentifiers-cons (40 * x + y) ns
 
--- contents octets that are written, by the leaf
+-- the octets that are written of a faithful leaf keep the rules for its type exactly if the leaf is one of DER
 has_der_octets-leaf_contents : (l : Leaf) → IsFaithfulLeaf l →
     has_der_octets (leaf_tag l) (leaf_contents l) ≡ is_der_leaf l
 has_der_octets-leaf_contents (boolean true) f = refl

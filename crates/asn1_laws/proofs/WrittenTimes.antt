@@ -1,4 +1,4 @@
--- What is written of a moment is DER.
+-- What is written of a moment as a GeneralizedTime is DER, for `laws::law_written_is_der`.
 use Rattle.std.proofs.Common.{◌≡◌, ◌==◌, ℕ, zero, suc, ◌+◌, ◌-◌, ◌*◌, ◌/◌, ◌%◌, ◌<◌, ◌≤◌, ◌^◌, Bool, true, false, not, List, [], ◌∷◌, ◌++◌, inl, inr, length, get_or, refl, sym, ap, ◌∙◌, subst, arith}
 use Rattle.std.specs.Prelude.{◌&&◌, ◌||◌, nat_lt}
 use Rattle.std.proofs.Math.Nat.{pow-succ'}
@@ -7,12 +7,13 @@ use Rattle.std.proofs.lemmas.Bool.Decides.{nat_tests}
 use Rattle.std.proofs.lemmas.Nat.{div-add-mod'}
 use Rattle.asn1_leaves.specs.Contents.GeneralizedTime.{fraction_digits, generalized_time_contents, tenth, to_second, written_fraction}
 use Rattle.asn1_leaves.specs.Contents.Moment.{Moment, IsValid}
-use Rattle.asn1_leaves.proofs.Leaves.Digits.{div-unit-le, fraction_digits-zero, fraction_digits-step}
+use Rattle.asn1_leaves.proofs.Leaves.Digits.{div-unit-le, fraction_digits-zero, fraction_digits-step, pow-positive}
 use Rattle.asn1_leaves.proofs.Leaves.GeneralizedTime.{GeneralizedTimeContents-written}
 use Rattle.asn1_der.specs.Contents.{IsGeneralizedTime, IsMoment}
 use Rattle.asn1_der.specs.Padding.{has_padded_fraction, last_octet}
-use Rattle.asn1_leaves.proofs.Fractions.{get_or-last, pow-positive}
-use Rattle.asn1_laws.proofs.Times.{get_or-to_second, get_or-before_last, written_fraction-some}
+use Rattle.asn1_leaves.proofs.Fractions.{get_or-last_cons, get_or-before_last}
+use Rattle.asn1_leaves.proofs.Leaves.GeneralizedTime.{written_fraction-some}
+use Rattle.asn1_laws.proofs.Times.{get_or-to_second}
 
 -- a digit above 0
 abbrev IsAboveZero : ℕ → Type 0
@@ -26,13 +27,13 @@ record EndsAboveZero (digits : List ℕ) : Type 0 where
 EndsAboveZero-cons : (d : ℕ) (digits : List ℕ) → EndsAboveZero digits → EndsAboveZero (d ∷ digits)
 EndsAboveZero-cons d [] e = absurd (omega (arith, e.some))
 EndsAboveZero-cons d (c ∷ digits) e =
-    record { some = omega arith; last = subst IsAboveZero (sym (get_or-last d c digits)) e.last }
+    record { some = omega arith; last = subst IsAboveZero (sym (get_or-last_cons d c digits)) e.last }
 
 quotient_positive : (n q r unit : ℕ) → 0 < n → q * unit + r ≡ n → r ≡ 0 → 0 < q
 quotient_positive n zero r unit some p z = absurd (omega (arith, p, z, some))
 quotient_positive n (suc q) r unit some p z = omega arith
 
--- one digit, where nothing is left
+-- a fraction above 0 whose first digit leaves nothing ends in that digit, which is above 0
 EndsAboveZero-last_digit :
     (k unit n : ℕ) → 0 < unit → 0 < n → n < 10 * unit → n % unit ≤ 0 → EndsAboveZero (fraction_digits (suc k) unit n)
 EndsAboveZero-last_digit k unit n positive some below none =
@@ -47,7 +48,7 @@ EndsAboveZero-last_digit k unit n positive some below none =
     subst EndsAboveZero (sym alone)
     (record { some = omega arith; last = (omega (arith, digit_some), omega (arith, few)) })
 
--- the digits of a number above 0 end so
+-- the digits of a fraction above 0 end in a digit above 0
 EndsAboveZero-fraction_digits : (k unit n : ℕ) → unit ≡ 10 ^ k → 0 < n → n < 10 * unit →
     EndsAboveZero (fraction_digits (suc k) unit n)
 EndsAboveZero-fraction_digits zero unit n e some below =
@@ -68,7 +69,7 @@ EndsAboveZero-fraction_digits (suc k) unit n e some below =
           (EndsAboveZero-fraction_digits k (unit / 10) (n % unit) lower more small))
     ]
 
--- a point, and an octet before the last that is neither 0 nor a point
+-- a fraction behind a point, with a last digit above 0, is not padded
 and-unpadded : (long : Bool) (a b : ℕ) → a ≡ 46 → IsAboveZero b →
     (long && (not (a == 46) || (b == 48) || (b == 46))) ≡ false
 and-unpadded true a b point above = grind (arith, nat_tests, point, above)

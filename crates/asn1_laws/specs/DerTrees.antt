@@ -52,7 +52,7 @@ IsDerAsItCame class constructed tag contents =
     IsRightAlone class constructed tag contents
     × (constructed ≡ true → (items : List (List ℕ)) × AreDerEncodings contents items)
 
--- the canonical octets of each
+-- the canonical octets of each tree
 abbrev pub each_canonical : {O : Type 0} → Trees O → List (List ℕ)
 each_canonical no_trees = []
 each_canonical (more_trees b bs) = canonical b ∷ each_canonical bs

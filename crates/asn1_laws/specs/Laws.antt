@@ -13,7 +13,7 @@ use Rattle.asn1_laws.specs.Spellings.{HasNoOtherSpelling}
 
 -- which DER is not read
 pub record DerIsRead : Type 0 where
-  -- what is DER and no document has a fault of DER
+  -- octets that are DER and no document have a fault that DER may have
   pub refused :
       (octets : List ℕ) (fault : DecodeFault) →
       FitInSlice octets → IsDer octets → FirstFault octets fault → IsFaultOfDer octets fault
@@ -28,11 +28,11 @@ pub record DerIsCanonical : Type 0 where
 
 -- where what is written is DER
 pub record WrittenIsDer : Type 0 where
-  -- what is written of a faithful tree
+  -- what is written of a faithful tree is DER exactly if the tree is one of DER
   pub one :
       (b : Tree ℕ) →
       FitInSlice (canonical b) → IsFaithful b → IsDer (canonical b) ↔ IsDerTree b
-  -- what is written of faithful trees, joined
+  -- what is written of faithful trees, joined, is DER exactly if the trees are trees of DER
   pub joined :
       (bs : Trees ℕ) →
       bs ≢ no_trees → FitInSlice (all_canonical bs) → AreFaithful bs →

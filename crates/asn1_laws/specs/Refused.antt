@@ -13,7 +13,8 @@ has_other_code ia5 = false
 has_other_code universal = true
 has_other_code bmp = true
 
--- the faults of octets that are DER: such a string is no UTF-8, or a BIT STRING has more bits than a usize counts
+-- the faults of octets that are DER: a string that has another code in DER is no UTF-8, or a BIT STRING has more bits
+-- than a usize counts
 pub data IsFaultOfDer (octets : List ℕ) (fault : DecodeFault) : Type 0 where
   of_string : (kind : StringKind) (contents : List ℕ) → has_other_code kind ≡ true
       → TextFault (text_form kind) contents fault → IsFaultOfDer octets fault

@@ -29,7 +29,7 @@ is_written_otherwise tag contents =
     else if tag == GENERALIZED_TIME then has_many_digits contents
     else false
 
--- no leaf of the document, at any depth, has such contents octets
+-- no leaf of the document, at any depth, has contents octets that are written otherwise
 abbrev pub HasNoOtherSpelling : List ℕ → Trees ℕ → Type 0
 HasNoOtherSpelling document bs =
     (o : ℕ) (l : Leaf) (octets contents : List ℕ) (header : ℕ) → HasOctets document bs (leaf o l) octets

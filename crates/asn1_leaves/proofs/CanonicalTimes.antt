@@ -1,26 +1,13 @@
--- Contents octets of a GeneralizedTime that are written as they are: for generalized_time::are_canonical.
+-- Contents octets of a GeneralizedTime that are written as they are, for `contents::generalized_time::are_canonical`.
 use Rattle.std.proofs.Common.{◌≡◌, ◌≢◌, ℕ, ◌+◌, ◌-◌, ◌<◌, ◌≤◌, ◌⊎◌, true, List, [], ◌∷◌, ◌++◌, inl, inr, length, get_or, refl, sym, ap, ◌∙◌, arith, length-append}
 use Rattle.std.specs.Char.{is_ascii_digit}
 use Rattle.std.specs.List.{list_all}
 use Rattle.std.proofs.lemmas.Bool.{and_parts}
-use Rattle.std.proofs.lemmas.List.{get_or-append-add, get_or_append_left}
+use Rattle.std.proofs.lemmas.List.{get_or-append-add}
 use Rattle.asn1_leaves.specs.Contents.GeneralizedTime.{GeneralizedTimeContents, fraction_number, generalized_time_contents, tenth, to_second, written_fraction}
 use Rattle.asn1_leaves.specs.Contents.Moment.{Moment}
-use Rattle.asn1_leaves.proofs.Fractions.{is_ascii_digit-range, IsFraction-digits}
+use Rattle.asn1_leaves.proofs.Fractions.{is_ascii_digit-range, IsFraction-digits, get_or-before_last}
 use Rattle.asn1_leaves.proofs.Leaves.GeneralizedTime.{written_fraction-some}
-
--- the octet before the last
-before_last : (front digits : List ℕ) (z : ℕ) → 0 < length digits →
-    get_or (front ++ (digits ++ z ∷ [])) (length (front ++ (digits ++ z ∷ [])) - 2) 0
-    ≡ get_or digits (length digits - 1) 0
-before_last front digits z some =
-    let size = length-append front (digits ++ z ∷ []) in
-    let more = length-append digits (z ∷ []) in
-    let place : length (front ++ (digits ++ z ∷ [])) - 2 ≡ length front + (length digits - 1) =
-    omega (arith, size, more, some) in
-    ap (λ i. get_or (front ++ (digits ++ z ∷ [])) i 0) place
-    ∙ (get_or-append-add front (digits ++ z ∷ []) (length digits - 1) 0
-    ∙ get_or_append_left digits (z ∷ []) 0 (length digits - 1) (omega (arith, some)))
 
 module _ (m : Moment) where
   whole_size : (end : List ℕ) → length (to_second m ++ end) ≡ 14 + length end
@@ -29,7 +16,7 @@ module _ (m : Moment) where
   at_point : (d : ℕ) (end : List ℕ) → get_or (to_second m ++ d ∷ end) 14 0 ≡ d
   at_point d end = get_or-append-add (to_second m) (d ∷ end) 0 0
 
-  -- what is written behind the seconds
+  -- the fraction and Z behind the seconds are those that are written
   end_written : (digits end : List ℕ) → list_all is_ascii_digit digits ≡ true →
       m.nanosecond ≡ fraction_number tenth digits
       → (end ≡ digits ++ 90 ∷ []) ⊎ (end ≡ 46 ∷ (digits ++ 90 ∷ [])) → 2 < length end → length end ≤ 11
@@ -47,7 +34,7 @@ module _ (m : Moment) where
       let same : (to_second m ++ 46 ∷ []) ++ (digits ++ 90 ∷ []) ≡ to_second m ++ (46 ∷ (digits ++ 90 ∷ [])) = refl in
       let above : get_or digits (length digits - 1) 0 ≢ 48 =
       λ ends. last (ap (λ z. get_or (to_second m ++ z) (length (to_second m ++ z) - 2) 0) e
-      ∙ (before_last (to_second m ++ 46 ∷ []) digits 90 (omega arith) ∙ ends)) in
+      ∙ (get_or-before_last (to_second m ++ 46 ∷ []) digits 90 (omega arith) ∙ ends)) in
       let size : length digits ≤ 9 = omega (arith, few, ap length e, length-append digits (90 ∷ [])) in
       let f = IsFraction-digits 8 tenth digits refl all (omega arith) size above in
       let written : written_fraction m.nanosecond ≡ 46 ∷ digits =
@@ -56,11 +43,11 @@ module _ (m : Moment) where
       e ∙ sym (ap (λ z. z ++ 90 ∷ []) written)
 
 -- a fraction of nine digits at most, which a point begins and no 0 ends, is written as it is
-pub fraction_is_written :
+pub GeneralizedTimeContents-with_fraction :
     (m : Moment) (contents : List ℕ) → GeneralizedTimeContents m contents → 16 < length contents →
     length contents ≤ 25 →
     get_or contents 14 0 ≡ 46 → get_or contents (length contents - 2) 0 ≢ 48 → contents ≡ generalized_time_contents m
-fraction_is_written m contents p some few point last =
+GeneralizedTimeContents-with_fraction m contents p some few point last =
     let size : length contents ≡ 14 + length p.end = ap length p.octets ∙ whole_size m p.end in
     let end = end_written m p.digits p.end p.is_end.0 p.nanosecond p.is_end.1 (omega (arith, some, size))
     (omega (arith, few, size))

@@ -1,4 +1,5 @@
--- Characters of one octet.
+-- Characters of one octet, and the fault of octets that are no UTF-8, for `contents::text`,
+-- `contents::generalized_time::fault` and `simple_asn1_c`.
 use Rattle.std.proofs.Common.{◌≡◌, ◌↔◌, ℕ, ◌+◌, ◌<◌, ◌≤◌, ◌==◌, ◌||◌, true, List, [], ◌∷◌, Option, Some, None, length, get_or, drop, inl, inr, refl, sym, ap, ◌∙◌, arith}
 use Rattle.std.specs.Prelude.{nat_lt, nat_le, All, IsAscii, IsUtf8, codes, encode_utf8_all, if◌then◌else◌}
 use Rattle.std.specs.Char.{is_ascii_alphanumeric}
@@ -65,7 +66,7 @@ IsAscii-printable (c ∷ cs) e =
 pub octet_write_fault-large : (c : ℕ) (cs : List ℕ) → 256 ≤ c → octet_write_fault (c ∷ cs) ≡ Some CharacterTooLarge
 octet_write_fault-large c cs h = grind (arith, nat_tests, h)
 
--- one that has an octet leaves the fault to those after it
+-- a character below 256 leaves the fault to the characters after it
 pub octet_write_fault-octet : (c : ℕ) (cs : List ℕ) → c < 256 → octet_write_fault (c ∷ cs) ≡ octet_write_fault cs
 octet_write_fault-octet c cs h = grind (arith, nat_tests, h)
 
@@ -76,7 +77,7 @@ octet_write_fault-none_parts c cs e = elim (cases_lt c 256) [
   | inr ge ↦ let f : None ≡ Some CharacterTooLarge = sym e ∙ octet_write_fault-large c cs ge in cc
 ]
 
--- the character at a place, and those after it
+-- the fault of characters from a place on is that of the character there and of those after it
 pub octet_write_fault-drop : (cs : List ℕ) (n c : ℕ) → (n < length cs) × (c ≡ get_or cs n c)
     → octet_write_fault (drop n cs) ≡ octet_write_fault (c ∷ drop (n + 1) cs)
 octet_write_fault-drop cs n c h = at_drop_more octet_write_fault cs n c h.0
@@ -94,12 +95,12 @@ list_all-octets (c ∷ cs) all =
 pub octet_write_fault-octets : (cs : List ℕ) → All (λ b. b < 256) cs → octet_write_fault cs ≡ None
 octet_write_fault-octets cs all = let e = list_all-octets cs all in rw e refl
 
--- all of ASCII can be
+-- all characters of ASCII can be written
 pub octet_write_fault-ascii : (cs : List ℕ) → IsAscii cs → octet_write_fault cs ≡ None
 octet_write_fault-ascii cs a =
     octet_write_fault-octets cs (All-weaker (λ b. b < 128) (λ b. b < 256) (λ b h. omega arith) cs (All-from_ascii cs a))
 
--- where there is no fault, all fit
+-- where characters have no fault, all of them fit an octet
 pub list_all-writable : (cs : List ℕ) → octet_write_fault cs ≡ None → list_all (λ c. nat_lt c 256) cs ≡ true
 list_all-writable cs e = elim (cases_Bool (list_all (λ c. nat_lt c 256) cs)) [
   | inl fit ↦ fit

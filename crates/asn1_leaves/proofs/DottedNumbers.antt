@@ -1,4 +1,4 @@
--- Numbers in decimal with points between them: joined, and cut at the points.
+-- Numbers in decimal with points between them: joined, and cut at the points, for `oid` and `simple_asn1_c`.
 use Rattle.std.proofs.Common.{◌≡◌, ℕ, zero, suc, ◌<◌, ◌≤◌, List, [], ◌∷◌, ◌++◌, length, get_or, All, refl, sym, ap, ◌∙◌}
 use Rattle.std.proofs.Common.{arith, map, false, append-nil, append_assoc, drop}
 use Rattle.std.specs.Prelude.{◌==◌, decimal}
@@ -18,17 +18,17 @@ use Rattle.asn1_leaves.specs.DottedDecimal.{IsDottedDecimal, dotted_decimal}
 use Rattle.asn1_leaves.specs.Inner.IdentifierForms.{numbers_after, pointed}
 use Rattle.asn1_leaves.proofs.PushedNumbers.{numbers_after-drop}
 
--- one more
+-- pointed numerals with one more at the end are those of the numbers with one more at the end
 pub append-flat_map-pointed : (ns : List ℕ) (n : ℕ) → flat_map pointed ns ++ pointed n ≡ flat_map pointed (ns ++ n ∷ [])
 append-flat_map-pointed ns n = sym
     (flat_map-append pointed ns (n ∷ []) ∙ ap (λ l. flat_map pointed ns ++ l) (append-nil (pointed n)))
 
--- the first has no point before it
+-- the first of numbers in decimal has no point before it
 pub dotted_decimal-cons : (n : ℕ) (ns : List ℕ) → dotted_decimal (n ∷ ns) ≡ natural_numeral n ++ flat_map pointed ns
 dotted_decimal-cons n [] = sym (append-nil (natural_numeral n))
 dotted_decimal-cons n (m ∷ ns) = ap (λ l. natural_numeral n ++ 46 ∷ l) (dotted_decimal-cons m ns)
 
--- the first two, as the machine writes them
+-- numbers in decimal begin with the first two as the machine writes them
 pub append-decimal-dotted : (x y : ℕ) (ns : List ℕ) → x < 256 → y < 256
     → (decimal x ++ 46 ∷ decimal y) ++ flat_map pointed ns ≡ dotted_decimal (x ∷ y ∷ ns)
 append-decimal-dotted x y ns low_x low_y =
@@ -45,7 +45,7 @@ All-natural_numeral-no_point n =
     (λ k h. ne_eqb (get_or (natural_numeral n) k 0) 46
     (λ e. omega (arith, AreDigits-natural_numeral n (natural_numeral n) refl k h, e)))
 
--- cut at the points
+-- numbers in decimal that are cut at the points are their numerals
 slice_split-dotted_decimal : (n : ℕ) (ns : List ℕ) →
     slice_split (λ b. b == 46) (dotted_decimal (n ∷ ns)) ≡ map natural_numeral (n ∷ ns)
 slice_split-dotted_decimal n [] = slice_split_none (λ b. b == 46) (natural_numeral n) (All-natural_numeral-no_point n)
@@ -77,7 +77,7 @@ map-natural_numeral-injective (m ∷ ms) (n ∷ ns) e =
     let rest = map-natural_numeral-injective ms ns (ap rest_of e) in
     (λ i. first i ∷ rest i)
 
--- each of the parts is a numeral
+-- each item of a list of numerals is a numeral
 pub part_is_numeral : (ns : List ℕ) (k : ℕ) (part : List ℕ) → k < length (map natural_numeral ns)
     → part ≡ get_or (map natural_numeral ns) k part
     → (n : ℕ) × (part ≡ natural_numeral n)
@@ -110,7 +110,7 @@ AreWritten-more took f g h octets i j n forward inside p (within, (done, all, be
       ),
     )
 
--- one list after another
+-- what is written in two parts, one after the other, is the text that they make up
 pub HasWritten-append : {W : Type 0} (took : W → List ℕ → W → Type 0) (f g h : Formatter W) (text first rest : List ℕ)
     → first ++ rest ≡ text → HasWritten took f first g → (IsPlainFormatter g → HasWritten took g rest h)
     → HasWritten took f text h

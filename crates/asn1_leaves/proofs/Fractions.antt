@@ -1,5 +1,5 @@
--- Fractions of a second that do not end in 0: for `generalized_time::are_canonical`, and for the laws of DER.
-use Rattle.std.proofs.Common.{◌≡◌, ◌≢◌, ℕ, zero, suc, ◌+◌, ◌-◌, ◌*◌, ◌/◌, ◌%◌, ◌<◌, ◌≤◌, ◌^◌, true, List, [], ◌∷◌, ◌⊎◌, inl, inr, length, get_or, refl, sym, ap, ap₂, ◌∙◌, arith, mul-le-mul_right, sub-one}
+-- Fractions of a second that do not end in 0, for `contents::generalized_time::are_canonical` and `asn1_laws`.
+use Rattle.std.proofs.Common.{◌≡◌, ◌≢◌, ℕ, zero, suc, ◌+◌, ◌-◌, ◌*◌, ◌/◌, ◌%◌, ◌<◌, ◌≤◌, ◌^◌, true, List, [], ◌∷◌, ◌⊎◌, inl, inr, length, get_or, refl, sym, ap, ap₂, ◌∙◌, arith, mul-le-mul_right, sub-one, ◌++◌, length-append}
 use Rattle.std.specs.Char.{is_ascii_digit}
 use Rattle.std.specs.List.{list_all}
 use Rattle.std.proofs.Math.Nat.{pow-succ'}
@@ -7,19 +7,29 @@ use Rattle.std.proofs.lemmas.Bool.{and_parts}
 use Rattle.std.proofs.lemmas.Bool.Decides.{nat_tests}
 use Rattle.std.proofs.lemmas.Nat.{div-mul-add, mod-mul-add}
 use Rattle.asn1_leaves.specs.Contents.GeneralizedTime.{fraction_digits, fraction_number}
-use Rattle.asn1_leaves.proofs.Leaves.Digits.{fraction_digits-zero, fraction_digits-step}
+use Rattle.asn1_leaves.proofs.Leaves.Digits.{fraction_digits-zero, fraction_digits-step, pow-positive}
+use Rattle.std.proofs.lemmas.List.{get_or-append-add, get_or_append_left}
 
 pub is_ascii_digit-range : (d : ℕ) → is_ascii_digit d ≡ true → (48 ≤ d) × (d ≤ 57)
 is_ascii_digit-range d t = (grind (arith, nat_tests, t), grind (arith, nat_tests, t))
 
 -- the last of octets is that of all but the first
-pub get_or-last : (b c : ℕ) (octets : List ℕ) →
+pub get_or-last_cons : (b c : ℕ) (octets : List ℕ) →
     get_or (b ∷ c ∷ octets) (length (b ∷ c ∷ octets) - 1) 0 ≡ get_or (c ∷ octets) (length (c ∷ octets) - 1) 0
-get_or-last b c octets = simp sub-one
+get_or-last_cons b c octets = simp sub-one
 
-pub pow-positive : (k : ℕ) → 0 < 10 ^ k
-pow-positive zero = omega arith
-pow-positive (suc k) = omega (arith, pow-positive k, pow-succ' 10 k)
+-- where digits stand before the last octet, the octet before it is the last digit
+pub get_or-before_last : (front digits : List ℕ) (z : ℕ) → 0 < length digits →
+    get_or (front ++ (digits ++ z ∷ [])) (length (front ++ (digits ++ z ∷ [])) - 2) 0
+    ≡ get_or digits (length digits - 1) 0
+get_or-before_last front digits z some =
+    let size = length-append front (digits ++ z ∷ []) in
+    let more = length-append digits (z ∷ []) in
+    let place : length (front ++ (digits ++ z ∷ [])) - 2 ≡ length front + (length digits - 1) =
+    omega (arith, size, more, some) in
+    ap (λ i. get_or (front ++ (digits ++ z ∷ [])) i 0) place
+    ∙ (get_or-append-add front (digits ++ z ∷ []) (length digits - 1) 0
+    ∙ get_or_append_left digits (z ∷ []) 0 (length digits - 1) (omega (arith, some)))
 
 -- digits that mean a number, which has these digits
 pub record IsFraction (k unit : ℕ) (digits : List ℕ) : Type 0 where
@@ -27,7 +37,7 @@ pub record IsFraction (k unit : ℕ) (digits : List ℕ) : Type 0 where
   pub below : fraction_number unit digits < 10 * unit
   pub again : fraction_digits (suc k) unit (fraction_number unit digits) ≡ digits
 
--- a digit above 0 or not, and what is behind it
+-- the digits of a number are that of its quotient by the unit, and those of what is left over
 fraction_digits-quotient :
     (k unit q m n d : ℕ) (ds : List ℕ) → 0 < unit → n ≡ q * unit + m → m < unit → 0 < n → d ≡ 48 + q →
     fraction_digits k (unit / 10) m ≡ ds → fraction_digits (suc k) unit n ≡ d ∷ ds
@@ -50,7 +60,7 @@ mul-add-positive q m unit n positive (inl some) e =
     omega (arith, bound, e, positive)
 mul-add-positive q m unit n positive (inr some) e = omega (arith, e, some)
 
--- digits that do not end in 0, as many as there are places or fewer
+-- digits that do not end in 0, at most as many as there are places, are those of the number that they mean
 pub IsFraction-digits :
     (k unit : ℕ) (digits : List ℕ) → unit ≡ 10 ^ k → list_all is_ascii_digit digits ≡ true → 0 < length digits →
     length digits ≤ suc k →
@@ -78,7 +88,7 @@ IsFraction-digits (suc k) unit (d ∷ c ∷ ds) e all some few last =
     let tenth : unit / 10 ≡ 10 ^ k = omega (arith, ten) in
     let positive : 0 < unit = omega (arith, ten, pow-positive k) in
     let i = IsFraction-digits k (unit / 10) (c ∷ ds) tenth parts.1 (omega arith) (omega (arith, few))
-    (λ ends. last (get_or-last d c ds ∙ ends)) in
+    (λ ends. last (get_or-last_cons d c ds ∙ ends)) in
     let m = fraction_number (unit / 10) (c ∷ ds) in
     let n = fraction_number unit (d ∷ c ∷ ds) in
     let is : n ≡ (d - 48) * unit + m = refl in

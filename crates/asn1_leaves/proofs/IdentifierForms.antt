@@ -1,4 +1,4 @@
--- The components that are found in contents octets are those that they mean.
+-- The components that are found in contents octets are those that they mean, for `oid` and `simple_asn1_c`.
 use Rattle.std.proofs.Common.{◌≡◌, ℕ, ◌+◌, ◌*◌, ◌%◌, inl, inr, List, [], ◌∷◌, ◌++◌, map, refl, sym, ap, ◌∙◌, subst, arith, ◌≤◌, None, length, Bool, false, ◌==◌}
 use Rattle.std.specs.Int.Digits.{number_from_digits_after}
 use Rattle.std.specs.Cmp.Lexicographic.{pointwise}
@@ -10,7 +10,7 @@ use Rattle.asn1_leaves.specs.Contents.ObjectIdentifier.{AreFirstTwo, ObjectIdent
 use Rattle.asn1_leaves.specs.Inner.IdentifierForms.{HaveShortContents, IsShortForm, components_of, first_component, numbers_after, second_component}
 use Rattle.asn1_leaves.proofs.Leaves.ObjectIdentifier.{ObjectIdentifierContents-written, object_identifier_write_fault-read}
 
--- the number of the first subidentifier, before those of the others
+-- the numbers of subidentifiers are that of the first one, and then those of the others
 pub numbers_after-append : (n : ℕ) (first rest : List ℕ) → IsContinued first
     → numbers_after n (first ++ rest) ≡ number_from_digits_after 128 n (map (λ b. b % 128) first) ∷ numbers_after 0 rest
 numbers_after-append n [] rest p = absurd p
@@ -67,7 +67,7 @@ IsShortForm-contents ns contents all p e short =
       e ∙ ap object_identifier_contents (sym found),
     )
 
--- the form of components means these components
+-- contents octets that are a short form mean their components
 pub IsShortForm-meant : (contents : List ℕ) → IsShortForm contents →
     ObjectIdentifierContents (components_of contents) contents
 IsShortForm-meant contents (fits, e) =
@@ -86,7 +86,7 @@ pointwise-short_forms x y ms ns r p q e f equal =
     (slice_eq-Decides Decides-eqb x y r equal))
     (slice_eq-Decides Decides-eqb ms ns (pointwise (λ m n. m == n) ms ns) refl)
 
--- components of which one list has a short form, and the other none
+-- components that have a short form are not the same as components that have none
 pub pointwise-other_forms : (ms ns : List ℕ) → HaveShortContents ms → (HaveShortContents ns → ⊥)
     → (false ≡ pointwise (λ m n. m == n) ms ns) × (false ≡ pointwise (λ m n. m == n) ns ms)
 pointwise-other_forms ms ns short none = (

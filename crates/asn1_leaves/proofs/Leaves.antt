@@ -1,4 +1,4 @@
--- Leaves.
+-- The modules of what is known of each kind of leaf, for `contents` and `asn1_blocks`.
 pub mod Boolean
 pub mod Integer
 pub mod BitString

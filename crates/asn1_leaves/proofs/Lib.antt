@@ -2,7 +2,6 @@ pub mod Leaves
 pub mod Characters
 pub mod Subidentifiers
 pub mod ShortSubidentifiers
-pub mod SliceSplit
 pub mod IdentifierForms
 pub mod PushedNumbers
 pub mod DottedNumbers

@@ -1,4 +1,5 @@
--- Numbers of subidentifiers as values of a type, one after another.
+-- Numbers of subidentifiers as values of a type, one after another, for `oid::numbers_of_short`, `oid::push_numbers`
+-- and `oid::push_number`.
 use Rattle.std.proofs.Common.{◌≡◌, ℕ, ◌≤◌, inl, inr, List, [], ◌∷◌, ◌++◌, length, drop, sym, ap, ◌∙◌, subst, append_assoc}
 use Rattle.std.specs.List.{slice_range}
 use Rattle.asn1_numbers.specs.Base128.{IsBase128}
@@ -6,10 +7,10 @@ use Rattle.asn1_numbers.specs.FittingNumbers.{AreNumbers, HasNotAll}
 use Rattle.asn1_leaves.specs.Contents.ObjectIdentifier.{ObjectIdentifierContents, Subidentifiers}
 use Rattle.asn1_leaves.specs.Inner.IdentifierForms.{numbers_after}
 use Rattle.asn1_leaves.proofs.IdentifierForms.{numbers_after-append}
-use Rattle.asn1_leaves.proofs.SliceSplit.{drop-slice_range}
 use Rattle.asn1_leaves.proofs.Subidentifiers.{Subidentifiers-none_after}
+use Rattle.std.proofs.lemmas.List.Folds.{drop_split}
 
--- one more at the end
+-- values with one more at the end are the numbers with one more at the end
 pub AreNumbers-push : {T : Type 0} (has : ℕ → Type 0) (is_number : T → ℕ → Type 0) (xs : List T) (x : T) (ns : List ℕ)
     (n : ℕ)
     → AreNumbers has is_number xs ns → has n → is_number x n → AreNumbers has is_number (xs ++ x ∷ []) (ns ++ n ∷ [])
@@ -18,21 +19,21 @@ AreNumbers-push has is_number [] x (m ∷ ns) n p h i = absurd p
 AreNumbers-push has is_number (y ∷ xs) x [] n p h i = absurd p
 AreNumbers-push has is_number (y ∷ xs) x (m ∷ ns) n p h i = (p.0, p.1, AreNumbers-push has is_number xs x ns n p.2 h i)
 
--- one in their midst that the type does not have
+-- where a type does not have one of some numbers, it does not have all of them
 pub HasNotAll-among : (has : ℕ → Type 0) (done more : List ℕ) (n : ℕ) → (has n → ⊥) → HasNotAll has (done ++ n ∷ more)
 HasNotAll-among has [] more n h = inl h
 HasNotAll-among has (m ∷ done) more n h = inr (HasNotAll-among has done more n h)
 
--- the next number, and those after it
+-- the numbers of subidentifiers from an index on are the next one, and those after it
 pub numbers_after-drop : (octets : List ℕ) (i j n : ℕ) → i ≤ j → IsBase128 (slice_range octets i j) n
     → numbers_after 0 (drop i octets) ≡ n ∷ numbers_after 0 (drop j octets)
 numbers_after-drop octets i j n forward p =
     let found = numbers_after-append 0 (slice_range octets i j) (drop j octets) p.continued in
     let value = p.value in
-    ap (numbers_after 0) (drop-slice_range octets i j forward) ∙ cc
+    ap (numbers_after 0) (drop_split octets i j forward) ∙ cc
 
--- the numbers before the index are at the end, and those after it are all others; what refuses the
--- octets after it refuses all
+-- the numbers before the index were pushed, and with those after it are all numbers of the octets; where the octets
+-- after the index are no subidentifiers, neither are all octets
 abbrev pub ArePushed : {T : Type 0} → (ℕ → Type 0) → (T → ℕ → Type 0) → List T → List T → List ℕ → ℕ → Type 0
 ArePushed has is_number before now octets i =
     (i ≤ length octets)
@@ -54,7 +55,7 @@ ArePushed-more has is_number before now new octets i j n forward inside p (withi
         λ ns a. subst (AreNumbers has is_number new) (append_assoc ns done (n ∷ [])) (push (ns ++ done) (pushed ns a)),
       ),
       λ h. none (Subidentifiers-none_after (slice_range octets i j) (drop j octets) n p h (drop i octets)
-          (drop-slice_range octets i j forward)),
+          (drop_split octets i j forward)),
     )
 
 -- octets after the first that mean components are subidentifiers

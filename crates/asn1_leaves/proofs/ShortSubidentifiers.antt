@@ -1,4 +1,5 @@
--- Subidentifiers none of which begins with 80 (hexadecimal) have their shortest forms.
+-- Subidentifiers none of which begins with 80 (hexadecimal) have their shortest forms, for
+-- `contents::object_identifier`, `asn1_laws` and `simple_asn1`.
 use Rattle.std.proofs.Common.{◌≡◌, ◌≢◌, ℕ, suc, ◌-◌, ◌<◌, Bool, true, List, [], ◌∷◌, ◌++◌, get_or, length, refl, sym, ap, ◌∙◌, subst, arith, nat_lt, IsTrue, ◌+◌, ◌*◌, ◌≤◌, ◌⊎◌, inl, inr}
 use Rattle.std.specs.List.{flat_map}
 use Rattle.std.proofs.lemmas.Bool.{cases_lt}
@@ -9,7 +10,7 @@ use Rattle.asn1_numbers.specs.Base128.{IsContinued, low_bits_number, shortest_ba
 use Rattle.asn1_leaves.specs.Contents.ObjectIdentifier.{ObjectIdentifierContents, Subidentifiers, object_identifier_contents}
 use Rattle.asn1_headers.proofs.Shortest.{shortest_base128-without_80}
 use Rattle.asn1_leaves.proofs.Leaves.ObjectIdentifier.{AreFirstTwo-some}
-use Rattle.asn1_leaves.proofs.Subidentifiers.{IsContinued-cons}
+use Rattle.asn1_headers.proofs.Fronts.{IsContinued-cons}
 
 -- no subidentifier begins with 80, where the first octet begins one, or goes on with one; and the
 -- last one ends
@@ -51,7 +52,7 @@ NoneLeads-shortest (n ∷ ns) octets all h (first, rest, e, p, s) =
     let others = NoneLeads-shortest ns rest back (NoneLeads-after_first first rest true p.continued none) s in
     e ∙ (ap (λ z. z ++ rest) here ∙ ap (λ z. shortest_base128 n ++ z) others)
 
--- octets that mean components are those that are written of them
+-- octets that mean components, and in which no subidentifier begins with 80, are those that are written of them
 pub NoneLeads-object_identifier_contents :
     (ns : List ℕ) (b : ℕ) (octets : List ℕ) → AreOctets (b ∷ octets) → NoneLeads true octets →
     ObjectIdentifierContents ns (b ∷ octets) → b ∷ octets ≡ object_identifier_contents ns
@@ -103,7 +104,7 @@ NoneLeads-components b octets h =
     let s = NoneLeads-subidentifiers octets true h in
     (f.0 ∷ f.1 ∷ s.0, (b, octets, refl, f.2, s.1))
 
--- octets none of which is 80, of which the last ends a subidentifier
+-- where no octet is 80, and the last one ends a subidentifier, no subidentifier begins with 80
 pub NoneLeads-without_80 :
     (begins : Bool) (octets : List ℕ) → ((k : ℕ) → k < length octets → get_or octets k 0 ≢ 128) →
     (length octets ≡ 0 → IsTrue begins) → (0 < length octets → get_or octets (length octets - 1) 0 < 128) →

@@ -1,5 +1,5 @@
--- Subidentifiers, one after another.
-use Rattle.std.proofs.Common.{◌≡◌, ℕ, ◌-◌, ◌<◌, ◌≤◌, inl, inr, List, [], ◌∷◌, ◌++◌, length, get_or, take, refl, sym, ap, ◌∙◌, subst, arith, length-append, append_assoc, append-nil, sub-one}
+-- Subidentifiers, one after another, for `contents::object_identifier` and `oid::push_numbers`.
+use Rattle.std.proofs.Common.{◌≡◌, ℕ, ◌-◌, ◌<◌, ◌≤◌, inl, inr, List, [], ◌∷◌, ◌++◌, length, get_or, take, refl, sym, ap, ◌∙◌, subst, arith, length-append, append_assoc, append-nil}
 use Rattle.std.specs.List.{flat_map}
 use Rattle.std.proofs.lemmas.Bool.{cases_lt}
 use Rattle.std.proofs.lemmas.List.{take_at}
@@ -9,8 +9,10 @@ use Rattle.asn1_headers.specs.Fault.{DecodeFault, incomplete}
 use Rattle.asn1_headers.specs.Header.{BeginsWithNo, IsIncomplete}
 use Rattle.asn1_headers.proofs.Prefixes.{IsContinued-unique}
 use Rattle.asn1_headers.proofs.Shortest.{IsBase128-shortest}
+use Rattle.asn1_leaves.proofs.Fractions.{get_or-last_cons}
+use Rattle.asn1_headers.proofs.Fronts.{IsContinued-cons}
 
--- one more at the end
+-- subidentifiers with one more at the end are subidentifiers
 pub Subidentifiers-push : (ns octets last : List ℕ) (n : ℕ) → Subidentifiers ns octets → IsBase128 last n
     → Subidentifiers (ns ++ n ∷ []) (octets ++ last)
 Subidentifiers-push [] octets last n s t = (last, [], ap (λ z. z ++ last) s ∙ sym (append-nil last), t, refl)
@@ -22,7 +24,7 @@ Subidentifiers-push (m ∷ ms) octets last n (first, rest, whole, number, others
   Subidentifiers-push ms rest last n others t,
 )
 
--- where octets after the first subidentifier are none, neither are all of them
+-- where the octets behind the first subidentifier are no subidentifiers, neither are all octets
 pub Subidentifiers-none_after : (first rest : List ℕ) (n : ℕ) → IsBase128 first n
     → ((ns : List ℕ) → Subidentifiers ns rest → ⊥) → (octets : List ℕ) → octets ≡ first ++ rest → (ns : List ℕ)
     → Subidentifiers ns octets → ⊥
@@ -41,13 +43,13 @@ Subidentifiers-none_first octets some missing (m ∷ ms) (first, rest, whole, nu
     missing m size
     (subst (λ z. IsBase128 z m) (sym (ap (λ z. take size z) whole ∙ take_at first rest size refl)) number)
 
--- a fault of the first is one of all
+-- octets that begin with no base-128 number are no subidentifiers, but incomplete
 pub Subidentifiers-incomplete : (octets : List ℕ) (e : DecodeFault) → 0 < length octets →
     IsIncomplete IsBase128 octets e
     → (e ≡ incomplete) × ((ns : List ℕ) → Subidentifiers ns octets → ⊥)
 Subidentifiers-incomplete octets e some p = (p.0, Subidentifiers-none_first octets some p.1)
 
--- a number has an octet
+-- continued octets are one or more
 IsContinued-not_empty : (first : List ℕ) → IsContinued first → length first ≤ 0 → ⊥
 IsContinued-not_empty [] p h = p
 IsContinued-not_empty (b ∷ first) p h = omega (arith, h)
@@ -68,11 +70,6 @@ Subidentifiers-unique (m ∷ ms) (n ∷ ns) octets (first, rest, whole, number, 
     let r : ms ≡ ns = Subidentifiers-unique ms ns rest others (subst (Subidentifiers ns) (sym p.1) others') in
     cc
 
--- an octet whose bit 8 is set, before others that begin with a number, is a part of it
-pub IsContinued-cons : (b : ℕ) (first : List ℕ) → 128 ≤ b → IsContinued first → IsContinued (b ∷ first)
-IsContinued-cons b [] high p = absurd p
-IsContinued-cons b (c ∷ first) high p = (high, p)
-
 IsContinued-tail : (b : ℕ) (first : List ℕ) → 128 ≤ b → IsContinued (b ∷ first) → IsContinued first
 IsContinued-tail b [] high p = absurd (omega (arith, high, p))
 IsContinued-tail b (c ∷ first) high p = p.1
@@ -85,7 +82,7 @@ IsContinued-unfinished b octets (a ∷ []) rest high none whole p = let h : b �
 IsContinued-unfinished b octets (a ∷ c ∷ first) rest high none whole p =
     omega (arith, ap length whole, ap length none, length-append (a ∷ c ∷ first) rest)
 
--- one before octets that are no subidentifiers makes none of them
+-- an octet whose bit 8 is set, before octets that are no subidentifiers, begins no subidentifiers
 Subidentifiers-still_none : (b : ℕ) (octets first rest ms : List ℕ) → 128 ≤ b →
     ((ns : List ℕ) → Subidentifiers ns octets → ⊥)
     → b ∷ octets ≡ first ++ rest → IsContinued first → Subidentifiers ms rest → ⊥
@@ -111,7 +108,7 @@ Subidentifiers-none_behind_high b octets none high [] s = omega (arith, ap lengt
 Subidentifiers-none_behind_high b octets none high (m ∷ ms) (first, rest, whole, number, others) =
     Subidentifiers-still_none b octets first rest ms high none whole number.continued others
 
--- one before octets that are subidentifiers makes others, where there are octets
+-- an octet before octets that are subidentifiers, one octet or more, makes other subidentifiers
 Subidentifiers-cons : (b c : ℕ) (octets : List ℕ) → (ns : List ℕ) × Subidentifiers ns (c ∷ octets)
     → (ns : List ℕ) × Subidentifiers ns (b ∷ c ∷ octets)
 Subidentifiers-cons b c octets ([], s) = absurd (omega (arith, ap length s))
@@ -140,11 +137,6 @@ Subidentifiers-none_behind b octets none = elim (cases_lt b 128) [
       (b ∷ octets) refl
   | inr high ↦ Subidentifiers-none_behind_high b octets none high
 ]
-
--- the last octet, after one more
-get_or-last_cons : (b c : ℕ) (octets : List ℕ)
-    → get_or (b ∷ c ∷ octets) (length (b ∷ c ∷ octets) - 1) 0 ≡ get_or (c ∷ octets) (length (c ∷ octets) - 1) 0
-get_or-last_cons b c octets = simp sub-one
 
 -- octets are subidentifiers of some numbers, where the last ends one
 pub Subidentifiers-ended : (octets : List ℕ) → get_or octets (length octets - 1) 0 < 128 →

@@ -1,4 +1,4 @@
--- the strings of characters
+-- The kinds of strings of characters.
 pub data StringKind : Type 0 where
   utf8 : StringKind
   printable : StringKind

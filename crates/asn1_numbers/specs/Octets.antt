@@ -5,7 +5,7 @@ use Rattle.std.specs.Prelude.{ℕ, ◌+◌, ◌<◌, ◌^◌, List, length, All}
 abbrev pub AreOctets : List ℕ → Type 0
 AreOctets octets = All (λ b. b < 256) octets
 
--- a slice can hold so many
+-- a slice can hold so many octets
 abbrev pub FitInSlice : List ℕ → Type 0
 FitInSlice octets = length octets < 2 ^ 64
 

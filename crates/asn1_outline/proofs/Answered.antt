@@ -1,27 +1,24 @@
--- An answer that is the entries of a document or a first fault is the only one.
+-- Entries of a document are those of whichever trees it encodes, and it has no first fault, for
+-- `outline::Outline::from_der_counted`.
 use Rattle.std.proofs.Common.{ℕ, ◌<◌, ◌^◌, List, length, subst}
 use Rattle.asn1_headers.specs.Fault.{DecodeFault}
 use Rattle.asn1_blocks.specs.Grammar.{FirstFaultAt, IsDocument}
 use Rattle.asn1_blocks.specs.Tree.{Trees}
 use Rattle.asn1_blocks.proofs.OneReading.{EncodesAll-unique}
 use Rattle.asn1_blocks.proofs.Readings.{IsDocument-no_fault}
-use Rattle.asn1_outline.specs.Entries.{AreEntriesOf}
+use Rattle.asn1_outline.specs.Entries.{AreEntriesOf, IsOutline}
 use Rattle.asn1_outline.specs.declared.entry.Entry.{Entry}
 
--- the entries are those of a document
-abbrev pub AreOfDocument : List ℕ → List Entry → Type 0
-AreOfDocument octets es = (bs : Trees ℕ) × IsDocument octets bs × AreEntriesOf octets bs es
-
 -- entries of a document are of its trees, whichever trees it is read as
-pub AreEntriesOf-any_trees : (octets : List ℕ) (es : List Entry) (bs : Trees ℕ) → AreOfDocument octets es →
+pub AreEntriesOf-any_trees : (octets : List ℕ) (es : List Entry) (bs : Trees ℕ) → IsOutline octets es →
     IsDocument octets bs →
     AreEntriesOf octets bs es
 AreEntriesOf-any_trees octets es bs (cs, d, are) e =
     subst (λ z. AreEntriesOf octets z es) (EncodesAll-unique 0 octets cs bs d.blocks e.blocks) are
 
 -- octets with entries of a document have no first fault
-pub AreOfDocument-no_fault : (octets : List ℕ) (es : List Entry) (fault : DecodeFault) (o : ℕ) →
+pub IsOutline-no_fault : (octets : List ℕ) (es : List Entry) (fault : DecodeFault) (o : ℕ) →
     length octets < 2 ^ 64 →
-    AreOfDocument octets es
+    IsOutline octets es
     → FirstFaultAt octets fault o → ⊥
-AreOfDocument-no_fault octets es fault o small (bs, d, are) p = IsDocument-no_fault octets bs fault small d (o, p)
+IsOutline-no_fault octets es fault o small (bs, d, are) p = IsDocument-no_fault octets bs fault small d (o, p)

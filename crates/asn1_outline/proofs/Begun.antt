@@ -1,13 +1,13 @@
--- The entry of a header that was found.
+-- The entry of a header that was found has this header and no items, for `listing::encoding_entry` and `simple_asn1_c`.
 use Rattle.std.proofs.Common.{◌≡◌, ℕ, suc, ◌-◌, ◌≤◌, ◌^◌, ◌++◌, List, drop, length, min, refl, sym, arith}
 use Rattle.std.specs.List.{slice_range}
-use Rattle.asn1_leaves.proofs.SliceSplit.{drop-slice_range}
 use Rattle.asn1_blocks.specs.Places.{HeaderFound}
 use Rattle.asn1_blocks.specs.declared.parsed.PlacedHeader.{PlacedHeader}
 use Rattle.asn1_blocks.proofs.ReadSteps.{length-slice_range}
 use Rattle.asn1_outline.specs.Entries.{HasHeaderAt, HasTag}
 use Rattle.asn1_outline.specs.Listing.{IsBegun}
 use Rattle.asn1_outline.specs.Shapes.{shape_entry}
+use Rattle.std.proofs.lemmas.List.Folds.{drop_split}
 
 -- the entry of a header that was found says which header stands at its offset
 HasHeaderAt-found :
@@ -30,7 +30,7 @@ HasHeaderAt-found x offset limit h tag items next depth found within is =
     let l : length contents ≡ h.end - h.start =
     length-slice_range x h.start h.end found.order (omega (arith, found.ends_within, within)) in
     let w : drop offset x ≡ octets ++ drop h.end x =
-    drop-slice_range x offset h.end (omega (arith, found.starts_after, found.order)) in (
+    drop_split x offset h.end (omega (arith, found.starts_after, found.order)) in (
       octets,
       record {
         rest = drop h.end x;

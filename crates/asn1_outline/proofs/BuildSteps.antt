@@ -1,4 +1,4 @@
--- Blocks are built from the last entry to the first.
+-- Blocks are built from the last entry to the first, for `building::block_of` and `outline::Outline::to_block`.
 use Rattle.std.proofs.Common.{◌≡◌, ℕ, ◌+◌, ◌<◌, ◌≤◌, ◌++◌, List, Option, Some, None, [], ◌∷◌, drop, get_or, length, map, sym, ap, ◌∙◌, arith, length-append}
 use Rattle.std.proofs.Props.{props}
 use Rattle.std.specs.Prelude.{IsSomeAnd, MatchOption, reverse}
@@ -10,11 +10,12 @@ use Rattle.asn1_outline.specs.Building.{IsNext, IsTaken, built_trees, items_of, 
 use Rattle.asn1_outline.specs.Entries.{IsOutline, no_entry}
 use Rattle.asn1_outline.specs.Structure.{Holds, IsNode, IsStructure, Node, Nodes, no_node, node, node_at, node_count, node_in_order, node_items, node_tree, nodes_in_order, nodes_trees}
 use Rattle.asn1_outline.specs.declared.entry.Entry.{Entry}
-use Rattle.asn1_outline.proofs.Built.{map-reverse, append-same_length}
+use Rattle.asn1_outline.proofs.Built.{map-reverse}
 use Rattle.asn1_outline.proofs.Iterating.{IsInOrderFrom-nodes}
 use Rattle.asn1_outline.proofs.Lent.{IsEntryOf-implies, items-node_count, length-nodes_in_order}
 use Rattle.asn1_outline.proofs.Roots.{length-listed, drop-listed, RootsAt-node}
 use Rattle.asn1_outline.proofs.Standing.{IsStanding-structure}
+use Rattle.asn1_headers.proofs.Prefixes.{append-injective}
 
 -- the trees that are built, after one block more is pushed
 pub built_trees-append_last : (left : List ASN1Block) (block : ASN1Block) →
@@ -22,7 +23,7 @@ pub built_trees-append_last : (left : List ASN1Block) (block : ASN1Block) →
 built_trees-append_last left block =
     ap reverse (map-append view left (block ∷ [])) ∙ reverse-append (map view left) (view block ∷ [])
 
--- where one tree is built, the last block is its
+-- where one tree alone is built, the last block has this tree
 pub view-only_built : (built new : List ASN1Block) (t : Tree ℕ) (last : Option ASN1Block) → built_trees built ≡ t ∷ []
     → MatchOption last ((built ≡ []) × (new ≡ [])) (λ block. built ≡ new ++ block ∷ []) →
     IsSomeAnd last (λ block. view block ≡ t)
@@ -58,12 +59,12 @@ map-view_taken_items n old taken new count rest t c begins =
     ) in
     let as_many : length (map view taken) ≡ length (items_of n) = length-map taken view ∙ t.many some ∙ c ∙ sym many in
     let (own, left) =
-    append-same_length (map view taken) (items_of n) (built_trees new) rest as_many (sym all ∙ begins) in
+    append-injective (map view taken) (items_of n) (built_trees new) rest as_many (sym all ∙ begins) in
     let cut : drop (node_count (node_items n)) (built_trees old) ≡ rest =
     ap (drop (node_count (node_items n))) begins ∙ drop-listed (node_items n) rest in
     (own, left ∙ sym cut)
 
--- what a node's tree holds
+-- a node's tree holds the trees of the node's items
 Holds-node_items : (x : List ℕ) (n : Node) → IsNode x n → Holds x (node_tree n) (nodes_trees (node_items n))
 Holds-node_items x (node b ns) is = is.0
 
@@ -78,7 +79,7 @@ module _ (octets : List ℕ) (es : List Entry) (ns : Nodes) (lent : ∥ IsOutlin
       sym (get_or_append_left own rest no_node j l) ∙ ap (λ z. get_or z j no_node) (sym on)
       ∙ get_or-drop k whole j no_node
 
-  -- the entry of one of them comes next, once all after it are built
+  -- the entry of a node inside the node at k comes next, once all nodes behind it are built
   pub IsNext-entry : (j : ℕ) → j < length (node_in_order (node_at ns k)) → k + j < length es → (ahead : List (Tree ℕ))
       → ahead ≡ roots (drop (j + 1) (node_in_order (node_at ns k))) →
       IsNext octets (node_at ns (k + j)) (get_or es (k + j) no_entry) ahead

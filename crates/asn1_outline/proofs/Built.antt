@@ -1,11 +1,11 @@
--- The block of an entry is that of its node.
-use Rattle.std.proofs.Common.{◌≡◌, ◌≢◌, ℕ, ◌-◌, ◌++◌, Bool, true, List, [], ◌∷◌, drop, take, inl, inr, length, map, refl, sym, ap, ◌∙◌, subst, arith}
+-- The block that is built of an entry has the tree of its node, for `building::block_around`, `building::block_of` and
+-- `outline::Outline::to_block`.
+use Rattle.std.proofs.Common.{◌≡◌, ◌≢◌, ℕ, ◌-◌, ◌++◌, Bool, true, List, [], ◌∷◌, drop, inl, inr, length, map, refl, sym, ap, ◌∙◌, subst, arith}
 use Rattle.std.specs.Prelude.{reverse, slice_range}
-use Rattle.std.proofs.lemmas.List.{drop_at, map-append, reverse-append, take_at}
+use Rattle.std.proofs.lemmas.List.{map-append, reverse-append}
 use Rattle.asn1_headers.specs.Header.{Encoding}
 use Rattle.asn1_headers.specs.declared.header.ASN1Class.{ASN1Class}
 use Rattle.asn1_headers.specs.declared.header.ASN1Class.TheVariants.{Universal}
-use Rattle.asn1_leaves.proofs.SliceSplit.{drop-slice_range}
 use Rattle.asn1_blocks.specs.declared.block.ASN1Block.{ASN1Block}
 use Rattle.asn1_blocks.specs.declared.block.GroupKind.{GroupKind}
 use Rattle.asn1_blocks.specs.declared.parsed.PlacedHeader.{PlacedHeader}
@@ -24,6 +24,7 @@ use Rattle.asn1_outline.specs.Structure.{Holds, IsEncodedIn, Node, node_items, n
 use Rattle.asn1_outline.proofs.Roots.{trees_of-listed}
 use Rattle.asn1_outline.proofs.Standing.{EncodingAt-encoded}
 use Rattle.asn1_outline.proofs.Values.{SameEncoding-octets}
+use Rattle.std.proofs.lemmas.List.Folds.{drop_split}
 
 -- the octets behind a header that was found are those of the tree there
 pub Encodes-found_header :
@@ -34,7 +35,7 @@ Encodes-found_header x b octets o g s at found =
     let y = slice_range x o g.end in
     let there : EncodingAt x o y = record {
       rest = drop g.end x;
-      at_offset = drop-slice_range x o g.end (omega (arith, found.starts_after, found.order));
+      at_offset = drop_split x o g.end (omega (arith, found.starts_after, found.order));
       encoding = record {
         class = g.class;
         constructed = g.constructed;
@@ -49,7 +50,7 @@ Encodes-found_header x b octets o g s at found =
     subst (λ z. Encodes o z b) same (subst (λ z. Encodes z octets b) (sym at) s.encoded)
 
 module _ (x : List ℕ) (o : ℕ) (y : List ℕ) (n : ℕ) (v : List ℕ) (h : ℕ) (bs : Trees ℕ) where
-  -- a SEQUENCE or SET
+  -- an encoding of a SEQUENCE or SET encodes a group of the trees that it holds
   pub Encodes-group : (k : Bool) (g : GroupKind) (b : Tree ℕ) → Encoding y Universal k (group_tag g) v h →
       Encodes o y b →
       Holds x b bs
@@ -71,7 +72,7 @@ module _ (x : List ℕ) (o : ℕ) (y : List ℕ) (n : ℕ) (v : List ℕ) (h : �
       ])
 
   module _ (c : ASN1Class) (other : c ≢ Universal) (e : Encoding y c true n v h) where
-    -- an encoding of another class around one block
+    -- a constructed encoding of another class that holds one block encodes this block in explicit tagging
     pub Encodes-explicit : (b t : Tree ℕ) → Encodes o y b → Holds x b bs → bs ≡ more_trees t no_trees →
         b ≡ explicit c o n t
     Encodes-explicit (leaf p l) t (_, _, _, _, F, _) q one =
@@ -100,7 +101,7 @@ module _ (x : List ℕ) (o : ℕ) (y : List ℕ) (n : ℕ) (v : List ℕ) (h : �
         no_more : (t : Tree ℕ) → more_trees t no_trees ≡ no_trees → ⊥
         no_more t r = absurd (cc)
 
-    -- an encoding of which no block is kept stays as it came
+    -- a constructed encoding of another class that does not hold exactly one block stays as it came
     pub Encodes-as_it_came : (b : Tree ℕ) → Encodes o y b → Holds x b bs →
         ((t : Tree ℕ) → bs ≡ more_trees t no_trees → ⊥) →
         b ≡ unknown c true o n v
@@ -179,15 +180,7 @@ map-reverse f (x ∷ xs) =
     ∙ ap (λ z. z ++ f x ∷ []) (map-reverse f xs)
     ∙ sym (reverse-append (f x ∷ []) (map f xs))
 
--- lists of one length in equal lists
-pub append-same_length : {A : Type 0} (s t x y : List A) → length s ≡ length t → s ++ x ≡ t ++ y → (s ≡ t) × (x ≡ y)
-append-same_length s t x y l e =
-    let n = length s in (
-      sym (take_at s x n refl) ∙ ap (take n) e ∙ take_at t y n (sym l),
-      sym (drop_at s x n refl) ∙ ap (drop n) e ∙ drop_at t y n (sym l),
-    )
-
--- a constructed encoding of another class, whatever is inside
+-- the tree of a node at a constructed encoding of another class is explicit around one block, and otherwise as it came
 pub node_tree-other_class :
     (x : List ℕ) (o : ℕ) (n : Node) (g : PlacedHeader) (found : HeaderFound x o (length x) g) (at : IsNodeAt x o n)
     (inside : List ASN1Block) (t : Tree ℕ) →

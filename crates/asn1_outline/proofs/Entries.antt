@@ -1,4 +1,4 @@
--- Entries of nodes in order.
+-- Entries are those of nodes in order, joined and one by one, for the builder of entries and all that look entries up.
 use Rattle.std.proofs.Common.{◌≡◌, ℕ, zero, suc, ◌+◌, ◌<◌, ◌++◌, List, [], ◌∷◌, get_or, length, refl, sym, ap, ◌∙◌, subst, arith, append_assoc, append-nil}
 use Rattle.asn1_blocks.specs.Tree.{Tree}
 use Rattle.asn1_blocks.specs.View.{tree_offset}
@@ -8,7 +8,7 @@ use Rattle.asn1_outline.specs.Structure.{Node, no_node, no_nodes, node, node_dep
 use Rattle.asn1_outline.specs.declared.entry.Entry.{Entry}
 use Rattle.asn1_outline.proofs.Structures.{node_count-nodes_of}
 
--- as many entries as nodes
+-- there are as many entries as nodes
 pub length-entries : (x : List ℕ) (i : ℕ) (ns : List Node) (ds : List ℕ) (rs : List Entry) → AreEntries x i ns ds rs →
     length rs ≡ length ns
 length-entries x i [] [] [] e = refl
@@ -18,7 +18,7 @@ length-entries x i (n ∷ ns) [] rs e = absurd e
 length-entries x i (n ∷ ns) (d ∷ ds) [] e = absurd e
 length-entries x i (n ∷ ns) (d ∷ ds) (r ∷ rs) e = ap suc (length-entries x (suc i) ns ds rs e.1)
 
--- entries of nodes, and then of others
+-- entries of nodes, followed by entries of others, are entries of all of them
 pub AreEntries-append :
     (x : List ℕ) (i j : ℕ) (ns ms : List Node) (ds es : List ℕ) (rs ss : List Entry) → j ≡ i + length ns →
     AreEntries x i ns ds rs → AreEntries x j ms es ss → AreEntries x i (ns ++ ms) (ds ++ es) (rs ++ ss)
@@ -30,7 +30,7 @@ AreEntries-append x i j (n ∷ ns) ms (d ∷ ds) es [] ss at e f = absurd e
 AreEntries-append x i j (n ∷ ns) ms (d ∷ ds) es (r ∷ rs) ss at e f =
     (e.0, AreEntries-append x (suc i) j ns ms ds es rs ss (omega (arith, at)) e.1 f)
 
--- the last of nodes
+-- nodes in order end with the last node and those inside it
 pub nodes_in_order-append_last : (ns : List Node) (n : Node) →
     nodes_in_order (nodes_of (ns ++ n ∷ [])) ≡ nodes_in_order (nodes_of ns) ++ node_in_order n
 nodes_in_order-append_last [] n = append-nil (node_in_order n)
@@ -45,7 +45,7 @@ nodes_depths-append_last d (m ∷ ns) n =
     ap (λ z. node_depths d m ++ z) (nodes_depths-append_last d ns n)
     ∙ sym (append_assoc (node_depths d m) (nodes_depths d (nodes_of ns)) (node_depths d n))
 
--- entries of nodes, and then those of one node more
+-- entries of nodes, followed by those of one node more, are entries of all of them
 pub AreEntries-append_node :
     (x : List ℕ) (i j d : ℕ) (ns : List Node) (n : Node) (rs ss : List Entry) → j ≡ i + length rs →
     AreEntries x i (nodes_in_order (nodes_of ns)) (nodes_depths d (nodes_of ns)) rs →
@@ -60,7 +60,7 @@ AreEntries-append_node x i j d ns n rs ss at e f =
     (sym (nodes_in_order-append_last ns n))
     (subst (λ z. AreEntries x i (own ++ node_in_order n) z (rs ++ ss)) (sym (nodes_depths-append_last d ns n)) all)
 
--- the entry of a block that holds none
+-- the entry of a block that holds none is the entry of its node alone
 pub AreEntries-without_items : (x : List ℕ) (o i d : ℕ) (t : Tree ℕ) (r : Entry) → tree_offset t ≡ o → IsBegun x o i d r
     → AreEntries x i (node_in_order (node t no_nodes)) (node_depths d (node t no_nodes)) (r ∷ [])
 AreEntries-without_items x o i d t r at b = (
@@ -75,7 +75,7 @@ AreEntries-without_items x o i d t r at b = (
   tt,
 )
 
--- how many it holds says nothing of its header
+-- setting the items of an entry keeps the header at its offset
 HasHeaderAt-with_items : (x : List ℕ) (r : Entry) (items next : ℕ) → HasHeaderAt x r →
     HasHeaderAt x (with_items items next r)
 HasHeaderAt-with_items x r items next (y, at, h) = (
@@ -91,7 +91,7 @@ HasHeaderAt-with_items x r items next (y, at, h) = (
   },
 )
 
--- the entry of a block that holds others, before the entries of these
+-- the entry of a block with its items, and then the entries of these, are the entries of the block's node
 pub AreEntries-with_items :
     (x : List ℕ) (o i d items next : ℕ) (t : Tree ℕ) (ns : List Node) (r : Entry) (rs : List Entry) →
     tree_offset t ≡ o →

@@ -1,4 +1,5 @@
--- What the entry of a block says, and what its tree is.
+-- An entry has the fields of its tree's encoding and says whether the tree is explicit, for
+-- `outline::Outline::contents` and `outline::Outline::is_explicit`.
 use Rattle.std.proofs.Common.{◌≡◌, ◌≢◌, ◌↔◌, ℕ, suc, ◌++◌, Bool, true, List, [], inl, inr, length, refl, sym, ap, ◌∙◌, subst, arith}
 use Rattle.std.proofs.lemmas.Bool.{false≢true}
 use Rattle.std.specs.Bool.{one_answer}
@@ -39,7 +40,7 @@ module _ (x : List ℕ) (b : Tree ℕ) (r : Entry) (y : List ℕ) (c : ASN1Class
   contents-of_encoding =
       let (octets, at, own) = e.header in own.contents_field ∙ ap length (SameEncoding-entry octets at own).contents
 
--- nodes are as many as their trees
+-- nodes without trees are no nodes
 node_count-no_trees : (ns : Nodes) → nodes_trees ns ≡ no_trees → node_count ns ≡ 0
 node_count-no_trees no_nodes e = refl
 node_count-no_trees (more_nodes n ns) e =

@@ -1,4 +1,5 @@
--- The iterators of an outline give the trees of the document's structure.
+-- The iterators of an outline return the trees of the document's structure, for `outline::Outline::blocks` and
+-- `outline::Outline::items`.
 use Rattle.std.proofs.Common.{◌≡◌, ℕ, ◌+◌, ◌-◌, ◌<◌, ◌≤◌, ◌++◌, List, [], drop, get_or, length, map, take, sym, ap, ◌∙◌, arith, append-nil}
 use Rattle.std.specs.List.{slice_range}
 use Rattle.std.proofs.lemmas.List.{get_or-drop, get_or-take, length-drop, length-take-le}
@@ -12,7 +13,7 @@ use Rattle.asn1_outline.proofs.Lent.{length-nodes_in_order, next-node_in_order, 
 
 module _ (octets : List ℕ) (es : List Entry) (ns : Nodes) (lent : ∥ IsOutline octets es ∥₁) (d : IsStructure octets ns)
   where
-    -- the outermost
+    -- the entries that stand in no other are those of the outermost nodes
     pub outermost_trees :
         trees_of (map (λ (item : ℕ × Entry). tree_at ns item.0) (side_by_side 0 0 es)) ≡ nodes_trees ns
     outermost_trees =

@@ -1,4 +1,5 @@
--- What an outline's iterators give: the entries of blocks side by side.
+-- The iterators of an outline return entries of blocks side by side, for `iter::EntriesIterator::next`,
+-- `outline::Outline::blocks` and `outline::Outline::items`.
 use Rattle.std.proofs.Common.{◌≡◌, ℕ, zero, suc, ◌+◌, ◌-◌, ◌<◌, ◌++◌, min, Bool, false, List, [], ◌∷◌, Some, drop, get_or, length, map, refl, sym, ap, ◌∙◌, inl, inr, arith, append_assoc, append-nil, length-append}
 use Rattle.std.specs.Prelude.{All, slice_get}
 use Rattle.std.proofs.lemmas.Bool.{cases_lt}
@@ -21,7 +22,7 @@ side_by_side-skip (suc n) i (r ∷ rs) =
     let at : i + 1 + min n (length rs) ≡ i + min (suc n) (length (r ∷ rs)) = omega arith in
     side_by_side-skip n (i + 1) rs ∙ ap (λ z. side_by_side 0 z (drop n rs)) at
 
--- what stands at a place of a list
+-- the entry at an index is the first of those from the index on
 slice_get-drop : (rs : List Entry) (i : ℕ) (r : Entry) (rest : List Entry) → drop i rs ≡ r ∷ rest →
     slice_get rs i ≡ Some r
 slice_get-drop [] zero r rest e =
@@ -36,7 +37,7 @@ slice_get-drop (x ∷ rs) zero r rest e =
     ap Some same
 slice_get-drop (x ∷ rs) (suc i) r rest e = slice_get-drop rs i r rest e
 
--- what follows the first of the rest of a list
+-- behind the first element of a list from an index on stand the elements from the next index on
 pub drop-next : {A : Type 0} (rs : List A) (i : ℕ) (r : A) (rest : List A) → drop i rs ≡ r ∷ rest →
     drop (i + 1) rs ≡ rest
 drop-next rs i r rest e = sym (drop-drop 1 i rs) ∙ ap (drop 1) e
@@ -101,11 +102,11 @@ trees_of-side_by_side whole (more_nodes (node b ms) ns) i (r ∷ rs) rest e l ov
     ∙ ap (more_trees (node_tree (get_or whole i no_node))) others
     ∙ ap (λ z. more_trees z (nodes_trees ns)) tree
 
--- a node, and then those inside it
+-- a node in order is the node and then those inside it
 pub node_in_order-items : (n : Node) → node_in_order n ≡ n ∷ nodes_in_order (node_items n)
 node_in_order-items (node b ns) = refl
 
--- nodes in order go on with one of them
+-- from the index k on, nodes in order go on with the node there and those inside it
 abbrev pub IsInOrderFrom : List Node → ℕ → Type 0
 IsInOrderFrom ns k = (rest : List Node) × (drop k ns ≡ node_in_order (get_or ns k no_node) ++ rest)
 
@@ -145,7 +146,7 @@ mutual
             )
       ]
 
--- one step past an entry and those inside it
+-- behind an entry, what is still to come begins past those inside the entry
 pub still_to_come-step :
     (all : Bool) (i inside : ℕ) (r : Entry) (rs rest : List Entry) → all ≡ false → rs ≡ r ∷ rest →
     inside ≡ min (r.next - (i + 1)) (length rest) →

@@ -1,4 +1,4 @@
--- What holds of an outline's document holds of the entry at an index.
+-- What holds of an outline's document holds of the entry at an index, for the methods of `Outline` and `Headers`.
 use Rattle.std.proofs.Common.{◌≡◌, ℕ, suc, ◌+◌, ◌<◌, ◌≤◌, ◌++◌, List, Option, Some, None, length, get_or, refl, ap, sym, subst, ◌∙◌, arith, length-append}
 use Rattle.std.proofs.Props.{props}
 use Rattle.std.proofs.lemmas.List.{get_or_past, length-drop}
@@ -57,7 +57,7 @@ module _ (octets : List ℕ) (es : List Entry) (ns : Nodes) (k : ℕ) (lent : �
       (IsEntry-get_or octets 0 (nodes_in_order ns) (nodes_depths 0 ns) es own k
       (omega (arith, h, length-entries_of_nodes own))).items)
 
-  -- the entry after one and all inside it stands behind those of its node
+  -- the index after an entry lies behind all nodes inside its node
   pub next-node_in_order : k < length es → (get_or es k no_entry).next ≡ k + length (node_in_order (node_at ns k))
   next-node_in_order h =
       let prop : IsProp ((get_or es k no_entry).next ≡ k + length (node_in_order (node_at ns k))) = hlevel props in
@@ -126,7 +126,7 @@ get_or-looked_up es items k entry same (h, is) =
 
 -- the index after an entry and those inside it is one of the list, or its end
 module _ (octets : List ℕ) (es : List Entry) (k : ℕ) (lent : ∥ IsOutline octets es ∥₁) (h : k < length es) where
-  -- the index after an entry and those inside it is one of the list, or its end
+  -- the `next` of an entry is above its index, and at most the number of entries
   pub next-within : (k + 1 ≤ (get_or es k no_entry).next) × ((get_or es k no_entry).next ≤ length es)
   next-within =
       let prop : IsProp ((k + 1 ≤ (get_or es k no_entry).next) × ((get_or es k no_entry).next ≤ length es)) =
@@ -145,7 +145,7 @@ module _ (octets : List ℕ) (es : List Entry) (k : ℕ) (lent : ∥ IsOutline o
       omega (arith, next, whole, many, h, length-drop k (nodes_in_order ns)) in
       (first, last))
 
--- an outline has an entry
+-- the structure of a document has a node
 nodes_in_order-not_empty : (octets : List ℕ) (ns : Nodes) → IsDocument octets (nodes_trees ns) →
     0 < length (nodes_in_order ns)
 nodes_in_order-not_empty octets no_nodes d = absurd (omega (arith, d.some, ap length d.blocks))

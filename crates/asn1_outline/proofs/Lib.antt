@@ -3,7 +3,7 @@ pub mod Entries
 pub mod Begun
 pub mod Standing
 pub mod Listed
-mod Iterating
+pub mod Iterating
 mod Answered
 pub mod Values
 mod Fields

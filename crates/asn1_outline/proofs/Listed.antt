@@ -1,11 +1,11 @@
--- The entries of frames that are open, and of those that end.
+-- The builder of entries holds those of open frames and of frames that end, for `listing`, `header_walk` and
+-- `simple_asn1_c`.
 use Rattle.std.proofs.Common.{◌≡◌, ℕ, suc, ◌+◌, ◌-◌, ◌<◌, ◌≤◌, ◌++◌, List, [], ◌∷◌, None, drop, inl, inr, length, set, take, refl, sym, ap, ◌∙◌, subst, arith, append_assoc, append-nil, length-append}
 use Rattle.std.specs.List.{slice_range}
 use Rattle.std.proofs.lemmas.List.{length-map, map-append}
 use Rattle.std.proofs.Math.Seq.{get_or-append_seam, set-append_seam}
 use Rattle.asn1_headers.specs.Header.{Encoding}
 use Rattle.asn1_headers.proofs.Prefixes.{Encoding-unique}
-use Rattle.asn1_leaves.proofs.SliceSplit.{drop-slice_range}
 use Rattle.asn1_blocks.specs.declared.parsed.PlacedHeader.{PlacedHeader}
 use Rattle.asn1_blocks.specs.declared.read_loop.Attempt as other
 use Rattle.asn1_blocks.specs.declared.read_loop.Extent.{Extent}
@@ -30,12 +30,13 @@ use Rattle.asn1_outline.specs.declared.listing.EntryBuilder.{EntryBuilder}
 use Rattle.asn1_outline.specs.declared.listing.EntryItems.{EntryItems}
 use Rattle.asn1_outline.proofs.Entries.{AreEntries-without_items, AreEntries-append_node, AreEntries-with_items}
 use Rattle.asn1_outline.proofs.Structures.{AreNodes-append, trees_of-nodes}
+use Rattle.std.proofs.lemmas.List.Folds.{drop_split}
 
 -- the items of a frame after one more
 abbrev pub with_one_more : EntryItems → EntryItems
 with_one_more i = record i { count = i.count + 1 }
 
--- entries of trees, and those of one tree more
+-- entries of trees, followed by those of one tree more, are entries of all of them
 AreOfTrees-append :
     (x : List ℕ) (i j d : ℕ) (ts : List (Tree ℕ)) (n : Node) (rs ss : List Entry) → j ≡ i + length rs → IsNode x n →
     AreOfTrees x i d ts rs →
@@ -47,7 +48,7 @@ AreOfTrees-append x i j d ts n rs ss at is a e = record {
   entries = AreEntries-append_node x i j d a.nodes n rs ss at a.entries e;
 }
 
--- the frame has one block more, and these entries more
+-- a frame that gets one block more holds the entries of this block as well
 AllHold-add :
     (x : List ℕ) (rs ss : List Entry) (e : Extent) (i : EntryItems) (gs : List (OpenFrame EntryItems))
     (ts : List (Tree ℕ)) (rest : List (List (Tree ℕ)))
@@ -75,7 +76,7 @@ AllHold-add x rs ss e i (h ∷ gs) ts (us ∷ rest) n is w a =
       around = a.around;
     }
 
--- a new frame inside those that are open, with its entry
+-- a new frame inside those that are open has its own entry and holds none yet
 all_hold-open :
     (x : List ℕ) (rs : List Entry) (r : Entry) (f g : OpenFrame EntryItems) (gs : List (OpenFrame EntryItems))
     (trees : List (List (Tree ℕ))) →
@@ -109,7 +110,7 @@ HasOpened-entry_builder x h offset depth a b i r begun at none is = record {
       (all_hold-open x a.entries.items r (in_frame e i) f fs trees deep at none w);
 }
 
--- a leaf, or an encoding that is not read inside, holds none
+-- a leaf, or an encoding that is not read inside, holds no trees
 Holds-none : (x : List ℕ) (o e : ℕ) (h : PlacedHeader) (t : Tree ℕ) (v : List ℕ) (i : ℕ) → tree_items t ≡ None →
     Encodes o (slice_range x o e) t
     → Encoding (slice_range x o e) h.class h.constructed h.tag v i → (IsReadInside h.class h.constructed h.tag → ⊥) →
@@ -122,7 +123,7 @@ Holds-none x o e h (unknown c k p n w) v i none s found shut =
     let same = Encoding-unique y y c h.class k h.constructed n h.tag w v s.1 i [] [] s.2 found refl in
     inr (refl, λ (other, bit, are). shut (inr (λ z. other (same.class ∙ z), sym same.constructed ∙ bit)))
 
--- a block that holds none stands at the header
+-- the builder holds one block more at the header, without items, once its entry is pushed
 pub HasLeaf-entry_builder :
     (x : List ℕ) (h : PlacedHeader) (offset limit depth : ℕ) (a b : EntryBuilder) (i : EntryItems) (r : Entry) →
     HeaderFound x offset limit h →
@@ -144,7 +145,7 @@ HasLeaf-entry_builder x h offset limit depth a b i r found shut (t, none, encode
       };
     }
 
--- the entries up to one that stands after some
+-- the entries up to one that stands behind a front are the front and this entry
 pub take-behind_front : (front : List Entry) (r : Entry) (own : List Entry) →
     take (suc (length front)) (front ++ r ∷ own) ≡ front ++ r ∷ []
 take-behind_front [] r own = refl
@@ -159,7 +160,7 @@ with_items_at-behind_front front r own items =
     (get_or-append_seam front r own no_entry)
     ∙ set-append_seam front r own (with_items items (length (front ++ r ∷ own)) r)
 
--- an encoding of another class, and its contents octets
+-- an attempt is a constructed encoding of another class whose contents octets stand from the start to the end
 IsTaggedAt-attempt : (x : List ℕ) (a : other.Attempt) (start end : ℕ) → a.offset < start → start ≤ end →
     IsAttemptAt x a start end
     → IsTaggedAt x a.class a.offset a.tag (slice_range x start end) start
@@ -168,7 +169,7 @@ IsTaggedAt-attempt x a start end lt le at = record {
   rest = drop end x;
   header = start - a.offset;
   other = at.other;
-  at_offset = drop-slice_range x a.offset end (omega (arith, lt, le));
+  at_offset = drop_split x a.offset end (omega (arith, lt, le));
   encoding = at.encoding;
   start_is = omega (arith, lt);
 }
@@ -209,7 +210,7 @@ Holds-ended x e ts t bs same w = go e.kind refl
               ∙ (tree_offset-attempt_tree x a e.start e.end ts ∙ here),
         )
 
--- the entry of a frame
+-- the entry of an open frame is among the entries
 pub entry-lt_length : (x : List ℕ) (rs : List Entry) (f h : OpenFrame EntryItems) (gs : List (OpenFrame EntryItems))
     (trees : List (List (Tree ℕ)))
     → all_hold x rs (f ∷ h ∷ gs) trees → f.items.entry < length rs

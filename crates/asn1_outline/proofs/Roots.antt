@@ -1,4 +1,5 @@
--- The trees of nodes that are inside no other.
+-- The trees of nodes that are inside no other, for `building::block_around`, `building::block_of` and
+-- `outline::Outline::to_block`.
 use Rattle.std.proofs.Common.{◌≡◌, ℕ, suc, ◌+◌, ◌<◌, ◌++◌, List, [], ◌∷◌, drop, get_or, length, refl, sym, ap, ◌∙◌, append_assoc, append-nil}
 use Rattle.asn1_blocks.specs.Tree.{Tree, Trees, more_trees, no_trees, trees_of}
 use Rattle.asn1_outline.specs.Building.{items_of, listed, roots}
@@ -29,7 +30,7 @@ mutual
       ap roots (append_assoc (node_in_order n) (nodes_in_order ns) s) ∙ roots-node_in_order n (nodes_in_order ns ++ s)
       ∙ ap (λ z. node_tree n ∷ z) (roots-nodes_in_order ns s)
 
--- one node and all inside it
+-- of a node and all nodes inside it, only the node is inside no other
 pub roots-one_node : (n : Node) → roots (node_in_order n) ≡ node_tree n ∷ []
 roots-one_node n = ap roots (sym (append-nil (node_in_order n))) ∙ roots-node_in_order n []
 
@@ -40,7 +41,7 @@ pub record RootsAt (ns : List Node) (k : ℕ) : Type 0 where
   pub here : roots (drop k ns)
       ≡ node_tree (get_or ns k no_node) ∷ drop (node_count (node_items (get_or ns k no_node))) (roots (drop (k + 1) ns))
 
--- the trees from each node on, by those behind it
+-- at each node inside a node, its items come first among the trees behind it, and its own tree takes their place
 pub RootsAt-node : (n : Node) (k : ℕ) → k < length (node_in_order n) → RootsAt (node_in_order n) k
 RootsAt-node n k h =
     let ns = node_in_order n in

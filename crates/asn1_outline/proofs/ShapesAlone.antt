@@ -1,11 +1,11 @@
--- Octets have one list of shapes, or one first header fault, and not both.
+-- Octets have one list of shapes, or one first header fault, and not both, for `headers::Headers::read` and the
+-- functions of `signed`.
 use Rattle.std.proofs.Common.{◌≡◌, ℕ, ◌-◌, ◌<◌, ◌≤◌, ◌^◌, ◌++◌, List, drop, inl, inr, length, refl, sym, ap, ◌∙◌, subst, arith}
 use Rattle.std.specs.List.{slice_range}
 use Rattle.asn1_headers.specs.Fault.{DecodeFault}
 use Rattle.asn1_headers.specs.HeaderFault.{HeaderFault}
 use Rattle.asn1_headers.specs.declared.header.ASN1Class.TheVariants.{Universal}
 use Rattle.asn1_headers.proofs.Prefixes.{Encoding-unique}
-use Rattle.asn1_leaves.proofs.SliceSplit.{drop-slice_range}
 use Rattle.asn1_blocks.specs.HeadersBegun.{IsReadInside}
 use Rattle.asn1_blocks.specs.Places.{HeaderFound}
 use Rattle.asn1_blocks.specs.declared.parsed.PlacedHeader.{PlacedHeader}
@@ -13,16 +13,17 @@ use Rattle.asn1_blocks.proofs.Faults.{HeaderFault-not_encoding}
 use Rattle.asn1_blocks.proofs.FaultsAlone.{HeaderFault-unique}
 use Rattle.asn1_blocks.proofs.ReadSteps.{slice_range-append, length-slice_range}
 use Rattle.asn1_outline.specs.Shapes.{AreShapes, FirstHeaderFaultAt, HasItems, HasShapes, HeadersFaultAt, Shapes, as_it_came, in_header, in_item, in_later, more_shapes, no_more, not_read, one_more, read_inside}
+use Rattle.std.proofs.lemmas.List.Folds.{drop_split}
 
--- at a place there is one header
+-- one header alone stands at an offset
 pub HeaderFound-unique : (x : List ℕ) (p e : ℕ) (h g : PlacedHeader) → e ≤ length x → HeaderFound x p e h →
     HeaderFound x p e g → h ≡ g
 HeaderFound-unique x p e h g within f f' =
     let y = slice_range x p h.end in
     let z = slice_range x p g.end in
     let whole : y ++ drop h.end x ≡ z ++ drop g.end x =
-    sym (drop-slice_range x p h.end (omega (arith, f.starts_after, f.order)))
-    ∙ drop-slice_range x p g.end (omega (arith, f'.starts_after, f'.order)) in
+    sym (drop_split x p h.end (omega (arith, f.starts_after, f.order)))
+    ∙ drop_split x p g.end (omega (arith, f'.starts_after, f'.order)) in
     let s = Encoding-unique y z h.class g.class h.constructed g.constructed h.tag g.tag _ _ _ _ (drop h.end x)
     (drop g.end x) f.encoding f'.encoding whole in
     let class : h.class ≡ g.class = s.class in

@@ -1,4 +1,5 @@
--- The encodings of entries lie in the octets.
+-- The encodings of entries by headers lie in the octets, for `headers::Headers::contents` and
+-- `headers::Headers::encoding`.
 use Rattle.std.proofs.Common.{◌≡◌, ℕ, Bor, None, Option, Some, zero, suc, ◌+◌, ◌-◌, ◌<◌, ◌≤◌, ◌++◌, List, [], ◌∷◌, get_or, length, ◌∙◌, subst, sym, ap, arith}
 use Rattle.std.proofs.Props.{props}
 use Rattle.std.specs.Prelude.{IsSomeAnd, MatchOption}
@@ -70,7 +71,7 @@ IsSomeAnd-never_past : (found : Option (Bor (List ℕ))) (v w : List ℕ) (Past 
 IsSomeAnd-never_past None v w Past is lies same = absurd (lies is)
 IsSomeAnd-never_past (Some slice) v w Past is lies same = is ∙ same
 
--- the octets that the fields of an entry name, of the entry that was looked up at an index
+-- octets that were found for an entry that was looked up are those of the entry at the index
 pub IsSomeAnd-looked_up : (octets_of : Entry → List ℕ) (x : List ℕ) (es items : List Entry) (k : ℕ) (entry : Entry)
     (found : Option (Bor (List ℕ))) → ∥ AreEntriesOfShapes x es ∥₁ → items ≡ es
     → (k < length items) × ((r : Entry) → entry ≡ get_or items k r)

@@ -1,4 +1,4 @@
--- The headers of a signed triple and its entries, for signed_content and what it calls.
+-- The headers of a signed triple and its entries, for `signed::signed_content` and `signed::signed_in`.
 use Rattle.std.proofs.Common.{◌≡◌, ℕ, Bor, None, Option, Some, suc, ◌+◌, ◌-◌, ◌<◌, ◌≤◌, ◌^◌, ◌++◌, List, [], ◌∷◌, length, min, refl, sym, ap, ◌∙◌, subst, arith, inl}
 use Rattle.std.specs.List.{slice_range}
 use Rattle.std.specs.Prelude.{MatchOption}
@@ -11,7 +11,7 @@ use Rattle.asn1_outline.specs.TripleHeaders.{HasNoTriple, HasTripleHeaders, IsSi
 use Rattle.asn1_outline.specs.declared.entry.Entry.{Entry}
 use Rattle.asn1_outline.proofs.ShapesAlone.{HeaderFound-unique}
 
--- the entry behind so many others
+-- an entry behind a front is found behind the front's length
 entry_at-append : (front own more : List Entry) (k : ℕ) →
     entry_at ((front ++ own) ++ more) (length front + k) ≡ entry_at (own ++ more) k
 entry_at-append [] own more k =
@@ -21,7 +21,7 @@ entry_at-append (e ∷ front) own more k =
     let here : suc (length front) + k ≡ suc (length front + k) = omega arith in
     ap (entry_at ((e ∷ (front ++ own)) ++ more)) here ∙ entry_at-append front own more k
 
--- an encoding that holds three, and what follows it
+-- an encoding that holds three encodings, and what follows it
 abbrev shapes_of_three : (w c a s : PlacedHeader) (m o p q : ℕ) (cs bs ss rest : Shapes) → Shapes
 shapes_of_three w c a s m o p q cs bs ss rest =
     more_shapes m w (more_shapes o c cs (more_shapes p a bs (more_shapes q s ss no_shapes))) rest
@@ -52,21 +52,21 @@ module _ (w c a s : PlacedHeader) (m o p q : ℕ) (cs bs ss rest : Shapes) where
   entries_after = entries_of (suc
       0 + (length (entries_of 1 1 (more_shapes o c cs (more_shapes p a bs (more_shapes q s ss no_shapes)))))) 0 rest
 
-  -- the entries from the second of the three on
+  -- at or behind the index of the second of the three, entries are those from the second on
   entry_at-second_on : (k : ℕ) → entry_at three_entries (second_index cs + k) ≡ entry_at (behind_first ++ entries_after)
       k
   entry_at-second_on k =
       let here : second_index cs + k ≡ suc (suc (length (entries_of 2 2 cs) + k)) = omega arith in
       ap (entry_at three_entries) here ∙ entry_at-append (entries_of 2 2 cs) behind_first entries_after k
 
-  -- the entry of the second of the three
+  -- at the index of the second of the three stands the entry of its header
   pub entry_at-second : entry_at three_entries (second_index cs) ≡ shape_entry p a (shape_count bs)
       (third_index cs bs) 1
   entry_at-second =
       let here : second_index cs ≡ second_index cs + 0 = omega arith in
       ap (entry_at three_entries) here ∙ entry_at-second_on 0
 
-  -- the entry of the third of the three
+  -- at the index of the third of the three stands the entry of its header
   pub entry_at-third : (n : ℕ) → n ≡ third_index cs bs → entry_at three_entries n
       ≡ shape_entry q s (shape_count ss)
       (suc (third_index cs bs) + length (entries_of (suc (third_index cs bs)) 2 ss)) 1
@@ -76,7 +76,7 @@ module _ (w c a s : PlacedHeader) (m o p q : ℕ) (cs bs ss rest : Shapes) where
       ap (entry_at three_entries) here ∙ entry_at-second_on (suc (length inner + 0))
       ∙ entry_at-append inner behind_second entries_after 0
 
--- the first encoding inside the second of the three
+-- behind the entry of the second of the three stands that of the first encoding inside it
 pub entry_at-inside_second :
     (w c a s i : PlacedHeader) (m o p q r : ℕ) (cs is bs ss rest : Shapes) (n : ℕ) → n ≡ second_index cs + 1
     → entry_at (entries_of 0 0 (shapes_of_three w c a s m o p q cs (more_shapes r i is bs) ss rest)) n
@@ -118,7 +118,7 @@ AreShapes-sequence x h items u (read_inside i are) = are
 AreShapes-sequence x h items u (as_it_came other c q) = absurd (other u.0)
 AreShapes-sequence x h items u (not_read shut) = absurd (shut (IsReadInside-sequence h u))
 
--- shapes begin with the encoding that stands there
+-- shapes begin with the encoding whose header stands at the offset
 record IsFirstHeader (x : List ℕ) (p e : ℕ) (all : Shapes) (h : PlacedHeader) : Type 0 where
   items : Shapes
   rest : Shapes
@@ -141,7 +141,7 @@ IsFirstHeader-found x p e all h within (one_more {header = g} {items = items} {r
       more = subst (λ (z : PlacedHeader). AreShapes x z.end e rest) same more;
     }
 
--- no octets have no shapes
+-- where no octets are left, there are no shapes
 AreShapes-at_end : (x : List ℕ) (p e : ℕ) (all : Shapes) → p ≡ e → AreShapes x p e all → all ≡ no_shapes
 AreShapes-at_end x p e all at (no_more end) = refl
 AreShapes-at_end x p e all at (one_more f has more) = absurd (omega (arith, at, f.starts_after, f.order, f.ends_within))
@@ -168,7 +168,7 @@ BeginWithTriple-shapes w c a i s m o p q r cs is bs ss rest uw ua ui us =
           (entry_at-third w c a s m o p q cs inner ss rest (entry_at rs (second_index cs)).next next) us;
     }
 
--- of octets that begin with the headers of a triple, the entries begin with one, whose content this is
+-- the entries of octets that begin with the headers of a triple begin with a triple of this content
 pub BeginWithTriple-headers :
     (x content : List ℕ) (all : Shapes) (w c a i s : PlacedHeader) → HasShapes x all → HasTripleHeaders x w c a i s →
     content ≡ slice_range x w.start c.end
@@ -212,27 +212,27 @@ FirstOf-shapes : (x : List ℕ) (p e : ℕ) (all : Shapes) → AreShapes x p e a
 FirstOf-shapes x p e all (no_more end) = end
 FirstOf-shapes x p e all (one_more f has more) = (f, has, more)
 
--- the headers of a triple
-abbrev pub BeginsWithTriple : List ℕ → Type 0
-BeginsWithTriple x = (w : PlacedHeader) × (c : PlacedHeader) × (a : PlacedHeader) × (i : PlacedHeader) ×
+-- the octets begin with the headers of a triple
+abbrev pub HasSomeTriple : List ℕ → Type 0
+HasSomeTriple x = (w : PlacedHeader) × (c : PlacedHeader) × (a : PlacedHeader) × (i : PlacedHeader) ×
     (s : PlacedHeader) × HasTripleHeaders x w c a i s
 
 module _ (x : List ℕ) (m : ℕ) (w : PlacedHeader) (rest : Shapes) (found : HeaderFound x 0 (length x) w)
     (uw : IsUniversalHeader 16 w) where
   -- octets whose entries begin with a triple have its headers, by the items of the first
-  BeginsWithTriple-inside : (ms : Shapes) → AreShapes x w.start w.end ms → shape_count ms ≡ 3 →
-      BeginWithTriple (entries_of 0 0 (more_shapes m w ms rest)) → BeginsWithTriple x
-  BeginsWithTriple-inside no_shapes are three b = absurd (omega (arith, three))
-  BeginsWithTriple-inside (more_shapes o c cs no_shapes) are three b = absurd (omega (arith, three))
-  BeginsWithTriple-inside (more_shapes o c cs (more_shapes p a bs no_shapes)) are three b =
+  HasSomeTriple-inside : (ms : Shapes) → AreShapes x w.start w.end ms → shape_count ms ≡ 3 →
+      BeginWithTriple (entries_of 0 0 (more_shapes m w ms rest)) → HasSomeTriple x
+  HasSomeTriple-inside no_shapes are three b = absurd (omega (arith, three))
+  HasSomeTriple-inside (more_shapes o c cs no_shapes) are three b = absurd (omega (arith, three))
+  HasSomeTriple-inside (more_shapes o c cs (more_shapes p a bs no_shapes)) are three b =
       absurd (omega (arith, three))
-  BeginsWithTriple-inside (more_shapes o c cs (more_shapes p a no_shapes (more_shapes q s ss no_shapes))) are three b =
+  HasSomeTriple-inside (more_shapes o c cs (more_shapes p a no_shapes (more_shapes q s ss no_shapes))) are three b =
       let none :
       (entry_at (entries_of 0 0 (shapes_of_three w c a s m o p q cs no_shapes ss rest)) (second_index cs)).items ≡ 0
       =
       ap (λ (z : Entry). z.items) (entry_at-second w c a s m o p q cs no_shapes ss rest) in
       absurd (omega (arith, none, b.some))
-  BeginsWithTriple-inside (more_shapes o c cs (more_shapes p a (more_shapes r i is bs) (more_shapes q s ss no_shapes)))
+  HasSomeTriple-inside (more_shapes o c cs (more_shapes p a (more_shapes r i is bs) (more_shapes q s ss no_shapes)))
       are three
       b =
       let inner = more_shapes r i is bs in
@@ -266,26 +266,26 @@ module _ (x : List ℕ) (m : ℕ) (w : PlacedHeader) (rest : Shapes) (found : He
           to_the_end = ended;
         },
       )
-  BeginsWithTriple-inside (more_shapes o c cs (more_shapes p a bs (more_shapes q s ss (more_shapes r i is more))))
+  HasSomeTriple-inside (more_shapes o c cs (more_shapes p a bs (more_shapes q s ss (more_shapes r i is more))))
       are three b =
       absurd (omega (arith, three))
 
 -- octets whose entries begin with a triple have its headers
-BeginsWithTriple-shapes : (x : List ℕ) (all : Shapes) → AreShapes x 0 (length x) all →
+HasSomeTriple-shapes : (x : List ℕ) (all : Shapes) → AreShapes x 0 (length x) all →
     BeginWithTriple (entries_of 0 0 all) →
-    BeginsWithTriple x
-BeginsWithTriple-shapes x no_shapes are b = absurd (omega (arith, b.three))
-BeginsWithTriple-shapes x (more_shapes m w ms rest) are b =
+    HasSomeTriple x
+HasSomeTriple-shapes x no_shapes are b = absurd (omega (arith, b.three))
+HasSomeTriple-shapes x (more_shapes m w ms rest) are b =
     let f = FirstOf-shapes x 0 (length x) (more_shapes m w ms rest) are in
     let uw = IsUniversalHeader-shape_entry m w 0 0 0 16 (omega arith) b.whole in
-    BeginsWithTriple-inside x m w rest f.0 uw ms (AreShapes-sequence x w ms uw f.1) b.three b
+    HasSomeTriple-inside x m w rest f.0 uw ms (AreShapes-sequence x w ms uw f.1) b.three b
 
--- of octets that begin with the headers of no triple, neither do the entries
+-- the entries of octets that begin with the headers of no triple begin with no triple
 pub HasNoTriple-entries : (x : List ℕ) (all : Shapes) → HasShapes x all → HasNoTriple x →
     BeginWithTriple (entries_of 0 0 all) →
     ⊥
 HasNoTriple-entries x all sh none b =
-    let (w, c, a, i, s, t) = BeginsWithTriple-shapes x all sh.shapes b in
+    let (w, c, a, i, s, t) = HasSomeTriple-shapes x all sh.shapes b in
     none w c a i s t
 
 -- a triple's headers are those that were found

@@ -1,4 +1,5 @@
--- Where the blocks of a document's structure stand.
+-- The blocks of a document's structure stand at their offsets, for the methods of `Outline`, `simple_asn1` and
+-- `simple_asn1_c`.
 use Rattle.std.proofs.Common.{◌≡◌, ℕ, zero, suc, ◌+◌, ◌-◌, ◌<◌, ◌≤◌, ◌++◌, Bool, List, [], ◌∷◌, inl, inr, drop, length, get_or, refl, sym, ap, ◌∙◌, subst, arith, append_assoc, append-nil, length-append, drop-drop}
 use Rattle.std.proofs.lemmas.Bool.{cases_lt}
 use Rattle.std.proofs.lemmas.List.{drop_at, get_or_append_left, get_or-append_right}
@@ -19,14 +20,15 @@ IsLength-not_empty [] n h = absurd h
 IsLength-not_empty (b ∷ s) n h = omega arith
 
 -- an encoding has two octets beside its contents octets
-pub length-contents_le : (x : List ℕ) (c : ASN1Class) (k : Bool) (n : ℕ) (v : List ℕ) (h : ℕ) → Encoding x c k n v h →
+pub length-contents_two_less : (x : List ℕ) (c : ASN1Class) (k : Bool) (n : ℕ) (v : List ℕ) (h : ℕ) →
+    Encoding x c k n v h →
     2 + length v ≤ length x
-length-contents_le x c k n v h e =
+length-contents_two_less x c k n v h e =
     let first = IsIdentifier-not_empty e.identifier c k n e.identifier_octets in
     let second = IsLength-not_empty e.len (length v) e.length_octets in
     omega (arith, first, second, ap length e.whole, length-append e.identifier (e.len ++ v), length-append e.len v)
 
--- the contents octets of an encoding that stands in others
+-- the contents octets of an encoding stand behind its header
 pub drop-contents :
     (x y rest : List ℕ) (c : ASN1Class) (k : Bool) (n : ℕ) (v : List ℕ) (o h : ℕ) → drop o x ≡ y ++ rest →
     Encoding y c k n v h →
@@ -39,7 +41,7 @@ drop-contents x y rest c k n v o h s e =
     let two : drop h (drop o x) ≡ drop (o + h) x = drop-drop h o x ∙ ap (λ z. drop z x) (omega arith) in
     sym two ∙ ap (drop h) (s ∙ whole) ∙ drop_at i (v ++ rest) h size
 
--- the blocks that a tree holds, in octets that are at most its contents octets
+-- the trees bs stand in x, in contents octets that are at least two octets shorter than y
 pub record HeldIn (x y : List ℕ) (bs : Trees ℕ) : Type 0 where
   pub place : ℕ
   pub contents : List ℕ
@@ -48,7 +50,7 @@ pub record HeldIn (x y : List ℕ) (bs : Trees ℕ) : Type 0 where
   pub encoded : EncodesAll place contents bs
   pub shorter : 2 + length contents ≤ length y
 
--- an encoding that holds no trees
+-- no trees stand in no octets, which are at least two octets shorter than an encoding y
 HeldIn-none : (x y : List ℕ) (c : ASN1Class) (k : Bool) (n : ℕ) (v : List ℕ) (h : ℕ) (bs : Trees ℕ) →
     Encoding y c k n v h → bs ≡ no_trees → HeldIn x y bs
 HeldIn-none x y c k n v h bs e none = record {
@@ -57,7 +59,7 @@ HeldIn-none x y c k n v h bs e none = record {
   rest = x;
   at_offset = refl;
   encoded = subst (λ z. EncodesAll 0 [] z) (sym none) refl;
-  shorter = omega (arith, length-contents_le y c k n v h e);
+  shorter = omega (arith, length-contents_two_less y c k n v h e);
 }
 
 -- the trees that a tree holds stand in shorter octets than its own
@@ -71,7 +73,7 @@ HeldIn-holds x o (group p g items) y rest bs s (_, bit, contents, header, F, ins
   rest = rest;
   at_offset = drop-contents x y rest _ bit _ contents o header s F;
   encoded = subst (λ z. EncodesAll (o + header) contents z) (sym h) inside;
-  shorter = length-contents_le y _ bit _ contents header F;
+  shorter = length-contents_two_less y _ bit _ contents header F;
 }
 HeldIn-holds x o (explicit c p n b) y rest bs s (_, _, contents, header, F, item) h = record {
   place = o + header;
@@ -79,7 +81,7 @@ HeldIn-holds x o (explicit c p n b) y rest bs s (_, _, contents, header, F, item
   rest = rest;
   at_offset = drop-contents x y rest c _ n contents o header s F;
   encoded = subst (λ z. EncodesAll (o + header) contents z) (sym h) (EncodesAll-single (o + header) contents b item);
-  shorter = length-contents_le y c _ n contents header F;
+  shorter = length-contents_two_less y c _ n contents header F;
 }
 HeldIn-holds x o (unknown c k p n v) y rest bs s (_, header, F, _) (inl (i, q, t, f)) = record {
   place = q;
@@ -88,7 +90,7 @@ HeldIn-holds x o (unknown c k p n v) y rest bs s (_, header, F, _) (inl (i, q, t
   at_offset = subst (λ z. drop z x ≡ v ++ t.rest) (sym t.start_is)
       (drop-contents x t.octets t.rest c _ n v p t.header t.at_offset t.encoding);
   encoded = f;
-  shorter = length-contents_le y c k n v header F;
+  shorter = length-contents_two_less y c k n v header F;
 }
 HeldIn-holds x o (unknown c k p n v) y rest bs s (_, header, F, _) (inr (none, other)) =
     HeldIn-none x y c k n v header bs F none
@@ -149,7 +151,7 @@ mutual
             subst (IsStanding x) (sym (get_or-append_right front behind (length front) k no_node refl ge)) there
       ]
 
--- each node of a document's structure
+-- each node of a document's structure stands in the document
 pub IsStanding-structure : (x : List ℕ) (ns : Nodes) → IsStructure x ns → (k : ℕ) → k < length (nodes_in_order ns) →
     IsStanding x (node_at ns k)
 IsStanding-structure x ns (d, are) k h = IsStanding-nodes x ns 0 x [] (sym (append-nil x)) d.blocks are k h

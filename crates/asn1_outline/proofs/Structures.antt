@@ -1,4 +1,4 @@
--- A document has one structure.
+-- A document has one structure, for the builder of entries and the methods of `Outline`.
 use Rattle.std.proofs.Common.{◌≡◌, ℕ, suc, ◌+◌, ◌++◌, true, List, [], ◌∷◌, inl, inr, length, map, refl, sym, ap, ◌∙◌, subst}
 use Rattle.asn1_headers.proofs.Prefixes.{Encoding-unique}
 use Rattle.asn1_blocks.specs.Grammar.{EncodesAll}
@@ -6,7 +6,7 @@ use Rattle.asn1_blocks.specs.Tree.{Tree, Trees, explicit, group, leaf, more_tree
 use Rattle.asn1_blocks.proofs.OneReading.{EncodesAll-unique, AreBlocks-encodes}
 use Rattle.asn1_outline.specs.Structure.{AreNodes, Holds, IsNode, IsStructure, Node, Nodes, more_nodes, no_nodes, node, node_count, node_tree, nodes_of, nodes_trees}
 
--- the trees of nodes in a list
+-- the trees of nodes in a list are those of the list's nodes
 pub trees_of-nodes : (ns : List Node) → trees_of (map node_tree ns) ≡ nodes_trees (nodes_of ns)
 trees_of-nodes [] = refl
 trees_of-nodes (n ∷ ns) = ap (more_trees (node_tree n)) (trees_of-nodes ns)
@@ -15,7 +15,7 @@ pub node_count-nodes_of : (ns : List Node) → node_count (nodes_of ns) ≡ leng
 node_count-nodes_of [] = refl
 node_count-nodes_of (n ∷ ns) = ap suc (node_count-nodes_of ns)
 
--- one node more
+-- nodes of a document, with one node more of the document behind them, are nodes of the document
 pub AreNodes-append : (x : List ℕ) (ns : List Node) (n : Node) → AreNodes x (nodes_of ns) → IsNode x n →
     AreNodes x (nodes_of (ns ++ n ∷ []))
 AreNodes-append x [] n are is = (is, tt)

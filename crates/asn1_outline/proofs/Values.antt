@@ -1,4 +1,5 @@
--- What an entry's contents octets mean.
+-- An entry's contents octets mean the value of its tree, for the methods of `Entry` and `Outline`, and for
+-- `simple_asn1_c`.
 use Rattle.std.proofs.Common.{◌≡◌, ℕ, ◌+◌, ◌<◌, ◌≤◌, ◌^◌, ◌++◌, Bool, true, false, ◌-◌, List, [], Some, None, inl, inr, drop, get_or, length, take, refl, sym, ap, subst, ◌∙◌, arith, append_assoc, length-append}
 use Rattle.std.specs.List.{list_all, slice_range}
 use Rattle.std.specs.Prelude.{pos, ◌==◌, ◌||◌, ◌&&◌, if◌then◌else◌, Option, MatchOption}
@@ -42,12 +43,12 @@ pub record EntryContents (x : List ℕ) (b : Tree ℕ) (r : Entry) : Type 0 wher
   pub within : r.offset + r.header + r.contents ≤ length x
   pub are : slice_range x (r.offset + r.header) (r.offset + r.header + r.contents) ≡ contents
 
--- the slice where octets stand
+-- the slice where octets stand is these octets
 pub slice_range-at_offset : (x v rest : List ℕ) (s e : ℕ) → drop s x ≡ v ++ rest → length v ≡ e - s →
     slice_range x s e ≡ v
 slice_range-at_offset x v rest s e st l = ap (take (e - s)) st ∙ take_at v rest (e - s) l
 
--- the contents octets of an entry of a tree
+-- an entry of a tree has its contents octets where its fields say
 pub EntryContents-entry : (x : List ℕ) (b : Tree ℕ) (r : Entry) → IsEntryOf x b r → EntryContents x b r
 EntryContents-entry x b r e =
     let (y, at, h) = e.header in
@@ -85,7 +86,7 @@ pub SameEncoding-octets : (y : List ℕ) (c d : ASN1Class) (j k : Bool) (m n : �
     → SameEncoding y y c d j k m n v w g h [] []
 SameEncoding-octets y c d j k m n v w g h p q = Encoding-unique y y c d j k m n v w g h [] [] p q refl
 
--- a small number is the tag's
+-- a tag field below 64 is the tag number
 pub HasTag-small : (n field m : ℕ) → HasTag n field → field ≡ m → m < 64 → n ≡ m
 HasTag-small n field m (low, high) e s = elim (cases_lt n (2 ^ 64)) [
   | inl lt ↦ sym (low lt) ∙ e
@@ -98,7 +99,7 @@ leaf_integer-signed_number : (l : Leaf) (v w : List ℕ) → leaf_tag l ≡ 2 �
 leaf_integer-signed_number l v w t e m =
     ap leaf_integer (LeafContents-unique l (integer (signed_number w)) v t m (ap signed_number (sym e)))
 
--- the tree of an INTEGER's contents octets
+-- the tree of an encoding of an INTEGER has the number of its contents octets
 tree_integer-encoding : (o : ℕ) (y : List ℕ) (b : Tree ℕ) (k : Bool) (w : List ℕ) (h : ℕ) → Encodes o y b →
     Encoding y Universal k 2 w h
     → tree_integer b ≡ Some (signed_number w)
@@ -132,7 +133,7 @@ tree_integer-entry x b r e class tag =
     tree_integer-encoding (tree_offset b) c.octets b r.constructed c.contents r.header c.encoded two
     ∙ ap (λ z. Some (signed_number z)) (sym c.are)
 
--- a tree whose encoding has another class or tag number than an INTEGER is none
+-- a tree whose encoding has another class or tag number than an INTEGER is no INTEGER
 tree_integer-other_encoding : (o : ℕ) (y : List ℕ) (b : Tree ℕ) (c : ASN1Class) (k : Bool) (n : ℕ) (w : List ℕ)
     (h : ℕ) →
     Encodes o y b → Encoding y c k n w h
@@ -159,7 +160,7 @@ pub IsEntryOf-within : (x : List ℕ) (b : Tree ℕ) (r : Entry) → IsEntryOf x
     r.offset + r.header + r.contents ≤ length x
 IsEntryOf-within x b r e = (EntryContents-entry x b r e).within
 
--- the tree of an entry of class Universal with the tag of a leaf
+-- the tree of an encoding of class Universal with the tag of a leaf is this leaf
 IsLeafOf-encoding : (o : ℕ) (y : List ℕ) (b : Tree ℕ) (k : Bool) (n : ℕ) (w : List ℕ) (h : ℕ) → is_leaf_tag n ≡ true →
     Encodes o y b → Encoding y Universal k n w h
     → IsLeafOf o n w b
@@ -216,7 +217,7 @@ IsLeafOf-no_fault o n v (unknown c k p m w) fault s f = s
 is_leaf_tag-string_tag : (kind : StringKind) → (string_tag kind < 64) × (is_leaf_tag (string_tag kind) ≡ true)
 is_leaf_tag-string_tag kind = (string_tag-lt kind, is_leaf_tag-leaf_tag (text kind []))
 
--- the tree of an entry of a string is its characters
+-- the tree of an entry of a string has the string's characters
 pub tree_text-entry : (x : List ℕ) (b : Tree ℕ) (r : Entry) (kind : StringKind) (cs : List ℕ) → IsEntryOf x b r →
     r.class ≡ Universal → r.tag ≡ string_tag kind
     → TextContents (text_form kind) cs (slice_range x (r.offset + r.header) (r.offset + r.header + r.contents)) →
@@ -240,7 +241,7 @@ IsEntryOf-no_text_fault x b r kind fault e class tag f =
     (IsLeafOf-entry x b r (string_tag kind) e class tag small t)
     (of_text kind refl f)
 
--- a tree of no string
+-- a tree whose encoding is of no string has no text
 tree_text-other_encoding : (o : ℕ) (y : List ℕ) (b : Tree ℕ) (c : ASN1Class) (k : Bool) (n : ℕ) (w : List ℕ) (h : ℕ) →
     Encodes o y b → Encoding y c k n w h
     → ((kind : StringKind) → (c ≡ Universal) × (n ≡ string_tag kind) → ⊥) → tree_text b ≡ None
@@ -279,7 +280,7 @@ EachIsOfItsTree-structure x bs rs d all k h =
     let l = length-entries x 0 (nodes_in_order ns) (nodes_depths 0 ns) rs all.entries in
     IsEntryOf-node x ns rs own all.entries k (omega (arith, h, l))
 
--- a tree of class Universal with a leaf's tag alone is a leaf with it
+-- the tree of an entry with another class or tag number is no leaf with this tag number
 pub IsNoLeafWith-entry : (x : List ℕ) (b : Tree ℕ) (r : Entry) (n : ℕ) → IsEntryOf x b r → n < 64 →
     ((r.class ≡ Universal) × (r.tag ≡ n) → ⊥)
     → IsNoLeafWith n b

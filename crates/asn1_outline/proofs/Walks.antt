@@ -1,4 +1,4 @@
--- The steps of a walk over headers.
+-- The steps of a walk over headers, for the functions of `header_walk`.
 use Rattle.std.proofs.Common.{◌≡◌, ◌≢◌, ℕ, suc, ◌+◌, ◌<◌, ◌≤◌, ◌++◌, true, List, [], ◌∷◌, Err, Global, Ok, OnOk, Result, Vec, inl, inr, length, reverse, take, refl, sym, ap, ◌∙◌, subst, arith, append_assoc, append-nil, length-append}
 use Rattle.std.proofs.lemmas.Bool.{false≢true}
 use Rattle.std.specs.declared.alloc.AllocError.{AllocError}
@@ -30,7 +30,7 @@ EntryFrame = OpenFrame EntryItems
 abbrev pub Walk : Type 0
 Walk = Reader EntryBuilder EntryItems
 
--- what a frame is of says whether it is an attempt
+-- a frame that is an attempt is of another class than Universal
 class-attempt : (kind : FrameKind) (h : PlacedHeader) → IsKindOf kind h → is_attempt kind ≡ true → h.class ≢ Universal
 class-attempt Whole h is tries = absurd is
 class-attempt (Group g) h is tries = absurd (false≢true tries)
@@ -49,7 +49,7 @@ entries_from offset h items at depth =
     shape_entry offset h (shape_count items) (suc at + length (entries_of (suc at) (suc depth) items))
     depth ∷ entries_of (suc at) (suc depth) items
 
--- nothing is read yet
+-- contents octets are read up to their start, with no entries, before any step
 pub IsReadTo-start : (x : List ℕ) (s e i d : ℕ) → s ≤ e → e ≤ length x → IsReadTo x s e s i d 0 []
 IsReadTo-start x s e i d order within = record {
   from = omega arith;
@@ -62,7 +62,7 @@ IsReadTo-start x s e i d order within = record {
   counted = λ rest. omega arith;
 }
 
--- one encoding more
+-- reading one encoding more adds its entry and the entries inside it
 IsReadTo-one_more : (x : List ℕ) (s e p i d n at : ℕ) (own : List Entry) (h : PlacedHeader) (items : Shapes) →
     at ≡ i + length own → IsReadTo x s e p i d n own
     → HeaderFound x p e h → HasItems x h items → IsReadTo x s e h.end i d (n + 1) (own ++ entries_from p h items at d)
@@ -89,7 +89,7 @@ IsReadTo-one_more x s e p i d n at own h items here w f inside =
 abbrev pub with_one_counted : EntryFrame → EntryFrame
 with_one_counted f = record f { items = record f.items { count = f.items.count + 1 } }
 
--- the places of the innermost frame
+-- the offsets where the innermost frame begins, is read up to and ends, in this order and within the octets
 pub record FramePlaces (x : List ℕ) (f : EntryFrame) (p : ℕ) : Type 0 where
   pub from : f.extent.start ≤ p
   pub to : p ≤ f.extent.end
@@ -101,7 +101,7 @@ pub AreOpen-places : (x : List ℕ) (f : EntryFrame) (gs : List EntryFrame) (p :
 AreOpen-places x f [] p rs w = record { from = w.read.from; to = w.read.to; within = w.read.within }
 AreOpen-places x f (g ∷ gs) p rs w = record { from = w.read.from; to = w.read.to; within = w.read.within }
 
--- the innermost frame has one encoding more
+-- reading one encoding more in the innermost frame counts one item, and adds the entries of the encoding
 pub AreOpen-one_more : (x : List ℕ) (f : EntryFrame) (gs : List EntryFrame) (p : ℕ) (rs : List Entry) (h : PlacedHeader)
     (items : Shapes) →
     AreOpen x f gs p rs
@@ -213,7 +213,7 @@ AreOpen-close x f g gs p rs ended w =
     ∙ ap (λ z. w.front ++ with_items n (length z) head ∷ w.own) (sym w.whole) in
     subst (AreOpen x (with_one_counted g) gs p) (same ∙ sym set) at
 
--- there is an entry of the innermost frame
+-- the entry of the innermost frame is among the entries
 pub entry-lt_length : (x : List ℕ) (f g : EntryFrame) (gs : List EntryFrame) (p : ℕ) (rs : List Entry) →
     AreOpen x f (g ∷ gs) p rs → f.items.entry < length rs
 entry-lt_length x f g gs p rs w =
@@ -252,7 +252,7 @@ AreOpen-failed_attempt x f g gs p rs front more fault o whole w q tries =
     subst (λ z. AreOpen x (with_one_counted g) gs z (take (suc f.items.entry) rs)) (sym w.end)
     (subst (AreOpen x (with_one_counted g) gs h.end) (own ∙ sym cut) made)
 
--- the frame left is a group, whose fault is one of the frame around it
+-- the fault of a group that was left is one of the frame around the group
 pub record FaultGoesOut (x : List ℕ) (g : EntryFrame) (gs : List EntryFrame) (rs : List Entry) (fault : DecodeFault)
     (o : ℕ) : Type 0
   where
@@ -322,7 +322,7 @@ AreOpen-equal x f f' gs gs' p p' rs rs' a b c d w =
     (subst (λ z. AreOpen x f' z p rs) (sym b) (subst (λ z. AreOpen x z gs p rs) (sym a) w)))
 
 module _ (x : List ℕ) (w : Walk) where
-  -- a leaf is taken
+  -- the walk goes on behind a leaf
   pub GoesOn-leaf :
       (h : PlacedHeader) (b : EntryBuilder) (i : EntryItems) → IsReading x w →
       HeaderFound x w.index w.inner.extent.end h →
@@ -356,7 +356,7 @@ module _ (x : List ℕ) (w : Walk) where
         nearer = omega (arith, found.starts_after, found.order, found.ends_within, v.within);
       }
 
-  -- a frame is entered
+  -- the walk goes on inside a frame that was entered
   pub GoesOn-enter :
       (h : PlacedHeader) (b : EntryBuilder) (n : ℕ) (kind : FrameKind) (r : Walk) → IsReading x w →
       HeaderFound x w.index w.inner.extent.end h →
@@ -399,7 +399,7 @@ module _ (x : List ℕ) (w : Walk) where
     AreOpen-popped = subst (λ z. AreOpen x w.inner z faulty.reached faulty.front)
         (reverse-append_last w.outer.items outer.items g popped) faulty.opened
 
-    -- an attempt stays as it came
+    -- the walk goes on behind an attempt with a fault, which stays as it came
     pub GoesOn-failed_attempt :
         (b : EntryBuilder) (i : EntryItems) → is_attempt w.inner.extent.kind ≡ true →
         b.entries.items ≡ take (suc w.inner.items.entry) w.builder.entries.items → i ≡ with_one_more g.items →
@@ -427,7 +427,7 @@ module _ (x : List ℕ) (w : Walk) where
           nearer = omega (arith, faulty.nearer, ap length popped, length-append outer.items (g ∷ []));
         }
 
-    -- a group hands the fault on
+    -- a fault in a group goes on to the frame around it
     pub IsFaulty-enclosing : (is_attempt w.inner.extent.kind ≡ true → ⊥)
         → IsFaulty x (record { inner = g; outer = outer; index = w.index; builder = w.builder; fault = w.fault }) fault
         o most
@@ -455,7 +455,7 @@ module _ (x : List ℕ) (w : Walk) where
       HeadersFaultAt-document x w.inner faulty.reached faulty.front fault o
       (subst (λ z. AreOpen x w.inner (reverse z) faulty.reached faulty.front) none faulty.opened) faulty.stops
 
-  -- where a step leads
+  -- a step leads on, or stops where memory ran out
   pub HasTurned-stepped : (most : ℕ) (step : Result (Unit {0}) AllocError) (t : Turn) (r : Walk) → Leads step w t r →
       OnOk step (GoesOn x w most)
       → HasTurned x t r most

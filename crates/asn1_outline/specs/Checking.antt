@@ -22,7 +22,7 @@ pub record IsWalkedTo (document : List ℕ) (f : OpenContents) (reached : ℕ) :
       → HeadersFaultAt document f.start f.start f.end fault offset
 
 -- the outermost contents octets are the document
-pub record IsWhole (document : List ℕ) (f : OpenContents) (reached : ℕ) : Type 0 where
+pub record IsWalkedWhole (document : List ℕ) (f : OpenContents) (reached : ℕ) : Type 0 where
   pub start : f.start ≡ 0
   pub end : f.end ≡ length document
   pub walked : IsWalkedTo document f reached
@@ -33,7 +33,7 @@ IsAttemptAt true h = h.class ≢ Universal
 IsAttemptAt false h = h.class ≡ Universal
 
 -- contents octets are walked up to the offset reached, and those around them up to the encoding that has them
-pub record IsInside (document : List ℕ) (f g : OpenContents) (Around : ℕ → Type 0) (reached : ℕ) : Type 0 where
+pub record IsWalkedInside (document : List ℕ) (f g : OpenContents) (Around : ℕ → Type 0) (reached : ℕ) : Type 0 where
   pub offset : ℕ
   pub header : PlacedHeader
   pub found : HeaderFound document offset g.end header
@@ -45,50 +45,50 @@ pub record IsInside (document : List ℕ) (f g : OpenContents) (Around : ℕ →
   pub around : Around offset
 
 -- contents octets lie in one another, the innermost first, and all is walked up to the offset reached
-abbrev pub AreOpen : List ℕ → OpenContents → List OpenContents → ℕ → Type 0
-AreOpen document f [] reached = IsWhole document f reached
-AreOpen document f (g ∷ gs) reached = IsInside document f g (λ offset. AreOpen document g gs offset) reached
+abbrev pub AreWalked : List ℕ → OpenContents → List OpenContents → ℕ → Type 0
+AreWalked document f [] reached = IsWalkedWhole document f reached
+AreWalked document f (g ∷ gs) reached = IsWalkedInside document f g (λ offset. AreWalked document g gs offset) reached
 
 abbrev pub IsWalked : List ℕ → HeaderWalk → Type 0
-IsWalked document w = AreOpen document w.inner (reverse w.outer.items) w.index
+IsWalked document w = AreWalked document w.inner (reverse w.outer.items) w.index
 
 -- how much is left to do behind an offset: each turn goes on in the octets, or leaves contents octets
-abbrev pub left_behind : ℕ → ℕ → List OpenContents → ℕ
-left_behind size offset outer = 2 * (size - offset) + length outer
+abbrev pub work_behind : ℕ → ℕ → List OpenContents → ℕ
+work_behind size offset outer = 2 * (size - offset) + length outer
 
-abbrev pub to_do : ℕ → HeaderWalk → ℕ
-to_do size w = left_behind size w.index w.outer.items
+abbrev pub work_left : ℕ → HeaderWalk → ℕ
+work_left size w = work_behind size w.index w.outer.items
 
 -- the walk goes on, with less left to do
-pub record GoesOn (document : List ℕ) (w : HeaderWalk) (most : ℕ) : Type 0 where
+pub record WalksOn (document : List ℕ) (w : HeaderWalk) (most : ℕ) : Type 0 where
   pub walked : IsWalked document w
-  pub nearer : to_do (length document) w < most
+  pub nearer : work_left (length document) w < most
 
 -- the innermost contents octets are walked up to some offset, and there is the fault
-pub record IsFaulty (document : List ℕ) (w : HeaderWalk) (fault : DecodeFault) (offset most : ℕ) : Type 0 where
+pub record WalkIsFaulty (document : List ℕ) (w : HeaderWalk) (fault : DecodeFault) (offset most : ℕ) : Type 0 where
   pub reached : ℕ
-  pub opened : AreOpen document w.inner (reverse w.outer.items) reached
+  pub opened : AreWalked document w.inner (reverse w.outer.items) reached
   pub stops : HeadersFaultAt document w.inner.start reached w.inner.end fault offset
-  pub nearer : left_behind (length document) w.inner.end w.outer.items ≤ most
+  pub nearer : work_behind (length document) w.inner.end w.outer.items ≤ most
 
 -- memory ran out, or there is a fault at the offset reached
 abbrev pub HasFailed : List ℕ → HeaderWalk → ASN1DecodeErr → Type 0
 HasFailed document w e =
-    OutOfMemoryOr (λ fault. IsFaulty document w fault w.index (to_do (length document) w)) e
+    OutOfMemoryOr (λ fault. WalkIsFaulty document w fault w.index (work_left (length document) w)) e
 
 -- where reading a header leads
 abbrev pub HasRead : List ℕ → Result (Unit {0}) ASN1DecodeErr → HeaderWalk → ℕ → Type 0
-HasRead document (Ok u) w most = GoesOn document w most
-HasRead document (Err e) w most = HasFailed document w e × (to_do (length document) w ≤ most)
+HasRead document (Ok u) w most = WalksOn document w most
+HasRead document (Err e) w most = HasFailed document w e × (work_left (length document) w ≤ most)
 
 -- where a turn leads: the walk goes on, the document is encodings to its end, or there is a fault
-abbrev pub HasTurned : List ℕ → Result Bool ASN1DecodeErr → HeaderWalk → ℕ → Type 0
-HasTurned document (Ok true) w most = GoesOn document w most
-HasTurned document (Ok false) w most = (all : Shapes) × AreShapes document 0 (length document) all
-HasTurned document (Err e) w most = HasFailed document w e × (to_do (length document) w ≤ most)
+abbrev pub WalkHasTurned : List ℕ → Result Bool ASN1DecodeErr → HeaderWalk → ℕ → Type 0
+WalkHasTurned document (Ok true) w most = WalksOn document w most
+WalkHasTurned document (Ok false) w most = (all : Shapes) × AreShapes document 0 (length document) all
+WalkHasTurned document (Err e) w most = HasFailed document w e × (work_left (length document) w ≤ most)
 
 -- where a fault leads: the walk goes on behind an attempt, or the fault is that of the document
 abbrev pub HasRecovered : List ℕ → Bool → HeaderWalk → ASN1DecodeErr → ℕ → Type 0
-HasRecovered document true w e most = GoesOn document w most
+HasRecovered document true w e most = WalksOn document w most
 HasRecovered document false w e most =
     OutOfMemoryOr (λ fault. HeadersFaultAt document 0 0 (length document) fault w.index) e

@@ -25,12 +25,12 @@ pub record HasHeader (octets : List ℕ) (r : Entry) : Type 0 where
 abbrev pub HasHeaderAt : List ℕ → Entry → Type 0
 HasHeaderAt document r = (octets : List ℕ) × EncodingAt document r.offset octets × HasHeader octets r
 
--- the entry is of the node, which has this index and stands in so many
+-- the entry is of the node, which has this index and stands inside so many blocks
 pub record IsEntry (document : List ℕ) (n : Node) (index deep : ℕ) (r : Entry) : Type 0 where
   pub header : HasHeaderAt document r
   pub offset : r.offset ≡ tree_offset (node_tree n)
   pub items : r.items ≡ node_count (node_items n)
-  -- the index after it and all that it holds
+  -- the index after the node and all that it holds
   pub next : r.next ≡ index + length (node_in_order n)
   pub depth : r.depth ≡ deep
 
@@ -65,6 +65,6 @@ pub record AreEntriesOf (document : List ℕ) (bs : Trees ℕ) (rs : List Entry)
   pub structure : AreNodes document nodes
   pub entries : AreEntries document 0 (nodes_in_order nodes) (nodes_depths 0 nodes) rs
 
--- the octets are a document, and the entries are its
+-- the octets are a document, and the entries are those of its blocks
 abbrev pub IsOutline : List ℕ → List Entry → Type 0
 IsOutline document rs = (bs : Trees ℕ) × IsDocument document bs × AreEntriesOf document bs rs

@@ -54,7 +54,7 @@ abbrev pub builder_holds : List ℕ → EntryBuilder → List (OpenFrame EntryIt
     → Type 0
 builder_holds document b fs trees = all_hold document b.entries.items fs trees
 
--- the entry with so many items, and the index after it and them
+-- the entry with so many items, and with the index after it and all that it holds
 abbrev pub with_items : ℕ → ℕ → Entry → Entry
 with_items items next r = record {
   class = r.class;
@@ -68,6 +68,6 @@ with_items items next r = record {
   depth = r.depth;
 }
 
--- the entries, where the one at the index holds so many, and all entries after it
+-- the entries, where the one at the index has so many items, and all entries after it are inside it
 abbrev pub with_items_at : List Entry → ℕ → ℕ → List Entry
 with_items_at rs entry items = set rs entry (with_items items (length rs) (get_or rs entry no_entry))

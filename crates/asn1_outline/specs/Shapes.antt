@@ -56,13 +56,13 @@ pub record HasShapes (octets : List ℕ) (all : Shapes) : Type 0 where
   pub some : 0 < length octets
   pub shapes : AreShapes octets 0 (length octets) all
 
--- the first fault of all other octets, and its offset; 0 for no octets
+-- the first fault of octets that have no shapes, and its offset, which is 0 for no octets
 abbrev pub FirstHeaderFaultAt : List ℕ → DecodeFault → ℕ → Type 0
 FirstHeaderFaultAt octets fault offset =
     ((octets ≡ []) × (fault ≡ empty_buffer) × (offset ≡ 0))
     ⊎ HeadersFaultAt octets 0 0 (length octets) fault offset
 
--- how many stand side by side
+-- how many encodings stand side by side
 abbrev pub shape_count : Shapes → ℕ
 shape_count no_shapes = 0
 shape_count (more_shapes offset header items rest) = suc (shape_count rest)
@@ -81,7 +81,7 @@ shape_entry offset header items next depth = record {
   depth = depth;
 }
 
--- the entries of encodings that stand in so many, each before those inside it; the first has the index
+-- the entries of encodings at a depth, each before the entries inside it; the first entry has the index
 abbrev pub entries_of : ℕ → ℕ → Shapes → List Entry
 entries_of index depth no_shapes = []
 entries_of index depth (more_shapes offset header items rest) =

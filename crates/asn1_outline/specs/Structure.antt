@@ -80,7 +80,7 @@ abbrev mutual
   nodes_in_order (more_nodes n ns) = node_in_order n ++ nodes_in_order ns
 
 abbrev mutual
-  -- how many blocks each stands in: a node that stands in so many, and then those that it holds, in order
+  -- how many blocks each node stands in: a node, which stands in so many, and then those that it holds, in order
   pub node_depths : ℕ → Node → List ℕ
   node_depths depth (node b ns) = depth ∷ nodes_depths (suc depth) ns
 
@@ -95,14 +95,14 @@ no_tree = leaf 0 null
 abbrev pub no_node : Node
 no_node = node no_tree no_nodes
 
--- the node at the index among all of these, in order, and its tree
+-- the node at the index among all nodes in order, and its tree
 abbrev pub node_at : Nodes → ℕ → Node
 node_at ns index = get_or (nodes_in_order ns) index no_node
 
 abbrev pub tree_at : Nodes → ℕ → Tree ℕ
 tree_at ns index = node_tree (node_at ns index)
 
--- one block in explicit tagging
+-- whether a tree is one block in explicit tagging
 abbrev pub is_explicit : Tree ℕ → Bool
 is_explicit (leaf o l) = false
 is_explicit (group o g bs) = false

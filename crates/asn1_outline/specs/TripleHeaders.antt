@@ -9,7 +9,7 @@ use Rattle.asn1_blocks.specs.declared.parsed.PlacedHeader.{PlacedHeader}
 abbrev pub IsUniversalHeader : ℕ → PlacedHeader → Type 0
 IsUniversalHeader tag h = (h.class ≡ Universal) × (h.tag ≡ tag)
 
--- an encoding of class Universal with the tag number stands there, and has this header
+-- at the offset stands an encoding of class Universal with the tag number and this header
 abbrev pub IsUniversalAt : List ℕ → ℕ → ℕ → ℕ → PlacedHeader → Type 0
 IsUniversalAt document offset limit tag h = HeaderFound document offset limit h × IsUniversalHeader tag h
 
@@ -28,7 +28,7 @@ pub record HasTripleHeaders (document : List ℕ) (whole content algorithm ident
 abbrev pub HasNoTriple : List ℕ → Type 0
 HasNoTriple document = (w c a i s : PlacedHeader) → HasTripleHeaders document w c a i s → ⊥
 
--- these are the octets of what was signed
+-- the content is the octets of what was signed in the document
 abbrev pub IsSignedIn : List ℕ → List ℕ → Type 0
 IsSignedIn document content =
     (w : PlacedHeader) × (c : PlacedHeader) × (a : PlacedHeader) × (i : PlacedHeader) × (s : PlacedHeader)

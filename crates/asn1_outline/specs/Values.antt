@@ -25,7 +25,7 @@ IsNoLeafWith tag b = (o : ℕ) (l : Leaf) → b ≡ leaf o l → leaf_tag l ≡ 
 abbrev pub IsPrimitive : ℕ → List ℕ → Tree ℕ → Type 0
 IsPrimitive tag contents b = b ≡ unknown Universal false (tree_offset b) tag contents
 
--- the tree is of no such encoding
+-- the tree is of no primitive encoding of class Universal that stays as it came
 abbrev pub IsNoPrimitive : Tree ℕ → Type 0
 IsNoPrimitive b = (tag : ℕ) (contents : List ℕ) → IsPrimitive tag contents b → ⊥
 

@@ -17,8 +17,8 @@ use Rattle.asn1_outline.specs.declared.entry.Entry.{Entry}
 use Rattle.asn1_outline.specs.declared.listing.EntryBuilder.{EntryBuilder}
 use Rattle.asn1_outline.specs.declared.listing.EntryItems.{EntryItems}
 
--- contents octets from the start to the end are read up to the offset reached: so many encodings with these entries,
--- of which the first has the index. Whatever the rest is, they are these and the rest
+-- contents octets from the start to the end are read up to the offset reached: as many encodings as the count, with
+-- these entries, the first at the index. Whatever encodings or fault the rest has, the whole has behind what was read
 pub record IsReadTo (document : List ℕ) (start end reached index depth count : ℕ) (own : List Entry) : Type 0 where
   pub from : start ≤ reached
   pub to : reached ≤ end
@@ -75,12 +75,12 @@ abbrev pub HasStopped : List ℕ → Reader EntryBuilder EntryItems → Type 0
 HasStopped document w =
     OutOfMemoryOr (λ fault. HeadersFaultAt document 0 0 (length document) fault w.index) w.fault
 
--- the octets have these shapes
+-- the document has shapes, and the entries are those of the shapes
 abbrev pub HasEnded : List ℕ → Reader EntryBuilder EntryItems → Type 0
 HasEnded document w = (all : Shapes) × AreShapes document 0 (length document) all
     × (w.builder.entries.items ≡ entries_of 0 0 all)
 
--- where a turn leads
+-- where a turn leads: reading goes on, has ended, or has stopped
 abbrev pub HasTurned : List ℕ → Turn → Reader EntryBuilder EntryItems → ℕ → Type 0
 HasTurned document More w most = GoesOn document w most
 HasTurned document End w most = HasEnded document w

@@ -2,7 +2,7 @@
 ghost use Rattle.std.specs.Prelude.{◌≢◌, IfErr, OnOk, length};
 ghost use Rattle.asn1_headers.specs.Fault.{OutOfMemoryOr};
 ghost use Rattle.asn1_headers.specs.Reading.{OutOfMemoryOrAt};
-ghost use Rattle.asn1_outline.specs.Checking.{HasRead, HasRecovered, HasTurned, IsAttemptAt, IsFaulty, IsWalked, to_do};
+ghost use Rattle.asn1_outline.specs.Checking.{HasRead, HasRecovered, WalkHasTurned, IsAttemptAt, WalkIsFaulty, IsWalked, work_left};
 ghost use Rattle.asn1_outline.specs.Shapes.{FirstHeaderFaultAt, HasShapes, Shapes};
 
 use asn1_blocks::parsed::{PlacedHeader, header_within};
@@ -85,7 +85,7 @@ impl HeaderWalk {
     // Reads one header, or leaves contents octets at their end; `false` at the end of the document.
     fn take_turn(&mut self, alloc: Global, octets: &[u8]) -> Result<bool, ASN1DecodeErr>
         requires walked { IsWalked octets.now self.old }
-        ensures { HasTurned octets.now result self.new (to_do (length octets.now) self.old) }
+        ensures { WalkHasTurned octets.now result self.new (work_left (length octets.now) self.old) }
     {
         if self.index != self.inner.end {
             self.read_next(alloc, octets)?;
@@ -104,7 +104,7 @@ impl HeaderWalk {
     fn read_next(&mut self, alloc: Global, octets: &[u8]) -> Result<(), ASN1DecodeErr>
         requires walked { IsWalked octets.now self.old }
         requires more { self.old.index ≢ self.old.inner.end }
-        ensures { HasRead octets.now result self.new (to_do (length octets.now) self.old) }
+        ensures { HasRead octets.now result self.new (work_left (length octets.now) self.old) }
     {
         let OpenContents { start, end, .. } = self.inner;
         let mut count = HeaderCount::new();
@@ -126,9 +126,9 @@ impl HeaderWalk {
     // Whether the walk goes on behind a fault in the innermost contents octets: it does behind the innermost attempt,
     // which stays as it came. Memory that ran out ends it.
     fn recover(&mut self, _octets: &[u8], error: &ASN1DecodeErr) -> bool
-        requires failed { OutOfMemoryOr (λ fault. IsFaulty _octets.now self.old fault self.old.index
-            (to_do (length _octets.now) self.old)) error.now }
-        ensures { HasRecovered _octets.now result self.new error.now (to_do (length _octets.now) self.old) }
+        requires failed { OutOfMemoryOr (λ fault. WalkIsFaulty _octets.now self.old fault self.old.index
+            (work_left (length _octets.now) self.old)) error.now }
+        ensures { HasRecovered _octets.now result self.new error.now (work_left (length _octets.now) self.old) }
     {
         if is_out_of_memory(error) {
             return false;

@@ -207,7 +207,7 @@ impl EntryBuilder {
 
 // The entry of an encoding, which holds no blocks so far.
 #[inline(always)]
-fn encoding_entry(
+pub fn encoding_entry(
     _octets: &[u8],
     header: &PlacedHeader,
     offset: usize,

@@ -1,5 +1,5 @@
--- Where encodings stand among the entries of a document: the first of them, those inside it and those behind it. For
--- `node`.
+-- Where encodings stand among the entries of a document: the first of them, those inside it and those behind it, for
+-- `node::Items::of` and `node::Items::skip`.
 use Rattle.std.proofs.Common.{◌≡◌, ℕ, suc, ◌+◌, ◌<◌, ◌++◌, List, ◌∷◌, ap, append_assoc, arith, drop, get_or, length, sym, ◌∙◌}
 use Rattle.std.proofs.lemmas.List.{drop-drop, get_or-drop, length-drop}
 use Rattle.std.proofs.Math.Seq.{drop-append_seam}
@@ -9,22 +9,19 @@ use Rattle.asn1_outline.specs.Shapes.{Shapes, entries_of, more_shapes, shape_cou
 use Rattle.asn1_outline.specs.Triple.{entry_at}
 use Rattle.asn1_outline.specs.declared.entry.Entry.{Entry}
 use Rattle.der_account.specs.Places.{StandAt}
+use Rattle.asn1_outline.proofs.Iterating.{drop-next}
 
--- what follows the first of the rest of a list
-drop-next : (rs : List Entry) (i : ℕ) (r : Entry) (rest : List Entry) → drop i rs ≡ r ∷ rest → drop (i + 1) rs ≡ rest
-drop-next rs i r rest e = sym (drop-drop 1 i rs) ∙ ap (drop 1) e
-
--- of encodings that stand from an index on
+-- the encodings stand among the entries from the index on
 module _ (entries : List Entry) (index offset : ℕ) (header : PlacedHeader) (items rest : Shapes)
     (s : StandAt entries index (more_shapes offset header items rest)) where
-  -- the entries of those inside the first, and of those behind it
+  -- the entries of the encodings inside the first, and of those behind it
   abbrev pub inside : List Entry
   inside = entries_of (suc index) (suc s.depth) items
 
   abbrev pub after : List Entry
   after = entries_of (suc index + length inside) s.depth rest
 
-  -- the entry of the first
+  -- the entry of the first encoding
   abbrev pub first_entry : Entry
   first_entry = shape_entry offset header (shape_count items) (suc index + length inside) s.depth
 
@@ -42,7 +39,7 @@ module _ (entries : List Entry) (index offset : ℕ) (header : PlacedHeader) (it
       let some : length (drop index entries) ≡ suc (length (inside ++ (after ++ s.behind))) = ap length split-first in
       omega (arith, some, length-drop index entries)
 
-  -- what follows the first entry
+  -- behind the first entry stand those inside it, and then those behind it
   drop-suc : drop (suc index) entries ≡ inside ++ (after ++ s.behind)
   drop-suc =
       let next : index + 1 ≡ suc index = omega arith in

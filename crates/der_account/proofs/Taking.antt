@@ -1,4 +1,5 @@
--- What is left where an encoding was taken, and where none was. For `node::Items::take` and for `kind`.
+-- What is left where an encoding was taken, and where none was, for `node::Items::take`, `kind::has_fields` and
+-- `kind::take_validity`.
 use Rattle.std.proofs.Common.{◌≡◌, ◌&&◌, ◌∙◌, Bool, true, false, ap, if◌then◌else◌, subst, sym}
 use Rattle.asn1_outline.specs.Shapes.{Shapes}
 use Rattle.der_account.specs.Kinds.{Fields, ElementType, are_of, one, optional}
@@ -20,7 +21,7 @@ HasTaken-first wanted shapes items same left = record {
   left = subst (λ z. AreLeft items (if z then behind_first shapes else shapes)) (sym same) left;
 }
 
--- after the fields that were taken these are asked of what is left; of all it is asked whether they are those
+-- the fields are all there exactly if those that are left are those of the items that are left
 abbrev pub IsReached : Items → Bool → Fields → Type 0
 IsReached items all fields = (now : Shapes) × AreLeft items now × (all ≡ are_of fields now)
 

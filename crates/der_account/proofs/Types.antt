@@ -1,11 +1,12 @@
--- Fields one by one, and the types of fields inside others. For `kind`.
+-- Fields one by one, and the types of fields inside others, for the functions of `kind`.
 use Rattle.std.proofs.Common.{◌≡◌, ◌&&◌, ◌||◌, ◌∙◌, ◌∷◌, [], ℕ, Bool, List, true, false, ap, if◌then◌else◌, refl, sym}
 use Rattle.asn1_blocks.specs.declared.parsed.PlacedHeader.{PlacedHeader}
 use Rattle.asn1_outline.specs.Shapes.{Shapes, more_shapes, no_shapes}
 use Rattle.der_account.specs.Kinds.{Fields, ElementType, are_of, are_of_some, bit_string, each, is_of, no_more, one, optional, request_info, sequence, signed_kinds, some_sequence, tbs_certificate, tbs_list, time, validity_fields}
 use Rattle.der_account.specs.Places.{begin_with, behind_first, contents, signed_fields}
+use Rattle.std.proofs.lemmas.Bool.{and_right}
 
--- a field, and those behind it
+-- a field takes the first encoding, which has to be of its type, and the fields behind it take the others
 pub are_of-one : (wanted : ElementType) (fields : Fields) (shapes : Shapes) →
     are_of (one wanted fields) shapes ≡ (begin_with wanted shapes && are_of fields (behind_first shapes))
 are_of-one wanted fields no_shapes = refl
@@ -16,7 +17,7 @@ if-fields : (fields : Fields) (yes : Bool) (a b : Shapes) →
 if-fields fields true a b = refl
 if-fields fields false a b = refl
 
--- an optional one, and those behind it
+-- an optional field takes the first encoding if it is of its type, and the fields behind it take the others
 pub are_of-optional : (wanted : ElementType) (fields : Fields) (shapes : Shapes) →
     are_of (optional wanted fields) shapes
     ≡ are_of fields (if begin_with wanted shapes then behind_first shapes else shapes)
@@ -28,11 +29,7 @@ and-true : (a : Bool) → (a && true) ≡ a
 and-true true = refl
 and-true false = refl
 
-and-false : (a : Bool) → (a && false) ≡ false
-and-false true = refl
-and-false false = refl
-
--- two times
+-- the fields of a Validity are two types of time
 pub are_of-validity : (shapes : Shapes) →
     are_of validity_fields shapes ≡ (begin_with time shapes && begin_with time (behind_first shapes))
 are_of-validity no_shapes = refl
@@ -40,7 +37,7 @@ are_of-validity (more_shapes offset header items no_shapes) = refl
 are_of-validity (more_shapes offset header items (more_shapes behind after inside rest)) =
     ap (λ z. is_of time header items && z) (and-true (is_of time after inside))
 
--- of a SEQUENCE of these fields the tag alone is asked where it has them, and it is none where it has not
+-- where the items are the fields of a SEQUENCE, its tag alone is asked, and where they are not, it is not of the type
 pub is_of-sequence : (fields : Fields) (header : PlacedHeader) (items : Shapes) → are_of fields items ≡ true →
     is_of (sequence fields) header items ≡ is_of some_sequence header items
 is_of-sequence fields header items same =
@@ -49,9 +46,9 @@ is_of-sequence fields header items same =
 pub is_of-no_sequence : (fields : Fields) (header : PlacedHeader) (items : Shapes) → are_of fields items ≡ false →
     is_of (sequence fields) header items ≡ false
 is_of-no_sequence fields header items other =
-    ap (λ z. is_of some_sequence header items && z) other ∙ and-false (is_of some_sequence header items)
+    ap (λ z. is_of some_sequence header items && z) other ∙ and_right (is_of some_sequence header items) false refl
 
--- encodings are the fields of the first of some, or of a later one
+-- encodings are the fields of one of several kinds if they are those of the first, or of a later one
 pub are_of_some-first : (fields : Fields) (others : List Fields) (shapes : Shapes) → are_of fields shapes ≡ true →
     true ≡ are_of_some (fields ∷ others) shapes
 are_of_some-first fields others shapes same = sym (ap (λ z. z || are_of_some others shapes) same)

@@ -18,15 +18,15 @@ mutual
     -- a SEQUENCE (X.690 8.9) of these fields
     sequence : Fields → ElementType
 
-  -- what it asks of the encodings that the contents octets of a SEQUENCE are
+  -- what a definition asks of the encodings that the contents octets of a SEQUENCE are
   pub data Fields : Type 0 where
-    -- nothing: any may follow
+    -- nothing: any encodings may follow
     and_more : Fields
-    -- none follows
+    -- no encoding follows
     no_more : Fields
-    -- a field, and then these
+    -- a field, and then these fields
     one : ElementType → Fields → Fields
-    -- an OPTIONAL field, and then these
+    -- an OPTIONAL field, and then these fields
     optional : ElementType → Fields → Fields
 
 abbrev pub is_universal : ASN1Class → Bool
@@ -133,19 +133,19 @@ ec_key = each (integer ∷ octet_string ∷ []) and_more
 abbrev pub encrypted_key : Fields
 encrypted_key = each (some_sequence ∷ octet_string ∷ []) no_more
 
--- the encodings are the fields of one of these
+-- the encodings are the fields of one of these kinds
 abbrev pub are_of_some : List Fields → Shapes → Bool
 are_of_some [] _ = false
 are_of_some (fields ∷ others) shapes = are_of fields shapes || are_of_some others shapes
 
--- what an account can be of
+-- the kinds of documents that an account can be of
 abbrev pub signed_kinds : List Fields
 signed_kinds = signed tbs_certificate ∷ signed tbs_list ∷ signed request_info ∷ []
 
 abbrev pub key_kinds : List Fields
 key_kinds = public_key ∷ private_key ∷ rsa_key ∷ ec_key ∷ encrypted_key ∷ []
 
--- the first encoding of a document is a SEQUENCE of the fields of one of these
+-- the first encoding of a document is a SEQUENCE of the fields of one of the known kinds
 abbrev pub is_known : Shapes → Bool
 is_known no_shapes = false
 is_known (more_shapes offset header items rest) =

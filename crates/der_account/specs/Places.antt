@@ -37,7 +37,7 @@ abbrev pub begin_with : ElementType → Shapes → Bool
 begin_with wanted no_shapes = false
 begin_with wanted (more_shapes offset header items rest) = is_of wanted header items
 
--- what stands behind the first
+-- the encodings behind the first
 abbrev pub behind_first : Shapes → Shapes
 behind_first no_shapes = no_shapes
 behind_first (more_shapes offset header items rest) = rest

@@ -7,7 +7,7 @@ use Rattle.der_io.specs.Escaped.{all_escaped, escape_of_other}
 abbrev pub IsShown : List ℕ → Type 0
 IsShown text = ∥ ((characters : List ℕ) × (text ≡ all_escaped escape_of_other characters)) ∥₁
 
--- lines, one after another, each of which is shown so
+-- lines, one after another, each of which is text that is shown, and a line feed
 pub data AreLines : List ℕ → Type 0 where
   no_line : AreLines []
   line_more : {before line : List ℕ} → AreLines before → IsShown line → AreLines (before ++ (line ++ 10 ∷ []))

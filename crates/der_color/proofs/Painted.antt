@@ -1,4 +1,4 @@
--- Pieces that are pushed one after another, for `paint::push_painted` and for lines that are made of such texts.
+-- Pieces that are pushed one after another, for `paint::push_painted`, `paint::push_plain` and `der_rows`.
 use Rattle.std.proofs.Common.{◌≡◌, ℕ, List, [], ◌∷◌, ◌++◌, ap, append-nil, append_assoc, refl, sym, ◌∙◌}
 use Rattle.std.specs.List.{flat_map}
 use Rattle.std.proofs.lemmas.Grind.{flat_map-append}
@@ -12,11 +12,11 @@ text_in-append (paint p ∷ ps) qs = text_in-append ps qs
 text_in-append (part octets ∷ ps) qs =
     ap (λ z. octets ++ z) (text_in-append ps qs) ∙ sym (append_assoc octets (text_in ps) (text_in qs))
 
--- nothing was pushed
+-- where nothing is pushed, no text is
 pub Paints-nil : (a : List ℕ) → Paints [] a a
 Paints-nil a = record { pieces = []; text_is = refl; after_is = sym (append-nil a) }
 
--- one text and then another
+-- two texts pushed one after the other are pushed joined
 pub Paints-append : (s t a b c : List ℕ) → Paints s a b → Paints t b c → Paints (s ++ t) a c
 Paints-append s t a b c one next = record {
   pieces = one.pieces ++ next.pieces;
@@ -41,7 +41,7 @@ Paints-sequence p a b e = record {
 pub Paints-equal_text : (s t a b : List ℕ) → s ≡ t → Paints s a b → Paints t a b
 Paints-equal_text s t a b e h = record { pieces = h.pieces; text_is = h.text_is ∙ e; after_is = h.after_is }
 
--- a text as it is
+-- a text that is pushed as it is makes a piece of exactly this text
 pub Paints-part : (t a b : List ℕ) → b ≡ a ++ t → Paints t a b
 Paints-part t a b e = record {
   pieces = part t ∷ [];
@@ -49,7 +49,7 @@ Paints-part t a b e = record {
   after_is = e ∙ ap (λ z. a ++ z) (sym (append-nil t));
 }
 
--- a text in a color
+-- a text that is pushed between escape sequences makes pieces of exactly this text
 pub Paints-in_color :
     (p : Paint) (t a b c d : List ℕ) → b ≡ a ++ sequence p → c ≡ b ++ t → d ≡ c ++ sequence Plain → Paints t a d
 Paints-in_color p t a b c d e f g =

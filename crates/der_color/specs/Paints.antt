@@ -4,7 +4,7 @@ use Rattle.std.specs.List.{flat_map}
 use Rattle.der_color.specs.declared.paint.Paint.{Paint}
 use Rattle.der_color.specs.declared.paint.Paint.TheVariants.{Bold, Cyan, Dim, Plain, Red}
 
--- ESC, `[`, a number and `m`, by which a terminal shows what follows so (ECMA-48 8.3.117)
+-- ESC, `[`, a number and `m`, by which a terminal shows what follows in this way (ECMA-48 8.3.117)
 abbrev pub sequence : Paint → List ℕ
 sequence Dim = 27 ∷ codes "[2m"
 sequence Cyan = 27 ∷ codes "[36m"
@@ -17,7 +17,7 @@ pub data Piece : Type 0 where
   paint : Paint → Piece
   part : List ℕ → Piece
 
--- what is written of it
+-- what is written of a piece
 abbrev pub written : Piece → List ℕ
 written (paint p) = sequence p
 written (part octets) = octets

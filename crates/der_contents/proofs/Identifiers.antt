@@ -3,7 +3,7 @@ use Rattle.std.proofs.Common.{◌≡◌, ℕ, ◌+◌, ◌*◌, ◌≤◌, List,
 use Rattle.asn1_leaves.specs.Contents.ObjectIdentifier.{ObjectIdentifierContents}
 use Rattle.der_contents.specs.Values.{HasShortFront}
 
--- an octet that others of its subidentifier follow is none
+-- where the first octet is 128 or more, the first two components do not stand in one octet
 pub HasShortFront-none :
     (components contents : List ℕ) (octet : ℕ) (rest : List ℕ) → ObjectIdentifierContents components contents →
     contents ≡ octet ∷ rest → 128 ≤ octet → HasShortFront components → ⊥

@@ -1,4 +1,4 @@
--- What contents octets that have a value encode, for `piece::leaf` and for `der_json`.
+-- What contents octets that have a value encode, for `der_pieces` and `der_json`.
 use Rattle.std.proofs.Common.{◌≡◌, ◌≢◌, ◌⊎◌, inl, inr, ℕ, Bool, true, false, List, refl, sym, ◌∙◌, subst}
 use Rattle.std.proofs.lemmas.Bool.{false≢true}
 use Rattle.asn1_headers.specs.Header.{Encoding}
@@ -28,7 +28,7 @@ is_gone_into-group_tag false Set = refl
 
 module _ (octets contents : List ℕ) (class : ASN1Class) (constructed : Bool) (tag header : ℕ)
     (e : Encoding octets class constructed tag contents header) where
-  -- a leaf
+  -- an encoding whose contents octets mean a leaf encodes this leaf
   pub Encodes-leaf : (l : Leaf) → IsLeaf class tag contents l → Encodes 0 octets (leaf 0 l)
   Encodes-leaf l (u, t, means) = (
     refl,
@@ -40,7 +40,7 @@ module _ (octets contents : List ℕ) (class : ASN1Class) (constructed : Bool) (
     means,
   )
 
-  -- what stays as it came
+  -- an encoding of class Universal with a tag of no leaf, and not gone into, encodes what stays as it came
   pub Encodes-unknown : class ≡ Universal → is_leaf_tag tag ≡ false → is_gone_into class constructed tag ≡ false →
       Encodes 0 octets (unknown class constructed 0 tag contents)
   Encodes-unknown u none closed = elim (TagKind-total tag) [

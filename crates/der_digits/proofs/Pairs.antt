@@ -9,7 +9,7 @@ use Rattle.hex.specs.Hex.{decode_of, decode_pairs, digit_or_error, hex_digit_val
 use Rattle.hex.specs.declared.error.FromHexError.{FromHexError}
 use Rattle.der_digits.specs.Decoded.{octet_of, octets_of_pairs}
 
--- two digits, if they are some, and what those behind them spell
+-- two digits, if both are digits, decode to an octet before what the digits behind them spell
 decode_pair-ok :
     (a b i : ℕ) (high low : Option ℕ) (r : Result (List ℕ) FromHexError) →
     result_ok ((digit_or_error a i high >>= (λ h. digit_or_error b (i + 1) low >>= (λ l. Ok (h * 16 + l))))
@@ -42,7 +42,7 @@ octets_of_pairs-odd (a ∷ []) odd = refl
 octets_of_pairs-odd (a ∷ b ∷ digits) odd =
     none-behind (octet_of a b) (octets_of_pairs digits) (octets_of_pairs-odd digits (omega (arith, odd)))
 
--- what digits spell
+-- digits decode to the octets that they spell in pairs, if they do
 pub decode_of-spelled : (digits : List ℕ) → result_ok (decode_of digits) ≡ octets_of_pairs digits
 decode_of-spelled digits =
     elim (cases_eq (length digits % 2) 1) [
@@ -55,13 +55,13 @@ ok-from_some :
 ok-from_some (Ok x) octets e = ap (λ o. Ok (unwrap_or o [])) e
 ok-from_some (Err x) octets e = cc e
 
--- digits that spell octets
+-- digits that spell octets in pairs decode to these octets
 pub decode_of-from_pairs :
     (digits octets : List ℕ) → octets_of_pairs digits ≡ Some octets → decode_of digits ≡ Ok octets
 decode_of-from_pairs digits octets e =
     ok-from_some (decode_of digits) octets (decode_of-spelled digits ∙ e)
 
--- an octet before those of the digits behind it
+-- an octet before those of digits stays before them where more digits follow
 append-octet :
     (o : Option ℕ) (first : Option (List ℕ)) (rest all : Option (List ℕ)) (octets : List ℕ) →
     option_and_then (λ octet. option_map (λ more. octet ∷ more) first) o ≡ Some octets →
@@ -78,7 +78,7 @@ option_map-nil : (o : Option (List ℕ)) → o ≡ option_map (λ others. [] ++ 
 option_map-nil (Some x) = refl
 option_map-nil None = refl
 
--- digits behind those that spell octets
+-- digits behind those that spell octets spell more octets behind these
 pub octets_of_pairs-append :
     (digits more octets : List ℕ) → octets_of_pairs digits ≡ Some octets →
     octets_of_pairs (digits ++ more) ≡ option_map (λ others. octets ++ others) (octets_of_pairs more)

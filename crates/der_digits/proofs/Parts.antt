@@ -1,4 +1,4 @@
--- What stands before a part of a text, and behind it, for `lines` and `source_text`.
+-- What stands before a part of a text, and behind it, for `source_text::behind_equals` and `source_text::spelling_in`.
 use Rattle.std.proofs.Common.{◌≡◌, ◌+◌, ◌-◌, ◌<◌, ◌≤◌, ℕ, suc, Bool, true, false, List, [], ◌∷◌, drop, take, length, sym, ap, ◌∙◌, refl, arith}
 use Rattle.std.specs.Prelude.{codes}
 use Rattle.std.proofs.lemmas.Bool.{lt-ltb}
@@ -21,7 +21,7 @@ length-up_to-le part [] = omega arith
 length-up_to-le part (b ∷ text) =
     length-up_to_cons part b text (begins part (b ∷ text)) refl (length-up_to-le part text)
 
--- where `=` stands, so much stands behind it
+-- where `=` stands in a text, what follows it is found by the length of what stands before it
 pub behind_equals-some : (text part : List ℕ) → part ≡ up_to (codes "=") text → length part < length text
     → take (length text - (length part + 1)) (drop (length part + 1) text) ≡ behind_equals text
 behind_equals-some text part e h =

@@ -36,7 +36,7 @@ list_all-else :
 list_all-else true r all digits h e = cc e
 list_all-else false r all digits h e = list_all-if r all digits h e
 
--- what is read before an offset has the symbols before it
+-- where the symbols before an offset are not all digits, the symbols with the lines left out are not either
 list_all-before :
     (is_left_out : Bool) (before last : List ℕ) (offset : Option ℕ) (digits : List ℕ) →
     list_all is_ascii_hexdigit before ≡ false → digits_before is_left_out before last offset ≡ Some digits →
@@ -67,7 +67,7 @@ decoded-behind is_octal before last is_left_out (line ∷ lines) h =
     (λ digits e. decoded-behind is_octal (digits ++ column) column false lines
     (list_all-front digits column (list_all-before is_left_out before last offset digits h e)))))
 
--- a line does not agree with its offset
+-- lines of which the first does not agree with its offset spell nothing
 pub decoded-not_reached :
     (decoder : HexDecoder) (is_octal is_left_out : Bool) (before last line : List ℕ) (lines : List (List ℕ)) →
     leaves_out line ≡ false → list_all is_ascii_whitespace line ≡ false →
@@ -94,7 +94,7 @@ GoesOn-at true rows reached is_octal column lines (Some digits) has read same be
 GoesOn-at false rows reached is_octal column lines (Some digits) has read same behind =
     decoded-behind is_octal (digits ++ column) column false lines (read digits has)
 
--- a line agrees with its offset
+-- reading goes on behind a line that agrees with its offset
 pub GoesOn-reached :
     (are_read : Bool) (rows : Rows) (reached : HexDecoder) (is_octal is_left_out : Bool) (before last line : List ℕ)
     (lines : List (List ℕ)) → leaves_out line ≡ false → list_all is_ascii_whitespace line ≡ false →

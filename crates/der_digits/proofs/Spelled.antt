@@ -38,13 +38,13 @@ pub length-pairs :
 length-pairs digits octets e =
     let (even, hex, size, bytes) = decode_of-ok digits octets (decode_of-from_pairs digits octets e) in size
 
--- with a digit behind them they are one more
+-- pairs of digits with one digit behind them are one more than twice as many as their octets
 pub length-one_more :
     (octets digits : List ℕ) (value : ℕ) → ArePairs octets (Some value) digits → length digits ≡ 2 * length octets + 1
 length-one_more octets digits value (pairs, digit, e, is, read) =
     rw e (length-append pairs (digit ∷ []) ∙ ap (λ n. n + 1) (length-pairs pairs octets read))
 
--- the second digit of a pair comes
+-- with the second digit of a pair one octet more is spelled
 pub ArePairs-second :
     (octets digits : List ℕ) (high symbol value : ℕ) → ArePairs octets (Some high) digits →
     hex_digit_value symbol ≡ Some value →
@@ -74,7 +74,7 @@ decoded-pairs digits octets e some =
       decode_of-from_pairs digits octets e,
     ) refl
 
--- no pairs spell nothing
+-- pairs without octets spell nothing
 pub decoded-none :
     (digits octets : List ℕ) → octets_of_pairs digits ≡ Some octets → length octets ≡ 0 →
     decoded (Some digits) ≡ None
@@ -95,7 +95,7 @@ decoded-odd octets digits value (pairs, digit, e, is, read) =
       decode_of-odd digits (omega (arith, size)),
     ) refl
 
--- symbols of which one is no digit
+-- symbols of which one is no digit spell nothing
 pub decoded-not_hex :
     (symbols : List ℕ) → list_all is_ascii_hexdigit symbols ≡ false → decoded (Some symbols) ≡ None
 decoded-not_hex [] h = refl
@@ -106,7 +106,7 @@ pub list_all-front :
     list_all is_ascii_hexdigit (front ++ back) ≡ false
 list_all-front front back h = list_all-append is_ascii_hexdigit front back ∙ rw h refl
 
--- symbols of a text, of which those up to some place are not all digits
+-- symbols of a text, of which those up to some place are not all digits, spell nothing
 pub decoded-not_read :
     (before part later all : List ℕ) → list_all is_ascii_hexdigit (before ++ part) ≡ false →
     before ++ (part ++ later) ≡ all → decoded (Some all) ≡ None

@@ -1,4 +1,4 @@
--- Digits so many times, one of which comes first, for `left_out::read_times`.
+-- Digits that are read as often as they are repeated, one repetition after another, for `left_out::read_times`.
 use Rattle.std.proofs.Common.{◌≡◌, ◌∙◌, ◌++◌, ◌-◌, ◌<◌, ◌≤◌, ℕ, zero, suc, List, ap, append_assoc, append-nil, arith, sym}
 use Rattle.der_digits.specs.Columns.{times}
 
@@ -15,7 +15,7 @@ pub append-once :
 append-once read last all left some e =
     append_assoc read last (times (left - 1) last) ∙ ap (λ z. read ++ z) (sym (times-positive left last some)) ∙ e
 
--- they were read often enough
+-- no repetition is left to read
 pub append-no_more : (read last all : List ℕ) (left : ℕ) → left ≤ 0 → read ++ times left last ≡ all → read ≡ all
 append-no_more read last all zero none e = sym (append-nil read) ∙ e
 append-no_more read last all (suc left) none e = absurd (omega (arith, none))

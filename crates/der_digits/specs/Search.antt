@@ -3,7 +3,7 @@ use Rattle.std.specs.Prelude.{ℕ, Bool, false, ◌==◌, nat_lt, List, [], ◌�
 use Rattle.std.specs.Char.{is_ascii_whitespace}
 use Rattle.std.specs.List.{list_all, prefix_len, starts_with}
 
--- the text begins so
+-- the text begins with the part
 abbrev pub begins : List ℕ → List ℕ → Bool
 begins part text = starts_with (λ a b. a == b) text part
 
@@ -21,7 +21,7 @@ all_of_some test (b ∷ octets) = list_all test (b ∷ octets)
 abbrev pub without_indent : List ℕ → List ℕ
 without_indent line = drop (prefix_len is_ascii_whitespace line) line
 
--- what stands before the part, or all where it does not stand there
+-- what stands before the part, or all of a text in which it does not stand
 abbrev pub up_to : List ℕ → List ℕ → List ℕ
 up_to part [] = []
 up_to part (b ∷ text) = if begins part (b ∷ text) then [] else b ∷ up_to part text

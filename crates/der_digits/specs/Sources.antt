@@ -51,7 +51,7 @@ behind_equals text =
 abbrev pub first_value : List ℕ → List ℕ
 first_value text = up_to (codes ";") (behind_equals text)
 
--- what stands behind it
+-- what stands behind the value of the first statement
 abbrev pub later_text : List ℕ → List ℕ
 later_text text = drop (length (first_value text)) (behind_equals text)
 

@@ -13,7 +13,7 @@ abbrev pub decoded : Option (List ℕ) → Option (Result (List ℕ) FromHexErro
 decoded None = None
 decoded (Some symbols) = if all_of_some is_ascii_hexdigit symbols then Some (decode_of symbols) else None
 
--- the symbols spell so
+-- the spelling is what the symbols spell
 abbrev pub IsSpelling : Spelling → Option (List ℕ) → Type 0
 IsSpelling (Octets octets) symbols = decoded symbols ≡ Some (Ok octets.items)
 IsSpelling Odd symbols = decoded symbols ≡ Some (Err OddLength)

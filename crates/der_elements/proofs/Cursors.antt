@@ -9,7 +9,7 @@ use Rattle.der_elements.specs.declared.cursor.Left.{Left}
 use Rattle.der_elements.specs.declared.cursor.Step.{Step}
 use Rattle.der_elements.specs.declared.cursor.Step.TheVariants.{Into, Out, Past}
 
--- the end of contents octets around
+-- without the innermost end, the ends are those of the contents octets around
 pub drop-ends_of : (m : Cursor) (left : Left) (at : IsLeftOf m left) → drop 1 (ends_of m) ≡ at.around
 drop-ends_of m left at = ap (drop 1) at.ends_are
 
@@ -106,7 +106,7 @@ octets-step m n (Into header size indefinite) (o, g, e) = o
 octets-step m n (Past size) (o, g, e) = o
 octets-step m n (Out size) (o, g, e) = o
 
--- how deep a cursor is
+-- the depth of a cursor is how many contents octets are open around the innermost
 pub length-ends : (m : Cursor) (left : Left) (at : IsLeftOf m left) → length m.ends.items - 1 ≡ length at.around
 length-ends m left at =
     let e : length (ends_of m) ≡ suc (length at.around) = ap length at.ends_are in

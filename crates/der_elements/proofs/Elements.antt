@@ -2,7 +2,7 @@
 use Rattle.std.proofs.Common.{◌≡◌, ℕ, zero, suc, ◌+◌, ◌-◌, ◌<◌, ◌≤◌, min, Bool, Bor, true, false, List, [], ◌∷◌, ◌++◌, inr}
 use Rattle.std.proofs.Common.{drop, length, take, refl, sym, ap, ◌∙◌, subst, append_assoc, length-append, eqb-true, arith}
 use Rattle.std.proofs.lemmas.Bool.{and_parts}
-use Rattle.std.proofs.lemmas.List.{drop_at, take-append-drop}
+use Rattle.std.proofs.lemmas.List.{take-append-drop}
 use Rattle.std.specs.Prelude.{◌↔◌, ◌==◌, not, IfNone, IfSome, MatchOption, None, Option, Some}
 use Rattle.asn1_headers.proofs.Prefixes.{Encoding-unique, IsIdentifier-unique, IsIdentifier-not_empty, IsLength-unique}
 use Rattle.asn1_headers.specs.Front.{BeginsWithHeader, HasIndefiniteForm, HasNoHeader}
@@ -14,8 +14,9 @@ use Rattle.der_elements.specs.Elements.{ElementAt, HasContents, HasNoContents, H
 use Rattle.der_elements.specs.Elements.{StandsBehindIndefinite, end_octets, no_more, of_definite_form, of_definite_length}
 use Rattle.der_elements.specs.Elements.{of_indefinite_form, of_indefinite_length, one_more}
 use Rattle.der_elements.specs.SeekSteps.{Closes}
+use Rattle.asn1_blocks.proofs.EncodingSizes.{IsEncoding-two_le, EncodingAt-append}
 
--- what begins with end-of-contents octets
+-- octets that begin with end-of-contents octets are two octets 0 and what stands behind them
 pub begins_with_end-cons : (xs : List ℕ) → begins_with_end xs ≡ true → xs ≡ 0 ∷ 0 ∷ drop 2 xs
 begins_with_end-cons [] e =
     let never : false ≡ true = e in
@@ -37,24 +38,8 @@ begins_with_end-append [] ys l = absurd (omega (arith, l))
 begins_with_end-append (a ∷ []) ys l = absurd (omega (arith, l))
 begins_with_end-append (a ∷ b ∷ xs) ys l = refl
 
-IsLength-some : (xs : List ℕ) (n : ℕ) → IsLength xs n → 0 < length xs
-IsLength-some [] n h = absurd h
-IsLength-some (x ∷ xs) n h = omega arith
-
-IsEncoding-two_octets : (xs : List ℕ) → IsEncoding xs → 2 ≤ length xs
-IsEncoding-two_octets xs e =
-    let f = e.encoding in
-    omega (
-      arith,
-      ap length f.whole,
-      length-append f.identifier (f.len ++ e.contents),
-      length-append f.len e.contents,
-      IsIdentifier-not_empty f.identifier e.class e.constructed e.tag f.identifier_octets,
-      IsLength-some f.len (length e.contents) f.length_octets,
-    )
-
 IsElement-two_octets : (xs : List ℕ) → IsElement xs → 2 ≤ length xs
-IsElement-two_octets xs (of_definite_form not e) = IsEncoding-two_octets xs e
+IsElement-two_octets xs (of_definite_form not e) = IsEncoding-two_le xs e
 IsElement-two_octets xs (of_indefinite_form contents (identifier, e, (class, tag, i)) more) =
     omega (
       arith,
@@ -66,7 +51,7 @@ IsElement-two_octets xs (of_indefinite_form contents (identifier, e, (class, tag
 pub HasIndefiniteForm-behind : (xs behind : List ℕ) → StandsBehindIndefinite xs behind → HasIndefiniteForm xs
 HasIndefiniteForm-behind xs behind (identifier, e, is) = (identifier, behind, e, is)
 
--- what stands behind a header of the indefinite form is one
+-- at most one rest of octets stands behind a header of the indefinite form
 pub StandsBehindIndefinite-unique :
     (xs a b : List ℕ) → StandsBehindIndefinite xs a → StandsBehindIndefinite xs b → a ≡ b
 StandsBehindIndefinite-unique xs a b (identifier, e, (class, tag, i)) (identifier', e', (class', tag', i')) =
@@ -108,7 +93,7 @@ HasIndefiniteForm-append : (xs ys : List ℕ) → HasIndefiniteForm xs → HasIn
 HasIndefiniteForm-append xs ys (identifier, behind, e, is) =
     (identifier, behind ++ ys, ap (λ z. z ++ ys) e ∙ append_assoc identifier (128 ∷ behind) ys, is)
 
--- the first of elements stands at the front
+-- elements before end-of-contents octets begin with the first element
 append-regrouped : (first rest more : List ℕ) → (first ++ rest) ++ 0 ∷ 0 ∷ more ≡ first ++ (rest ++ 0 ∷ 0 ∷ more)
 append-regrouped first rest more = append_assoc first rest (0 ∷ 0 ∷ more)
 
@@ -148,7 +133,7 @@ module _ (xs : List ℕ) (not : begins_with_end xs ≡ false) where
   begins_with_end-first_element first rest e element =
       sym (begins_with_end-append first rest (IsElement-two_octets first element)) ∙ (sym (ap begins_with_end e) ∙ not)
 
-  -- inside an element of the indefinite form at the front
+  -- behind the header of an element of the indefinite form, its contents octets are open as well
   pub Closes-inside :
       (depth : ℕ) (behind : List ℕ) → StandsBehindIndefinite xs behind → (after : List ℕ) →
       Closes (suc depth) xs after ↔ Closes (suc (suc depth)) behind after
@@ -190,7 +175,7 @@ module _ (xs : List ℕ) (not : begins_with_end xs ≡ false) where
           )
 
   module _ (definite : HasIndefiniteForm xs → ⊥) where
-    -- behind an encoding at the front
+    -- contents octets close behind an encoding at the front exactly if they do from the front on
     pub Closes-behind_encoding :
         (depth : ℕ) (part left : List ℕ) → xs ≡ part ++ left → IsEncoding part → (after : List ℕ) →
         Closes (suc depth) xs after ↔ Closes (suc depth) left after
@@ -224,7 +209,7 @@ module _ (xs : List ℕ) (not : begins_with_end xs ≡ false) where
               later,
             )
 
-    -- and where none stands there
+    -- octets close no contents octets where no encoding stands at their front
     pub Closes-no_encoding :
         (depth : ℕ) → HasNoEncodingAt xs 0 → (after : List ℕ) → Closes (suc depth) xs after → ⊥
     Closes-no_encoding depth none after (contents, more, e, no_more empty, later) =
@@ -275,7 +260,7 @@ take-length_minus xs first rest e =
     ap (λ k. take k xs) n ∙ (ap (take (length first)) e ∙ take-length_append first rest)
 
 module _ (xs behind : List ℕ) (standing : StandsBehindIndefinite xs behind) where
-  -- one of the indefinite form ends where its contents octets end
+  -- an element of the indefinite form ends where its contents octets end
   pub ElementAt-indefinite :
       (after : List ℕ) → Closes 1 behind after → ElementAt xs (take (length xs - length after) xs)
   ElementAt-indefinite after (contents, more, e, inside, f) =
@@ -309,17 +294,7 @@ module _ (xs behind : List ℕ) (standing : StandsBehindIndefinite xs behind) wh
           ∙ append_assoc contents end_octets at.rest in
           none at.rest (contents, at.rest, is, inside, refl)
 
-append-drop_part :
-    (xs part ys : List ℕ) → EncodingAt xs 0 part → ys ≡ drop (min (length part) (length xs)) xs → xs ≡ part ++ ys
-append-drop_part xs part ys at is =
-    let fits : length part ≤ length xs = omega (arith, ap length at.at_offset, length-append part at.rest) in
-    let least : min (length part) (length xs) ≡ length part = omega (arith, fits) in
-    let rest : ys ≡ at.rest =
-    is ∙ (ap (λ m. drop m xs) least
-    ∙ (ap (drop (length part)) at.at_offset ∙ drop_at part at.rest (length part) refl)) in
-    at.at_offset ∙ ap (λ z. part ++ z) (sym rest)
-
--- what is passed where some contents octets are open
+-- behind end-of-contents octets, the contents octets around are open
 pub Closes-past_end :
     (depth around : ℕ) (xs ys : List ℕ) → 0 < depth → around ≡ depth - 1 → begins_with_end xs ≡ true →
     ys ≡ drop 2 xs → (after : List ℕ) → Closes depth xs after ↔ Closes around ys after
@@ -344,7 +319,7 @@ pub Closes-past_encoding :
     Closes depth xs after ↔ Closes depth ys after
 Closes-past_encoding zero xs part ys some not definite at e after = absurd (omega (arith, some))
 Closes-past_encoding (suc depth) xs part ys some not definite at e after =
-    Closes-behind_encoding xs not definite depth part ys (append-drop_part xs part ys at e) at.encoding after
+    Closes-behind_encoding xs not definite depth part ys (EncodingAt-append xs part ys at e) at.encoding after
 
 pub Closes-nothing :
     (depth : ℕ) (xs : List ℕ) → 0 < depth → begins_with_end xs ≡ false → (HasIndefiniteForm xs → ⊥) →
@@ -352,14 +327,14 @@ pub Closes-nothing :
 Closes-nothing zero xs some not definite none after h = absurd (omega (arith, some))
 Closes-nothing (suc depth) xs some not definite none after h = Closes-no_encoding xs not definite depth none after h
 
--- an element of the definite form, or none
+-- what was found as an encoding of the definite form is the element at the front, and otherwise there is none
 pub MatchOption-element :
     (xs : List ℕ) (r : Option (Bor (List ℕ))) → (HasIndefiniteForm xs → ⊥) → IfSome r (λ o. EncodingAt xs 0 o.now) →
     IfNone r (HasNoEncodingAt xs 0) → MatchOption r (HasNoElement xs) (λ o. ElementAt xs o.now)
 MatchOption-element xs None definite found none = HasNoElement-no_encoding xs definite none
 MatchOption-element xs (Some o) definite found none = ElementAt-encoding xs definite o.now found
 
--- contents octets
+-- what was found before end-of-contents octets is the contents octets, and otherwise there are none
 pub MatchOption-contents :
     (xs behind : List ℕ) (r : Option (Bor (List ℕ))) → StandsBehindIndefinite xs behind →
     MatchOption r ((contents : List ℕ) → behind ≡ contents ++ end_octets → ⊥)
@@ -374,7 +349,7 @@ MatchOption-contents xs behind None standing none = λ contents h. without conte
     without contents (of_indefinite_length here) =
         none contents (StandsBehindIndefinite-unique xs behind (contents ++ end_octets) standing here)
 
--- a header of the indefinite form
+-- what stands behind a header with the indefinite form stands behind a header of the indefinite form
 pub StandsBehindIndefinite-header :
     (xs : List ℕ) (s n : ℕ) (c : ASN1Class) (k : Bool) (t : ℕ) → BeginsWithHeader xs s n c k t →
     HasIndefiniteForm xs → StandsBehindIndefinite xs (drop s xs)

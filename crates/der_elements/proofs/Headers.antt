@@ -6,7 +6,7 @@ use Rattle.asn1_headers.specs.Front.{IsAtFront}
 use Rattle.asn1_headers.specs.declared.whole_header.Header.{Header}
 use Rattle.der_elements.specs.Headers.{StandsBehindHeader}
 
--- a header that was read
+-- the octets of a header that was read are a header
 pub IsHeader-front : (octets : List ℕ) (header : Header) → IsAtFront octets header → IsHeader (take header.size octets)
 IsHeader-front octets header h = (
   h.identifier,
@@ -16,7 +16,7 @@ IsHeader-front octets header h = (
   (header.announced, h.length_octets),
 )
 
--- what stands behind it
+-- behind a header that was read stands the rest of the octets
 pub StandsBehindHeader-drop :
     (octets : List ℕ) (header : Header) → IsAtFront octets header → StandsBehindHeader octets (drop header.size octets)
 StandsBehindHeader-drop octets header h =

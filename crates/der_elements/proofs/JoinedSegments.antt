@@ -41,7 +41,7 @@ AreSegments-before_left tag octets offset old new before after (none_left e) h =
 AreSegments-before_left tag octets offset old new before after (one_left end around e form none left) h =
     one_ended end around e form none (AreSegments-before_left tag octets offset around new before after left h)
 
--- contents octets that have ended were left
+-- what is left to come to behind contents octets that have ended was left to come to inside these
 pub AreLeft-back :
     (tag : ℕ) (m n : Cursor) (before after : List ℕ) → n.octets.now ≡ m.octets.now → n.offset ≡ m.offset →
     HasLeft n.octets.now n.offset (ends_of m) (ends_of n) → AreLeft tag n before after → AreLeft tag m before after
@@ -50,14 +50,14 @@ AreLeft-back tag m n before after o g left h =
     (subst (λ z. AreSegments tag n.octets.now z (ends_of m) before after) g
     (AreSegments-before_left tag n.octets.now n.offset (ends_of m) (ends_of n) before after left h))
 
--- where no end-of-contents octets stand
+-- where no end-of-contents octets end what is left, none end the innermost contents octets
 and-no_end_octets :
     (m : Cursor) (left : Left) (at : IsLeftOf m left) →
     (left.is_indefinite && begins_with_end left.octets.now) ≡ false →
     (at.end.is_indefinite && begins_with_end left.octets.now) ≡ false
 and-no_end_octets m left at guard = ap (λ z. z && begins_with_end left.octets.now) (sym at.form) ∙ guard
 
--- a segment before others
+-- a segment that begins what is left, and the segments to come behind it, are segments to come
 pub AreLeft-before_segment :
     (tag : ℕ) (m n : Cursor) (left : Left) (step : Step) (before between after : List ℕ) → IsLeftOf m left →
     IsSegment tag left step before between → Goes step m n → AreLeft tag n between after → AreLeft tag m before after
@@ -193,7 +193,7 @@ AreSegments-after_left tag octets offset old new before after (one_left end arou
     AreSegments-after_left tag octets offset around new before after left
     (AreSegments-ended tag octets offset old before after end around e form none h)
 
--- contents octets that have ended are left
+-- what is left to come to inside contents octets that have ended is left to come to behind these
 pub AreLeft-on :
     (tag : ℕ) (m n : Cursor) (before after : List ℕ) → n.octets.now ≡ m.octets.now → n.offset ≡ m.offset →
     HasLeft n.octets.now n.offset (ends_of m) (ends_of n) → AreLeft tag m before after → AreLeft tag n before after
@@ -218,7 +218,7 @@ record FirstSegment (tag : ℕ) (m : Cursor) (left : Left) (before after : List 
   pub segment : IsSegment tag left step before between
   pub later : (n : Cursor) → Goes step m n → AreLeft tag n between after
 
--- what is told of octets that stand at an end
+-- the first of the ends is that of the innermost contents octets that are open
 module _ (m : Cursor) (left : Left) (at : IsLeftOf m left) (one : End) (others : List End)
     (e : ends_of m ≡ one ∷ others) where
   end-equal : at.end ≡ one
@@ -297,7 +297,7 @@ FirstSegment-left tag m left before after at
           goes.0 goes.1 goes.2 later;
     }
 
--- bits with one segment more are these alone
+-- bits with one segment more joined to them are determined
 JoinsBits-unique : (before segment x y : List ℕ) → JoinsBits before segment x → JoinsBits before segment y → x ≡ y
 JoinsBits-unique before segment x y (bits, more, unused, p, q, few, none, s)
     (bits', more', unused', p', q', few', none', s') =
@@ -395,7 +395,7 @@ IsSegment-unique tag left (Out s) (Past s') before x y (within, begins, two, e) 
 IsSegment-unique tag left (Out s) (Out s') before x y (within, begins, two, e) (within', begins', two', e') =
     record { same = ap Out (two ∙ sym two'); joined = e ∙ sym e' }
 
--- behind a segment stand those behind it
+-- behind the first segment to come, the others are to come
 pub AreLeft-behind_segment :
     (tag : ℕ) (m n : Cursor) (left : Left) (step : Step) (before between after : List ℕ) → IsLeftOf m left →
     IsSegment tag left step before between → Goes step m n → AreLeft tag m before after → AreLeft tag n between after
@@ -405,7 +405,7 @@ AreLeft-behind_segment tag m n left step before between after at segment goes h 
     subst (λ z. AreLeft tag n z after) same.joined
     (first.later n (subst (λ z. Goes z m n) (sym same.same) goes))
 
--- where no segment stands, there are none
+-- where no segment begins what is left, no segments are to come
 pub AreLeft-no_segment :
     (tag : ℕ) (m : Cursor) (left : Left) (before after : List ℕ) → IsLeftOf m left → HasNoSegment tag left before →
     AreLeft tag m before after → ⊥
@@ -424,7 +424,7 @@ module _ (tag : ℕ) (left : Left) (before : List ℕ)
   HasNoSegment-no_whole none (Out s) after (within, begins, two, e) = and-not_both left guard within begins
 
   module _ (header : Header) (front : IsAtFront left.octets.now header) where
-    -- one of another type
+    -- an encoding of another type is no segment
     pub HasNoSegment-other_type :
         (header.class ≡ Universal → header.tag ≡ segment_tag tag → ⊥) → HasNoSegment tag left before
     HasNoSegment-other_type none (Into h s i) after (g, a, b, l, f, is, e) =
@@ -441,7 +441,7 @@ module _ (tag : ℕ) (left : Left) (before : List ℕ)
         none same.class same.tag
     HasNoSegment-other_type none (Out s) after (within, begins, two, e) = and-not_both left guard within begins
 
-    -- a primitive one that is joined to none
+    -- a primitive encoding that cannot be joined to the contents octets before it is no segment
     pub HasNoSegment-not_joined :
         header.constructed ≡ false →
         ((after : List ℕ) →
@@ -519,7 +519,7 @@ AreBits-segments_of tag contents indefinite joined is h =
     AreBits-segments tag contents 0 (end_at (length contents) indefinite ∷ []) (no_segments tag) joined is
     (record { unused = 0; bits = []; are = start; few = omega arith; none = λ e. refl }) h
 
--- bits that are joined to none
+-- where bits cannot be joined, the contents octets of a BIT STRING cannot be joined
 pub IfOk-joins_bits :
     {E : Type 0} (r : Result Bool E) (tag : ℕ) (before segment : List ℕ) → tag ≡ 3 →
     IfOk r (λ done. done ≡ false → (after : List ℕ) → JoinsBits before segment after → ⊥) →

@@ -6,7 +6,7 @@ use Rattle.std.proofs.lemmas.List.{drop-drop, drop_at, drop_min, length-append, 
 use Rattle.asn1_headers.specs.Header.{IsIdentifier, IsLength}
 use Rattle.asn1_headers.specs.declared.header.ASN1Class.{ASN1Class}
 use Rattle.asn1_headers.specs.declared.header.ASN1Class.TheVariants.{Universal}
-use Rattle.asn1_headers.proofs.Prefixes.{Encoding-unique, IsIdentifier-unique, IsLength-unique}
+use Rattle.asn1_headers.proofs.Prefixes.{Encoding-unique, IsIdentifier-unique, IsLength-unique, IsIdentifier-not_empty}
 use Rattle.asn1_blocks.specs.Places.{EncodingAt, HasNoEncodingAt, IsEncoding}
 use Rattle.asn1_headers.specs.Front.{BeginsWithHeader, HasIndefiniteForm, HasNoHeader}
 use Rattle.der_elements.specs.Ends.{begins_with_end}
@@ -21,21 +21,17 @@ use Rattle.der_elements.specs.SeekSteps.{StandsThere}
 use Rattle.der_elements.specs.declared.seek.NoBlock.{NoBlock}
 use Rattle.der_elements.specs.declared.seek.NoBlock.TheVariants.{CutShort, EndOfContents, Nothing, Unreadable}
 
-IsIdentifier-some : (xs : List ℕ) (c : ASN1Class) (k : Bool) (t : ℕ) → IsIdentifier xs c k t → 0 < length xs
-IsIdentifier-some [] c k t h = absurd h
-IsIdentifier-some (x ∷ xs) c k t h = omega arith
-
 pub size-length_header :
     (octets : List ℕ) (s n : ℕ) (c : ASN1Class) (k : Bool) (t : ℕ) (h : BeginsWithHeader octets s n c k t) →
     s ≡ length h.identifier + length h.len
 size-length_header octets s n c k t h =
     sym (length-take-le s octets h.within) ∙ (ap length h.front_is ∙ length-append h.identifier h.len)
 
--- a header has octets
+-- a header is not empty
 pub BeginsWithHeader-some :
     (octets : List ℕ) (s n : ℕ) (c : ASN1Class) (k : Bool) (t : ℕ) → BeginsWithHeader octets s n c k t → 0 < s
 BeginsWithHeader-some octets s n c k t h =
-    omega (arith, size-length_header octets s n c k t h, IsIdentifier-some h.identifier c k t h.fields)
+    omega (arith, size-length_header octets s n c k t h, IsIdentifier-not_empty h.identifier c k t h.fields)
 
 -- what two headers at the front of one list share
 pub record SameHeader (s n : ℕ) (c : ASN1Class) (k : Bool) (t : ℕ) (s' n' : ℕ) (c' : ASN1Class) (k' : Bool) (t' : ℕ)
@@ -75,7 +71,7 @@ BeginsWithHeader-unique octets s n c k t s' n' c' k' t' h g =
     in
     record { size = size; announced = l.number; class = i.class; constructed = i.constructed; tag = i.tag }
 
--- two headers at the front have the same identifier octets
+-- headers at the front of the same octets have the same identifier octets
 pub identifier-unique :
     (octets : List ℕ) (s n : ℕ) (c : ASN1Class) (k : Bool) (t : ℕ) (s' n' : ℕ) (c' : ASN1Class) (k' : Bool) (t' : ℕ)
     (h : BeginsWithHeader octets s n c k t) (g : BeginsWithHeader octets s' n' c' k' t') → h.identifier ≡ g.identifier
@@ -88,7 +84,7 @@ identifier-unique octets s n c k t s' n' c' k' t' h g =
     in
     i.octets
 
--- and the same form of length
+-- headers at the front of the same octets have the same form of length
 pub is_stray_form-unique :
     (octets : List ℕ) (s n : ℕ) (c : ASN1Class) (k : Bool) (t : ℕ) (s' n' : ℕ) (c' : ASN1Class) (k' : Bool) (t' : ℕ)
     (h : BeginsWithHeader octets s n c k t) (g : BeginsWithHeader octets s' n' c' k' t') →
@@ -98,7 +94,7 @@ is_stray_form-unique octets s n c k t s' n' c' k' t' h g =
     ap (λ z. is_stray_form z (drop (length h.identifier) octets)) same.constructed
     ∙ ap (λ z. is_stray_form k' (drop (length z) octets)) (identifier-unique octets s n c k t s' n' c' k' t' h g)
 
--- a header with the fields of another one
+-- octets that begin with a header begin with each header of the same fields
 pub BeginsWithHeader-same :
     (octets : List ℕ) (s n : ℕ) (c : ASN1Class) (k : Bool) (t : ℕ) (s' n' : ℕ) (c' : ASN1Class) (k' : Bool) (t' : ℕ) →
     BeginsWithHeader octets s n c k t → SameHeader s n c k t s' n' c' k' t' → BeginsWithHeader octets s' n' c' k' t'
@@ -113,7 +109,7 @@ BeginsWithHeader-same octets s n c k t s' n' c' k' t' h same = record {
   length_octets = subst (λ z. IsLength h.len z) same.announced h.length_octets;
 }
 
--- where no header stands, no block is looked for
+-- octets that begin with no header do not begin with a header
 pub HasNoHeader-begins :
     (octets : List ℕ) (s n : ℕ) (c : ASN1Class) (k : Bool) (t : ℕ) → HasNoHeader octets →
     BeginsWithHeader octets s n c k t → ⊥
@@ -121,7 +117,7 @@ HasNoHeader-begins octets s n c k t none h =
     none (take s octets) (drop s octets) (h.identifier, h.len, h.front_is, (t, (c, k, h.fields)), (n, h.length_octets))
     (sym (take-append-drop s octets))
 
--- contents octets are blocks, or those of a string
+-- contents octets that are gone into are not those of a primitive string
 is_gone_into-not_both :
     (c : ASN1Class) (k : Bool) (t m : ℕ) → c ≡ Universal → k ≡ false → t ≡ m → is_gone_into Universal false m ≡ false →
     is_gone_into c k t ≡ true → ⊥
@@ -158,7 +154,7 @@ Holds-unique c k t v b b' i i' (holds_bits p q r z e a) (holds_bits p' q' r' z' 
     let same : 0 ∷ i ≡ 0 ∷ i' = sym e ∙ e' in
     record { before = z ∙ sym z'; inside = cc same }
 
--- what the header of another spelling says of the contents, that of this one says
+-- what contents octets hold by one of two equal headers, they hold by the other
 Holds-same_header :
     (octets : List ℕ) (s n : ℕ) (c : ASN1Class) (k : Bool) (t : ℕ) (s' n' : ℕ) (c' : ASN1Class) (k' : Bool) (t' : ℕ)
     (b : ℕ) (i : List ℕ) → SameHeader s n c k t s' n' c' k' t' →
@@ -170,7 +166,7 @@ Holds-same_header octets s n c k t s' n' c' k' t' b i same h =
     (subst (λ z. Holds c' k' t' (take z (drop s octets)) b i) (sym same.announced)
     (subst (λ z. Holds c' k' t' (take n' (drop z octets)) b i) (sym same.size) h))))
 
--- the end of contents octets stands where some are open
+-- end-of-contents octets end the innermost contents octets that are open
 ends_contents-open : (o a : ℕ) (xs : List ℕ) → o ≡ suc a → begins_with_end xs ≡ true → ends_contents o xs ≡ false → ⊥
 ends_contents-open o a xs e is not =
     let so : true ≡ false = sym is ∙ (ap (λ z. ends_contents z xs) (sym e) ∙ not) in
@@ -198,7 +194,7 @@ pub record SameLead (a b : ℕ) (xs ys : List ℕ) (d e : ℕ) : Type 0 where
   pub others : xs ≡ ys
   pub later : d ≡ e
 
--- all leads to one
+-- octets lead to one place alone
 pub LeadsTo-unique :
     (o : ℕ) (xs : List ℕ) (d a a' : ℕ) (ys ys' : List ℕ) (l l' : ℕ) → LeadsTo o xs d a ys l →
     LeadsTo o xs d a' ys' l' → SameLead a a' ys ys' l l'
@@ -258,7 +254,7 @@ LeadsTo-unique o xs d a a' ys ys' _ _ (behind_indefinite s n c k t _ h _ p e f)
       later = omega (arith, same.size, f, f');
     }
 
--- what stands further on stands where it leads to
+-- what is reached from octets is reached from where they lead to
 pub Reaches-leads :
     (o : ℕ) (xs : List ℕ) (d a : ℕ) (ys : List ℕ) (l : ℕ) → 0 < d → LeadsTo o xs d a ys l → (e : ℕ) (zs : List ℕ) →
     Reaches o xs d e zs ↔ Reaches a ys l e zs
@@ -279,7 +275,7 @@ Reaches-nowhere o xs d some none e zs (is_further a ys l leads at) = none a ys l
 
 module _ (o : ℕ) (xs : List ℕ) (d : ℕ) where
   module _ (no_end : ends_contents o xs ≡ false) where
-    -- where no header stands
+    -- octets that begin with no header lead nowhere
     pub LeadsTo-no_header : HasNoHeader xs → (a : ℕ) (ys : List ℕ) (l : ℕ) → LeadsTo o xs d a ys l → ⊥
     LeadsTo-no_header none a ys l (behind_end p i e f) = ends_contents-open o a xs p i no_end
     LeadsTo-no_header none a ys l (behind_element s n c k t not h form p e f) = HasNoHeader-begins xs s n c k t none h
@@ -289,7 +285,7 @@ module _ (o : ℕ) (xs : List ℕ) (d : ℕ) where
         HasNoHeader-begins xs s n c k t none h
 
     module _ (s n : ℕ) (c : ASN1Class) (k : Bool) (t : ℕ) (header : BeginsWithHeader xs s n c k t) where
-      -- in a header
+      -- octets lead nowhere for an offset inside their header
       pub LeadsTo-in_header : d < s → (a : ℕ) (ys : List ℕ) (l : ℕ) → LeadsTo o xs d a ys l → ⊥
       LeadsTo-in_header few a ys l (behind_end p i e f) = ends_contents-open o a xs p i no_end
       LeadsTo-in_header few a ys l (behind_element s' n' c' k' t' not h form p e f) =
@@ -302,7 +298,7 @@ module _ (o : ℕ) (xs : List ℕ) (d : ℕ) where
           let same = BeginsWithHeader-unique xs s n c k t s' n' c' k' t' header h in
           absurd (omega (arith, same.size, f, few))
 
-      -- in contents octets, before all that encodings may begin in
+      -- octets lead nowhere for an offset in contents octets, before all that encodings may begin in
       pub LeadsTo-in_contents :
           d < s + n → (HasIndefiniteForm xs → ⊥) →
           ((b : ℕ) (ys : List ℕ) → Holds c k t (take n (drop s xs)) b ys → d < s + b) → (a : ℕ) (ys : List ℕ) (l : ℕ) →
@@ -317,7 +313,7 @@ module _ (o : ℕ) (xs : List ℕ) (d : ℕ) where
           absurd (omega (arith, same.size, f, further))
       LeadsTo-in_contents few definite none a ys l (behind_indefinite s' n' c' k' t' not h form p e f) = definite form
 
--- contents octets, as far as they are there, and what stands behind them
+-- the contents octets, as far as they are there, are the front of what stands behind the header
 pub take-contents :
     (octets behind contents : List ℕ) (s n m : ℕ) → behind ≡ drop s octets → m ≡ min n (length behind) →
     contents ≡ take m behind → contents ≡ take n (drop s octets)
@@ -334,7 +330,7 @@ record IsSame (o a : ℕ) (xs ys : List ℕ) : Type 0 where
   pub around : a ≡ o
   pub others : ys ≡ xs
 
--- at the front stand the octets themselves
+-- at the offset 0 stand the octets themselves
 Reaches-itself : (o : ℕ) (xs : List ℕ) (d a : ℕ) (ys : List ℕ) → d ≡ 0 → Reaches o xs d a ys → IsSame o a xs ys
 Reaches-itself o xs d a ys z (is_here none around others) = record { around = around; others = others }
 Reaches-itself o xs d a ys z (is_further b zs l (behind_end p i e f) at) = absurd (omega (arith, z, f))
@@ -401,7 +397,7 @@ module _
   IfErr-lacks_block (Err CutShort) h = (depth, left, Reaches-offset, h)
   IfErr-lacks_block (Err Nothing) h = LacksBlock-nil h
 
--- an encoding has octets
+-- an encoding is not empty
 IsEncoding-some : (octets : List ℕ) → IsEncoding octets → 0 < length octets
 IsEncoding-some octets e =
     let f = e.encoding in
@@ -409,10 +405,10 @@ IsEncoding-some octets e =
       arith,
       ap length f.whole,
       length-append f.identifier (f.len ++ e.contents),
-      IsIdentifier-some f.identifier e.class e.constructed e.tag f.identifier_octets,
+      IsIdentifier-not_empty f.identifier e.class e.constructed e.tag f.identifier_octets,
     )
 
--- encodings after the first
+-- octets are encodings exactly if those behind the first encoding are
 pub AreEncodings-after :
     (octets part after : List ℕ) → EncodingAt octets 0 part → after ≡ drop (min (length part) (length octets)) octets →
     (0 < length part) × (length part ≤ length octets) × (AreEncodings octets ↔ AreEncodings after)
@@ -439,7 +435,7 @@ AreEncodings-after octets part after at is = (some, fits, (to, λ more. one_firs
         let same = Encoding-unique _ _ _ _ _ _ _ _ _ _ _ _ rest after i.encoding at.encoding.encoding (sym e ∙ whole) in
         subst AreEncodings same.rest more
 
--- and where there is none
+-- where no encoding stands, the octets are encodings exactly if there are none
 pub AreEncodings-ended : (octets : List ℕ) → HasNoEncodingAt octets 0 → AreEncodings octets ↔ (length octets ≡ 0)
 AreEncodings-ended octets none = (to, from octets)
   where

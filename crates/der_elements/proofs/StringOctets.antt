@@ -38,7 +38,7 @@ module _ (element : List ℕ) (header : Header) (front : IsAtFront element heade
         Universal k tag front
         (record { size = refl; announced = refl; class = class; constructed = e; tag = number })
 
-    -- they are a string
+    -- the element is a string
     pub IsString-tag : IsString element
     IsString-tag =
         (header.size, header.announced, header.constructed, tag, BeginsWithHeader-front header.constructed refl, is)
@@ -89,7 +89,7 @@ module _ (element : List ℕ) (header : Header) (front : IsAtFront element heade
         (IsTrue-unique indefinite header.is_indefinite (HasIndefiniteForm element) form' form) segments
     IsPiece-one_piece false contents same stray = (same, stray)
 
-    -- the contents octets in one piece of what it holds
+    -- the contents octets of what a string holds are in one piece
     HasPiece-held : (octets : List ℕ) (h : HoldsOctets element octets) → HasPiece tag header element h.contents
     HasPiece-held octets h =
         let same = BeginsWithHeader-unique element h.size h.announced Universal h.constructed h.tag header.size
@@ -114,7 +114,7 @@ module _ (element : List ℕ) (header : Header) (front : IsAtFront element heade
         header.class header.constructed header.tag h.header front in
         subst (λ z. AreOctetsOf z h.contents octets) (same.tag ∙ number) h.are_octets
 
-    -- without contents octets in one piece it holds none
+    -- without contents octets in one piece a string holds no octets
     pub HoldsNoOctets-no_piece : HasNoPiece tag header element → HoldsNoOctets element
     HoldsNoOctets-no_piece none octets h = none h.contents (HasPiece-held octets h)
 
@@ -137,7 +137,7 @@ module _ (element : List ℕ) (header : Header) (front : IsAtFront element heade
     AreOctetsOf-same_piece false contents held octets (same, stray) (same', stray') none are =
         none octets (subst (λ z. AreOctetsOf tag z octets) (same' ∙ sym same) are)
 
-    -- nor without octets in them
+    -- an element whose contents hold no octets holds none
     pub HoldsNoOctets-no_octets :
         (contents : List ℕ) → HasPiece tag header element contents →
         ((octets : List ℕ) → AreOctetsOf tag contents octets → ⊥) → HoldsNoOctets element

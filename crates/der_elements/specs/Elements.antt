@@ -41,7 +41,7 @@ pub record ElementAt (octets element : List ℕ) : Type 0 where
   pub at_front : octets ≡ element ++ rest
   pub is_element : IsElement element
 
--- none stands there
+-- no element stands at the front
 abbrev pub HasNoElement : List ℕ → Type 0
 HasNoElement octets = (element : List ℕ) → ElementAt octets element → ⊥
 

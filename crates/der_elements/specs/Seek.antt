@@ -85,12 +85,12 @@ pub record BeginsAt (octets : List ℕ) (offset : ℕ) (block : List ℕ) : Type
   pub no_end : ends_contents around others ≡ false
   pub element : ElementAt others block
 
--- no element begins there
+-- no element begins at the offset
 abbrev pub HasNoBlockAt : List ℕ → ℕ → Type 0
 HasNoBlockAt octets offset = (block : List ℕ) → BeginsAt octets offset block → ⊥
 
--- why none does: by what stands there, end-of-contents octets or octets that begin with no header or with that of an
--- element which is not whole; or nothing stands there that headers lead to
+-- why no element begins at an offset: end-of-contents octets stand there, or octets that begin with no header or with
+-- that of an element which is not whole; or nothing that headers lead to
 abbrev pub IsWhyNone : NoBlock → ℕ → List ℕ → Type 0
 IsWhyNone EndOfContents around others = ends_contents around others ≡ true
 IsWhyNone Unreadable around others =

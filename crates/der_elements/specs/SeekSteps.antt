@@ -13,7 +13,7 @@ abbrev pub LeadsOn : Target → Target → Type 0
 LeadsOn target next =
     LeadsTo target.depth target.octets.now target.distance next.depth next.octets.now next.distance
 
--- nothing begins there
+-- nothing begins at the distance
 abbrev pub LeadsNowhere : Target → Type 0
 LeadsNowhere target =
     (around : ℕ) (others : List ℕ) (later : ℕ) →
@@ -32,8 +32,8 @@ IsWhy octets Unreadable = (0 < length octets) × HasNoHeader octets
 IsWhy octets CutShort = HasNoHeader octets → ⊥
 IsWhy octets Nothing = octets ≡ []
 
--- octets are elements, end-of-contents octets, and what stands behind them; so of so many contents octets that are
--- open, one inside the next
+-- octets close so many contents octets that are open, one inside the next, each by elements and end-of-contents octets,
+-- and these octets stand behind
 abbrev pub Closes : ℕ → List ℕ → List ℕ → Type 0
 Closes zero octets after = octets ≡ after
 Closes (suc depth) octets after =

@@ -29,8 +29,8 @@ Joins tag before segment after =
     ((tag == BIT_STRING) ≡ true × JoinsBits before segment after)
     ⊎ ((tag == BIT_STRING) ≡ false × (after ≡ before ++ segment))
 
--- from an offset of octets on, where contents octets that end so are open, the innermost first, stand segments alone of
--- a string with the tag: primitive ones, which are joined to those before, and constructed ones, which hold others
+-- from an offset of octets on, where contents octets with these ends are open, the innermost first, stand segments
+-- alone of a string with the tag: primitive ones, joined to those before, and constructed ones, which hold others
 pub data AreSegments (tag : ℕ) (octets : List ℕ) : ℕ → List End → List ℕ → List ℕ → Type 0 where
   no_more :
       {offset : ℕ} {ends : List End} {before after : List ℕ} → ends ≡ [] → after ≡ before →

@@ -81,7 +81,7 @@ IsSegment tag left (Past size) before after =
 IsSegment tag left (Out size) before after =
     (left.is_indefinite ≡ true) × (begins_with_end left.octets.now ≡ true) × (size ≡ 2) × (after ≡ before)
 
--- neither begins them
+-- neither a segment nor the end begins the octets
 abbrev pub HasNoSegment : ℕ → Left → List ℕ → Type 0
 HasNoSegment tag left before = (step : Step) (after : List ℕ) → IsSegment tag left step before after → ⊥
 

@@ -53,7 +53,7 @@ IsString element =
 abbrev pub HoldsNoOctets : List ℕ → Type 0
 HoldsNoOctets element = (octets : List ℕ) → HoldsOctets element octets → ⊥
 
--- the octets that it holds, or why it holds none: it is no string, or a malformed one
+-- the octets that an element holds as a string, or why it holds none: it is no string, or a malformed one
 abbrev pub IsStringAnswer : List ℕ → Result (Vec ℕ Global) NoString → Type 0
 IsStringAnswer element (Ok octets) = HoldsOctets element octets.items
 IsStringAnswer element (Err OtherType) = IsString element → ⊥

@@ -14,7 +14,7 @@ mod element;
 pub mod header;
 mod seek;
 pub mod segments;
-mod string_value;
+pub mod string_value;
 pub mod sum;
 
 pub use element::behind_header;

@@ -60,7 +60,8 @@ fn string_type(header: &Header) -> Option<u8>
     }
 }
 
-fn is_string_tag(tag: u8) -> bool
+// Whether types with the tag number, of class Universal, are strings: also an ObjectDescriptor and the two times.
+pub fn is_string_tag(tag: u8) -> bool
     ensures { result ≡ is_string_tag_is tag }
 {
     matches!(

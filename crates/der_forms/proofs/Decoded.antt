@@ -16,14 +16,14 @@ IsBytes-append (x ∷ a) b h k (suc i) = IsBytes-append a b (λ j. h (suc j)) k 
 pub encode_of-none : (octets symbols : List ℕ) → octets ≡ [] → encode_of standard octets ++ symbols ≡ symbols
 encode_of-none octets symbols e = rw (e, encode_of-nil standard) refl
 
--- symbols that are decoded
+-- the symbols of whole groups of octets, and then of more octets, are the symbols of all
 pub encode_of-decoded :
     (octets more symbols : List ℕ) → length octets % 3 ≡ 0 → symbols ≡ encode_of standard more →
     encode_of standard (octets ++ more) ++ [] ≡ encode_of standard octets ++ symbols
 encode_of-decoded octets more symbols whole e =
     rw (append-nil (encode_of standard (octets ++ more)), e) (encode_of-append standard octets more whole)
 
--- the last symbols spell octets, and so do all
+-- where the last symbols spell octets, all symbols spell the octets before and then these
 pub decode_of-last :
     (octets last symbols : List ℕ) → (length octets % 3 ≡ 0) × IsBytes octets → IsBytes last →
     symbols ≡ encode_of standard last →
@@ -32,7 +32,7 @@ decode_of-last octets last symbols (whole, bytes) later e =
     rw (e, ← encode_of-append standard octets last whole)
     (decode_of-encode_of standard (octets ++ last) refl (IsBytes-append octets last bytes later))
 
--- the symbols that are all spell nothing
+-- where no octets were decoded before, what is wrong with the last symbols is wrong with all
 pub decode_of-all :
     (octets symbols : List ℕ) (e : DecodeError) → octets ≡ [] → decode_of standard symbols ≡ Err e →
     decode_of standard (encode_of standard octets ++ symbols) ≡ Err e
@@ -61,7 +61,7 @@ without_spaces-read n read later text rest part after kept front back more =
     rw (more, front, back) (append_assoc read (without_spaces (take n rest)) (without_spaces (drop n rest))
     ∙ ap (λ z. read ++ z) (without_spaces-split n rest) ∙ kept)
 
--- all of it was
+-- where nothing of the text is left, all of it was read
 pub without_spaces-all :
     (read text rest : List ℕ) → read ++ without_spaces rest ≡ text → length rest ≡ 0 → read ≡ text
 without_spaces-all read text [] kept none = sym (append-nil read) ∙ kept

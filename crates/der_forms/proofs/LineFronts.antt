@@ -64,7 +64,7 @@ objects_in-joined text line later n e ended h begun =
     let whole : objects_in true (line ∷ later) ≡ objects_in false (begun_in line ∷ later) = rw ended refl in
     ap (objects_in false) (dropped ∙ ap (λ l. l ∷ later) (sym begun)) ∙ sym whole ∙ ap (objects_in true) (sym e)
 
--- where none begins in it, they begin in the lines behind it
+-- where no object begins in the line that ends another, objects begin in the lines behind it
 pub objects_in-ended : (text line : List ℕ) (later : List (List ℕ)) → lines_of text ≡ line ∷ later
     → ends_object line ≡ true → begun_in line ≡ [] → objects_in false later ≡ objects_in true (lines_of text)
 objects_in-ended text line later e ended none =

@@ -21,14 +21,14 @@ if-none :
 if-none true s form e = cc e
 if-none false s form e = refl
 
--- digits that are some have their form
+-- where symbols are digits, the form is that of hex digits
 pub if_digits-some :
     (digits : Option (List ℕ)) (r : Result (List ℕ) FromHexError) (form : InputKind) → decoded digits ≡ Some r →
     if_digits digits form ≡ of_hex_digits r
 if_digits-some None r form e = cc e
 if_digits-some (Some digits) r form e = if-some (all_of_some is_ascii_hexdigit digits) r (decode_of digits) form e
 
--- symbols that are none leave it open
+-- where symbols are not digits, the form is left open
 pub if_digits-none :
     (digits : Option (List ℕ)) (form : InputKind) → decoded digits ≡ None → if_digits digits form ≡ form
 if_digits-none None form e = refl

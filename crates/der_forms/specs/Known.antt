@@ -68,20 +68,20 @@ abbrev pub of_base64 : Result (List ℕ) DecodeError → List ℕ → InputKind
 of_base64 (Ok octets) symbols = if begins (48 ∷ []) octets then spelled octets else other_text
 of_base64 (Err e) symbols = of_loose_base64 symbols
 
--- the digits that a form has, if it has some
+-- the form of digits, if the symbols are some, and otherwise another form
 abbrev pub if_digits : Option (List ℕ) → InputKind → InputKind
 if_digits None form = form
 if_digits (Some digits) form =
     if all_of_some is_ascii_hexdigit digits then of_hex_digits (decode_hex digits) else form
 
--- hex digits with separators between them; or a source; or else it may be base 64
+-- the form of symbols: hex digits with separators between them; or a source; or otherwise maybe base 64
 abbrev pub of_symbols : List ℕ → InputKind
 of_symbols text =
     if_digits (Some (digits_of (has_columns text) (lines_of text)))
     (if_digits (source_digits text)
     (of_base64 (decode_base64 standard (without_spaces text)) (without_spaces text)))
 
--- columns with lines left out agree with their offsets
+-- the form of a text, in which columns with lines left out have to agree with their offsets
 abbrev pub form_of_text : List ℕ → InputKind
 form_of_text text =
     if has_other_columns text then other_text

@@ -108,7 +108,7 @@ if_closed Missing octets = None
 if_closed OtherLabel octets = None
 if_closed Joined octets = None
 
--- the octets of the first, or none where it does not end as it should
+-- the octets of the first object, or none where it does not end as it should
 abbrev pub first_of : List Object → Option (List ℕ)
 first_of [] = None
 first_of (object ∷ later) = if_closed object.ending object.octets

@@ -35,12 +35,12 @@ octets_in-append (octet b ∷ ps) qs = ap (λ z. b ∷ z) (octets_in-append ps q
 append-equal : {A : Type 0} (a b c d : List A) → a ≡ c → b ≡ d → a ++ b ≡ c ++ d
 append-equal a b c d e f = ap (λ z. z ++ b) e ∙ ap (λ z. c ++ z) f
 
--- nothing was pushed
+-- where nothing is pushed, nothing is shown
 pub Shows-nil : (a : List ℕ) → Shows [] [] [] a a
 Shows-nil a =
     record { pieces = []; faults_are = refl; text_is = refl; octets_are = refl; after_is = sym (append-nil a) }
 
--- some pieces and then others
+-- pieces pushed one after another show what each of them shows, joined
 pub Shows-append :
     (fs gs : List Bool) (xs ys us vs a b c : List ℕ) → Shows fs xs us a b → Shows gs ys vs b c →
     Shows (fs ++ gs) (xs ++ ys) (us ++ vs) a c
@@ -63,7 +63,7 @@ Shows-append fs gs xs ys us vs a b c s t =
           ∙ ap (λ z. a ++ z) (sym (flat_map-append written s.pieces t.pieces))));
     }
 
--- what shows nothing, and then more
+-- pieces that show nothing, pushed before others, add nothing to what these show
 pub Shows-nil_append :
     (gs : List Bool) (ys vs a b c : List ℕ) → Shows [] [] [] a b → Shows gs ys vs b c → Shows gs ys vs a c
 Shows-nil_append gs ys vs a b c s t = Shows-append [] gs [] ys [] vs a b c s t
@@ -80,7 +80,7 @@ Shows-equal fs gs xs ys us vs a b d e f s =
       after_is = s.after_is;
     }
 
--- something, and then what shows nothing
+-- pieces that show nothing, pushed behind others, add nothing to what these show
 pub Shows-append_nil :
     (fs : List Bool) (xs us a b c : List ℕ) → Shows fs xs us a b → Shows [] [] [] b c → Shows fs xs us a c
 Shows-append_nil fs xs us a b c s t =
@@ -99,7 +99,7 @@ octets_in-map-octet : (os : List ℕ) → octets_in (map octet os) ≡ os
 octets_in-map-octet [] = refl
 octets_in-map-octet (o ∷ os) = ap (λ z. o ∷ z) (octets_in-map-octet os)
 
--- one piece, and one for each of the octets
+-- a piece that is pushed shows what it stands for, as pieces for octets do
 pub Shows-markup :
     (m : Markup) (a b : List ℕ) → b ≡ a ++ written (markup m) → Shows (element_faults m) (line_end m) [] a b
 Shows-markup m a b e =
@@ -141,7 +141,7 @@ Shows-octets os a b e =
       after_is = e ∙ ap (λ z. a ++ z) (sym (flat_map-map written octet os));
     }
 
--- behind another text it is the same
+-- what pieces show does not hang on the text before them
 pub Shows-behind :
     (fs : List Bool) (xs us a own : List ℕ) → Shows fs xs us [] own → Shows fs xs us a (a ++ own)
 Shows-behind fs xs us a own s =

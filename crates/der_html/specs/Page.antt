@@ -60,7 +60,7 @@ pub data Piece : Type 0 where
   text : List ℕ → Piece
   octet : ℕ → Piece
 
--- what is written of it. What comes of a document is escaped, or in digits
+-- what is written of a piece. What comes of a document is escaped, or in digits
 abbrev pub written : Piece → List ℕ
 written (markup m) = markup_text m
 written (number n) = decimal n

@@ -8,7 +8,7 @@ use Rattle.der_elements.specs.Headers.{StandsBehindHeader}
 use Rattle.der_elements.specs.StringOctets.{HoldsNoOctets, HoldsOctets}
 use Rattle.asn1_blocks.specs.Places.{IsEncoding}
 
--- an encoding has a header
+-- behind the header of an encoding stand its contents octets
 StandsBehindHeader-encoding : (octets : List ℕ) (e : IsEncoding octets) → StandsBehindHeader octets e.contents
 StandsBehindHeader-encoding octets e =
     let parts = e.encoding in (
@@ -34,7 +34,7 @@ IsElement-has_contents octets (of_indefinite_form contents standing inside) none
 pub IsBlockAt-element : (n : ℕ) (input block : List ℕ) → IsBlockAt n input (Some block) → IsElement block
 IsBlockAt-element n input block (document, e, at) = at.element.is_element
 
--- the octets that the string at an offset holds
+-- what was found of the block at an offset is the octets that it holds as a string, or it holds none
 pub IsValueAt-block :
     (n : ℕ) (input block : List ℕ) (octets : Option (List ℕ)) → IsBlockAt n input (Some block) →
     MatchOption octets (HoldsNoOctets block) (HoldsOctets block) → IsValueAt n input octets

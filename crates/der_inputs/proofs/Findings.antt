@@ -1,4 +1,4 @@
--- The texts of findings, for `objects`.
+-- The texts of findings, one after another, for the functions of `show::Show` that push objects and documents.
 use Rattle.std.proofs.Common.{◌≡◌, ℕ, List, [], ◌∷◌, ◌++◌, refl, sym, ap, ◌∙◌, append_assoc, append-nil, subst}
 use Rattle.std.proofs.lemmas.List.Sums.{fold-append}
 use Rattle.std.specs.Prelude.{MatchOption, None, Option, Some, fold, if◌then◌else◌, is_some, ◌≢◌}
@@ -45,13 +45,13 @@ module _ (wanted : Wanted) (file : Option (List ℕ)) where
   pub AreFindingTexts-nil : AreFindingTexts wanted file [] AllRead []
   AreFindingTexts-nil = ([], refl, refl)
 
-  -- the text of one
+  -- the text of one finding
   pub AreFindingTexts-one :
       (x : Finding) (v : Verdict) (text : List ℕ) → IsFindingText wanted file x v text →
       AreFindingTexts wanted file (x ∷ []) v text
   AreFindingTexts-one x v text is = (v ∷ [], refl, (text, [], sym (append-nil text), is, refl))
 
-  -- the texts of some, and of others behind them
+  -- the texts of findings, and of others behind them, are the texts of all
   pub AreFindingTexts-append :
       (xs ys : List Finding) (v w : Verdict) (text more : List ℕ) → AreFindingTexts wanted file xs v text →
       AreFindingTexts wanted file ys w more → AreFindingTexts wanted file (xs ++ ys) (both_read v w) (text ++ more)
@@ -72,7 +72,7 @@ module _ (wanted : Wanted) (file : Option (List ℕ)) where
       IsWritten (AreFindingTexts wanted file (x ∷ []) v) a b
   IsWritten-one_finding x v a b (text, put, is) = (text, put, AreFindingTexts-one x v text is)
 
-  -- what is shown of findings
+  -- where the texts of findings were written, the findings are shown
   pub IsWritten-shown :
       (xs : List Finding) (v : Verdict) (a b : Option (List ℕ)) →
       IsWritten (AreFindingTexts wanted file xs v) a b → IsWritten (AreShown wanted file xs (Written v)) a b

@@ -1,4 +1,4 @@
--- What a writer held before stays at the front, for `appended::Appended`.
+-- What a writer held before stays at the front, for `appended` and `sources::run_on`.
 use Rattle.std.proofs.Common.{ℕ, List, [], ◌++◌, append-nil, sym, ◌∙◌, take}
 use Rattle.std.specs.Prelude.{Option, None, Some, Result, Ok, Err}
 use Rattle.std.proofs.KnownBytes.{Appends-trans}

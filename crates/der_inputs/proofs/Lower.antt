@@ -13,13 +13,13 @@ use Rattle.der_lines.specs.declared.document.Verdict.{Verdict}
 use Rattle.der_rows.specs.Printing.{IsPrinted}
 use Rattle.der_rows.specs.declared.printer.Printer.{Printer}
 
--- the line of a name
+-- the line of a note that was printed is that of a name's title
 pub IsPrinted-title :
     {W : Type 0} (contents : W → Option (List ℕ)) (name other : List ℕ) (a b : Printer W) → other ≡ name →
     IsPrinted contents (IsLine (IsNote equals_sign (escaped other))) a b → IsPrinted contents (IsTitle name) a b
 IsPrinted-title contents name other a b e h = subst (λ z. IsPrinted contents (IsTitle z) a b) e h
 
--- JSON of octets, strictly or not
+-- what is written of octets as JSON, strictly or not, by whether all was read
 pub IsWritten-json :
     (octets : List ℕ) (origin : Members) (right : Bool) (verdict : Verdict)
     (a b : Option (List ℕ)) →

@@ -11,7 +11,7 @@ use Rattle.der_inputs.specs.Inputs.{AreReadToEnds, Input, IsReadToEnd}
 use Rattle.der_inputs.specs.Texts.{AreTexts}
 use Rattle.der_inputs.specs.declared.outcome.Outcome.{Outcome}
 
--- one reader more
+-- readers that were read to their ends, and one more, are all read to their ends
 AreReadToEnds-append_last :
     (outcomes : List Outcome) (left : List (Option (List ℕ))) (last : Outcome) (its : Option (List ℕ)) →
     AreReadToEnds outcomes left → IsReadToEnd last its → AreReadToEnds (outcomes ++ last ∷ []) (left ++ its ∷ [])

@@ -1,4 +1,4 @@
--- Texts that are written one after another, for `sources`, and the findings of objects, for `objects`.
+-- Texts that are written one after another, for `sources`, and the findings of objects, for `show::Show::push_objects`.
 use Rattle.std.proofs.Common.{◌≡◌, ℕ, List, [], ◌∷◌, ◌++◌, refl, sym, ap, ◌∙◌}
 use Rattle.std.proofs.Common.{append_assoc, append-nil}
 use Rattle.std.proofs.lemmas.List.Concat.{flat_map-cons}
@@ -12,7 +12,7 @@ use Rattle.der_inputs.specs.Texts.{AreTexts}
 use Rattle.der_io.proofs.Written.{IsWritten-append}
 
 module _ {A B : Type 0} (Is : A → B → List ℕ → Type 0) where
-  -- the text of one more
+  -- texts of several, and the text of one more behind them, are the texts of all
   AreTexts-append_last :
       (xs : List A) (results : List B) (x : A) (last : B) (text own : List ℕ) →
       AreTexts Is xs results text → Is x last own →
@@ -51,7 +51,7 @@ append-unframed : (texts first last : List ℕ) → first ≡ [] → last ≡ []
 append-unframed texts first last begun ended =
     ap (λ z. z ++ (texts ++ last)) begun ∙ (ap (λ z. texts ++ z) ended ∙ append-nil texts)
 
--- texts between what stands before and behind them
+-- texts between the beginning and the end of their format are framed
 pub IsFramed-append :
     (format : OutputFormat) (texts first last : List ℕ) → IsFrameOf format first → IsFrameOf format last →
     IsFramed format texts (first ++ (texts ++ last))

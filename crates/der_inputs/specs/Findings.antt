@@ -30,7 +30,7 @@ of_ending _ = unlabelled None ∷ []
 abbrev pub of_object : Object → List Finding
 of_object object = record { label = Some object.label; octets = object.octets } ∷ of_ending object.ending
 
--- what an input has in this form
+-- the findings in an input of this form
 abbrev pub in_form : InputKind → List ℕ → List Finding
 in_form objects input = flat_map of_object (objects_of input)
 in_form (spelled octets) input = unlabelled (Some octets) ∷ []
@@ -38,11 +38,11 @@ in_form odd_digits input = unlabelled None ∷ []
 in_form other_text input = unlabelled None ∷ []
 in_form plain_octets input = unlabelled (Some input) ∷ []
 
--- what a text has, or octets
+-- the findings in a text, or in octets
 abbrev pub findings_in : List ℕ → List Finding
 findings_in text = in_form (form_is text) text
 
--- what an input has
+-- the findings in an input
 abbrev pub findings_of : List ℕ → List Finding
 findings_of input = findings_in (text_of input)
 

@@ -97,7 +97,7 @@ IsFrameOf Lines text = text ≡ []
 IsFrameOf Accounts text = text ≡ []
 IsFrameOf Json text = text ≡ []
 
--- what is written of these texts: they, and around the sections of a page its beginning and its end
+-- what is written of texts: the texts, and around the sections of a page its beginning and its end
 abbrev pub IsFramed : OutputFormat → List ℕ → List ℕ → Type 0
 IsFramed Page texts output = (beginning end : List ℕ) × (output ≡ beginning ++ (texts ++ end))
 IsFramed Lines texts output = output ≡ texts

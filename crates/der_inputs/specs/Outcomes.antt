@@ -5,12 +5,12 @@ use Rattle.der_lines.specs.declared.document.Verdict.TheVariants.{AllRead, Refus
 use Rattle.der_inputs.specs.declared.outcome.Outcome.{Outcome}
 use Rattle.der_inputs.specs.declared.outcome.Outcome.TheVariants.{Lacking, Unread, Written}
 
--- two were both read
+-- the verdict on two: all was read where all of both was
 abbrev pub both_read : Verdict → Verdict → Verdict
 both_read AllRead verdict = verdict
 both_read Refused verdict = Refused
 
--- all of these were read
+-- the verdict on several: all was read where all of each was
 abbrev pub all_read : List Verdict → Verdict
 all_read verdicts = fold both_read AllRead verdicts
 

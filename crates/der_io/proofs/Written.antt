@@ -4,7 +4,7 @@ use Rattle.std.specs.Prelude.{Option}
 use Rattle.std.proofs.KnownBytes.{Appends-trans}
 use Rattle.der_io.specs.Output.{IsWritten}
 
--- one text and then another
+-- two texts written one after the other are written joined
 pub IsWritten-append :
     (Is Later Other : List ℕ → Type 0) (a b c : Option (List ℕ)) →
     ((text more : List ℕ) → Is text → Later more → Other (text ++ more)) → IsWritten Is a b → IsWritten Later b c →

@@ -1,4 +1,4 @@
--- The text of an array, one after another.
+-- The text of an array, item after item, for `rows` and the functions that push lists.
 use Rattle.std.proofs.Common.{◌≡◌, ◌+◌, ◌<◌, ℕ, List, [], ◌∷◌, ◌++◌, Bool, true, false, get_or, length, map, refl, sym, ap, ◌∙◌, take}
 use Rattle.std.proofs.lemmas.List.{append_assoc, append-nil, map-append, take_more}
 use Rattle.serde_json.specs.Written.{comma_if, compact_text, items_text}
@@ -6,9 +6,10 @@ use Rattle.serde_json.specs.Data.{Data}
 use Rattle.der_json.specs.Json.{items_of}
 use Rattle.der_json.specs.Rows.{texts}
 use Rattle.der_pieces.specs.Marks.{are_some}
+use Rattle.der_pieces.proofs.Breach.{are_some-append}
 
 module _ {A : Type 0} (json : A → Data) where
-  -- one more, behind others
+  -- the texts of items and one more are those of the items, a comma, and the text of this one
   texts-append_later : (xs : List A) (x : A) →
       texts json true (xs ++ x ∷ []) ≡ texts json true xs ++ (comma_if true ++ compact_text (json x))
   texts-append_later [] x = ap (λ z. 44 ∷ z) (append-nil (compact_text (json x)))
@@ -36,7 +37,7 @@ module _ {A : Type 0} (json : A → Data) where
       ap (λ z. compact_text (json x) ++ z) (items_text-items_of_later xs)
       ∙ sym (append_assoc (compact_text (json x)) (texts json true xs) (93 ∷ []))
 
-  -- one more was put, behind a comma where others stand before it
+  -- where one item more was put, behind a comma if others stand before it, the texts of all were put
   pub texts-append_put :
       (xs : List A) (x : A) (later : Bool) (before middle comma after : List ℕ) → later ≡ are_some xs →
       middle ≡ before ++ texts json false xs → comma ≡ middle ++ comma_if later →
@@ -49,7 +50,7 @@ module _ {A : Type 0} (json : A → Data) where
       ∙ ap (λ z. before ++ z)
       (ap (λ z. texts json false xs ++ (comma_if z ++ compact_text (json x))) some ∙ sym (texts-append xs x))))
 
-  -- all were, and the closing bracket
+  -- where the texts of all items were put, and the closing bracket, the text of the array was put
   pub items_text-put : (xs : List A) (before middle after : List ℕ) → middle ≡ before ++ texts json false xs →
       after ≡ middle ++ 93 ∷ []
       → after ≡ before ++ items_text false (items_of json xs)
@@ -57,16 +58,12 @@ module _ {A : Type 0} (json : A → Data) where
       e ∙ (ap (λ z. z ++ 93 ∷ []) m ∙ (append_assoc before (texts json false xs) (93 ∷ [])
       ∙ ap (λ z. before ++ z) (sym (items_text-items_of xs))))
 
-pub are_some-append : {A : Type 0} → (xs : List A) (x : A) → true ≡ are_some (xs ++ x ∷ [])
-are_some-append [] x = refl
-are_some-append (y ∷ xs) x = refl
-
 -- three texts put one after another
 pub append-three : (out x y z a b c : List ℕ) → a ≡ out ++ x → b ≡ a ++ y → c ≡ b ++ z → c ≡ out ++ (x ++ (y ++ z))
 append-three out x y z a b c d e f =
     f ∙ (ap (λ v. v ++ z) (e ∙ ap (λ v. v ++ y) d) ∙ (append_assoc (out ++ x) y z ∙ append_assoc out x (y ++ z)))
 
--- one more was put of those at an index
+-- where the item at an index was put, the texts up to this item were put
 pub texts-append_read :
     {A B : Type 0} (json : B → Data) (meaning : A → B) (xs : List A) (i : ℕ) (d : A) (later : Bool)
     (before middle comma after : List ℕ) → i < length xs → later ≡ are_some (map meaning (take i xs)) →

@@ -1,4 +1,4 @@
--- The text of an object, member by member.
+-- The text of a line, member by member, for the functions of `line` and `strict`, and `object::push_fault_object`.
 use Rattle.std.proofs.Common.{arith, length, true, ◌<◌, ◌==◌, ◌≡◌, ℕ, List, [], ◌∷◌, ◌++◌, ◌∙◌, false, codes, refl, ap}
 use Rattle.std.specs.Prelude.{Option, None, Some}
 use Rattle.std.proofs.lemmas.List.{nil_from_length}
@@ -28,7 +28,7 @@ unfolding serde_json_on_literals
 text_member-file None others rest e = e
 text_member-file (Some t) others rest e = ap (λ z. (codes ",\"file\":" ++ compact_text (string t)) ++ z) e
 
--- both texts, and the end of the object
+-- the members of the file and of the label, and the closing bracket, are the end of an object with these members
 pub text_member-origin :
     (file label : Option (List ℕ)) →
     text_member (codes ",\"file\":") file ++ (text_member (codes ",\"label\":") label ++ 125 ∷ [])
@@ -72,7 +72,7 @@ eqb-zero n e = grind (arith, nat_tests)
 eqb-not_zero : (n : ℕ) → (n == 0) ≡ false → 0 < n
 eqb-not_zero n e = grind (arith, nat_tests)
 
--- the line of marks, where there are none, and some
+-- without marks there is no line of marks, and with marks there is one
 pub marks_text-none :
     (faults : List Departure) (origin : Members) → (length faults == 0) ≡ true →
     (true ≡ is_der (departures_of faults)) × (marks_text (departures_of faults) origin ≡ [])
@@ -90,6 +90,6 @@ marks_text-some (x ∷ xs) origin e = (refl, refl)
 pub nil-from_eqb_length : (xs : List ℕ) → (length xs == 0) ≡ true → xs ≡ []
 nil-from_eqb_length xs e = nil_from_length xs (eqb-zero (length xs) e)
 
--- what was put where nothing was
+-- what is put behind no octets is all
 pub append-to_nil : (before text after : List ℕ) → before ≡ [] → after ≡ before ++ text → after ≡ text
 append-to_nil before text after none put = put ∙ ap (λ z. z ++ text) none

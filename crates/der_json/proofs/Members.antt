@@ -1,4 +1,4 @@
--- The object of a row, member by member.
+-- The object of a row, member by member, for the functions of `object`, `line` and `strict`.
 use Rattle.std.proofs.Common.{◌≡◌, ◌<◌, ℕ, List, [], ◌∷◌, ◌++◌, arith, codes, false, length, refl, true, ap, ◌∙◌}
 use Rattle.std.proofs.lemmas.List.{append_assoc}
 use Rattle.serde_json.proofs.OnLiterals.{serde_json_on_literals}
@@ -11,17 +11,17 @@ use Rattle.der_json.specs.Json.{Departed, FaultData, items_of, rule_json, blocks
 use Rattle.der_json.specs.Rows.{blocks_text, fault_text, first_members, last_members, row_of, rules_text, text_member}
 use Rattle.der_json.specs.declared.object.Object.{Object}
 
--- one text put after another
+-- two texts put one after the other are put joined
 pub append-twice : (out x y a b : List ℕ) → a ≡ out ++ x → b ≡ a ++ y → b ≡ out ++ (x ++ y)
 append-twice out x y a b d e = e ∙ (ap (λ z. z ++ y) d ∙ append_assoc out x y)
 
--- the same value
+-- where the text of a value was put behind its name, that of an equal value was
 pub append-same_value :
     (old name new : List ℕ) (v w : Data) → new ≡ old ++ (name ++ compact_text v) → v ≡ w →
     new ≡ old ++ (name ++ compact_text w)
 append-same_value old name new v w e same = e ∙ ap (λ z. old ++ (name ++ compact_text z)) same
 
--- nine of them
+-- nine texts put one after the other are put joined
 pub append-nine :
     (out m0 m1 m2 m3 m4 m5 m6 m7 m8 a b c d e f g h i : List ℕ) →
     a ≡ out ++ m0 → b ≡ a ++ m1 → c ≡ b ++ m2 → d ≡ c ++ m3 → e ≡ d ++ m4 → f ≡ e ++ m5 → g ≡ f ++ m6 →
@@ -32,7 +32,7 @@ append-nine out m0 m1 m2 m3 m4 m5 m6 m7 m8 a b c d e f g h i p0 p1 p2 p3 p4 p5 p
     (append-twice d m4 _ e i p4
     (append-twice e m5 _ f i p5 (append-twice f m6 _ g i p6 (append-twice g m7 m8 h i p7 p8)))))))
 
--- texts before another
+-- a text in front of the first of two joined texts is in front of both
 append-front :
     (a b rest text : List ℕ) → b ++ rest ≡ text → (a ++ b) ++ rest ≡ a ++ text
 append-front a b rest text e = append_assoc a b rest ∙ ap (λ z. a ++ z) e
@@ -91,7 +91,7 @@ unfolding serde_json_on_literals
 text_member-type None others rest e = e
 text_member-type (Some t) others rest e = ap (λ z. (codes ",\"of\":" ++ compact_text (string t)) ++ z) e
 
--- the members that not every object has behind its names, and the closing bracket
+-- the members from the name on, the blocks and the closing bracket are the text
 text_member-others :
     (name shown octets : Option (List ℕ)) (broken : List Breach) (fault : Option FaultData) (inside : Option Items) →
     (text_member (codes ",\"name\":") name ++ (text_member (codes ",\"shown\":") shown
@@ -116,7 +116,7 @@ text_member-others name shown octets broken fault inside =
     (append-front o (d ++ f) end (d ++ (f ++ end)) (append_assoc d f end)))
     ∙ text_member-name name (member_if (codes "shown") shown (member_if (codes "octets") octets rules)) _ beside
 
--- so with the names of its field
+-- the members from the field on are the text
 text_member-named :
     (field of name shown octets : Option (List ℕ)) (broken : List Breach) (fault : Option FaultData)
     (inside : Option Items) →
@@ -149,7 +149,7 @@ append-nine_front m0 m1 m2 m3 m4 m5 m6 m7 m8 rest =
     append-front m0 _ rest _ (append-front m1 _ rest _ (append-front m2 _ rest _ (append-front m3 _ rest _
     (append-front m4 _ rest _ (append-front m5 _ rest _ (append-front m6 _ rest _ (append_assoc m7 m8 rest)))))))
 
--- an object
+-- the first members, the last, the blocks and the closing bracket are the text of an object
 pub compact_text-row_json :
     (object : Object) (inside : Option Items) (marks : List Departed) →
     first_members object ++ (last_members object ++ (blocks_text inside ++ 125 ∷ []))
@@ -170,14 +170,14 @@ compact_text-row_json object inside marks =
     ∙ ap (λ z. m0 ++ (m1 ++ (m2 ++ (m3 ++ (m4 ++ (m5 ++ (m6 ++ (m7 ++ (m8 ++ z)))))))))
     (text_member-named row.field row.of_type row.name row.shown row.octets row.not_der row.fault inside)
 
--- the member of blocks
+-- the items of an array, put behind their name, are the member of blocks
 pub blocks_text-put :
     (out a b : List ℕ) (items : Items) → a ≡ out ++ codes ",\"blocks\":[" → b ≡ a ++ items_text false items →
     b ≡ out ++ blocks_text (Some items)
 unfolding serde_json_on_literals
 blocks_text-put out a b items d e = append-twice out (codes ",\"blocks\":[") (items_text false items) a b d e
 
--- the member of the rules that are broken
+-- the items of an array of rules, put behind their name, are the member of the rules that are broken
 pub rules_text-put :
     (out a b : List ℕ) (broken : List Breach) → 0 < length broken → a ≡ out ++ codes ",\"not_der\":[" →
     b ≡ a ++ items_text false (items_of rule_json broken) → b ≡ out ++ rules_text broken

@@ -1,4 +1,4 @@
--- What the object of a piece tells, for `piece::object_of`.
+-- What the object of a piece tells, for `piece::object_of` and `rows`.
 use Rattle.std.proofs.Common.{◌≡◌, ◌⊎◌, inl, inr, ℕ, ◌+◌, ◌-◌, ◌≤◌, Bool, true, false, List, drop, length, min, take}
 use Rattle.std.proofs.Common.{slice_range, refl, sym, ap, arith, ◌∙◌, subst}
 use Rattle.std.proofs.lemmas.List.{length-drop, length-take-le}
@@ -36,7 +36,7 @@ is_gone_into-not_constructed : (class : ASN1Class) (constructed : Bool) (tag : �
 is_gone_into-not_constructed class constructed tag e =
     subst (λ z. is_gone_into class z tag ≡ false) (is_gone_into-primitive class constructed tag e) e
 
--- what the fault tells
+-- a fault of reading tells its name, its offset and a message
 fault_data-named :
     (offset at : ℕ) (found : DecodeFault) (fault : Option PieceFault) → IsFault (IsNamed offset found) fault →
     (message : List ℕ) × (option_map (placed_data at) fault ≡ Some (named_fault at found message))
@@ -98,7 +98,7 @@ is_some-option_map : {A B : Type 0} → (f : A → B) (o : Option A) (y : B) →
 is_some-option_map f None y e = absurd (cc e)
 is_some-option_map f (Some x) y e = refl
 
--- the octets that mean nothing
+-- contents octets with a fault of reading are told in hex digits
 wrong_octets-named :
     (offset : ℕ) (found : DecodeFault) (fault : Option PieceFault) (contents : List ℕ) →
     IsFault (IsNamed offset found) fault → wrong_octets fault contents ≡ Some (encode_lower contents)
@@ -113,7 +113,7 @@ wrong_octets-nameless offset None contents none = absurd none
 wrong_octets-nameless offset (Some f) contents (o, code) =
     ap (λ z. if is_some z then Some (encode_lower contents) else None) code
 
--- what is shown of an encoding that is gone into
+-- of an encoding that is gone into, and at fault, nothing is shown
 opened_json-fault : (Is : PieceFault → Type 0) (fault : Option PieceFault) (joined : Option Joined) → IsFault Is fault →
     opened_json fault joined ≡ null
 opened_json-fault Is None joined none = absurd none
@@ -143,7 +143,7 @@ module _ (left : List ℕ) (offset depth : ℕ) (rules : List Rule) (object : Ob
     (marks : List Departed)
     (fault : Option PieceFault)
     (fault_is : option_map fault_data object.fault ≡ option_map (placed_data object.offset) fault) where
-  -- an encoding with the header
+  -- the object of an encoding with the header is of what begins the octets
   IsRowOf-encoding :
       {meaning : Option Meaning} (header : Header) (h : IsAtFront left header) →
       object.size ≡ (if header.is_indefinite then None
@@ -239,7 +239,7 @@ module _ (left : List ℕ) (offset depth : ℕ) (rules : List Rule) (object : Ob
       (AreShown-meaning header all value o is (v ∙ ap (λ z. leaf_json z value) e)
       (d ∙ ap (λ z. leaf_octets fault z value) e))
 
-  -- the object of a piece of each kind
+  -- the object of a piece of each kind is of what begins the octets
   pub IsRowOf-kind :
       (kind : PieceKind) → object.size ≡ kind_size kind → IsTagOf kind object.tag →
       view object.value ≡ kind_json fault kind →

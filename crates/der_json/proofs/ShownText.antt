@@ -1,4 +1,5 @@
--- Text in which each character is shown, for what is written in parts: no part ends inside a character.
+-- Text in which each character is shown, written in parts that do not end inside a character, for `shown`, `rows` and
+-- the functions of `line`.
 use Rattle.std.proofs.Common.{◌≡◌, ◌≤◌, ◌∙◌, ℕ, zero, suc, Bool, true, false, if◌then◌else◌, List, [], ◌∷◌, ◌++◌, ap, append_assoc, arith, codes, drop, length, nat_lt, refl, sym}
 use Rattle.std.specs.Prelude.{Option, None, Some}
 use Rattle.serde_json.proofs.OnLiterals.{serde_json_on_literals}
@@ -76,7 +77,7 @@ front_of-le a text =
     (if-le (nat_lt a 224) _ _ _ (front_of_two-le a text)
     (if-le (nat_lt a 240) _ _ _ (front_of_three-le a text) (front_of_four-le a text)))
 
--- what is written of a character before a text, and what is behind it
+-- what is written of a character stands before what is written of the text behind it
 append-if :
     (q : Bool) (x : ℕ) (e hidden plain last behind rest : List ℕ) → behind ≡ hidden ++ last → rest ≡ plain ++ last →
     (if q then e ++ behind else x ∷ rest) ≡ (if q then e ++ hidden else x ∷ plain) ++ last
@@ -132,7 +133,7 @@ shown_text-comma : (later : Bool) → shown_text (comma_if later) ≡ comma_if l
 shown_text-comma true = refl
 shown_text-comma false = refl
 
--- one more object behind others
+-- what is shown of an object behind others stands behind what is shown of these
 pub shown_text-more :
     (before own : List ℕ) (later : Bool) → IsBreak own →
     (shown_text before ++ comma_if later) ++ shown_text own ≡ shown_text ((before ++ comma_if later) ++ own)
@@ -147,7 +148,7 @@ unfolding serde_json_on_literals
 IsBreak-blocks None = refl
 IsBreak-blocks (Some items) = refl
 
--- the members of an object, and the blocks inside it
+-- what is shown of an object is what is shown of its members, and of the blocks inside it
 pub shown_text-object :
     (members : List ℕ) (inside : Option Items) →
     shown_text members ++ (shown_text (blocks_text inside) ++ 125 ∷ [])
@@ -165,7 +166,7 @@ unfolding serde_json_on_literals
 IsBreak-end no_members = refl
 IsBreak-end (member name json origin) = refl
 
--- the line of an array of blocks
+-- what is shown of the line of an array is what is shown of its items, and of its end
 pub shown_text-line :
     (items : List ℕ) (origin : Members) →
     codes "{\"blocks\":[" ++ (shown_text items ++ (shown_text (end_text origin) ++ 10 ∷ []))

@@ -1,4 +1,4 @@
--- What a writer of JSON gives for one token, for members that are written in place.
+-- What a writer of JSON holds after one token, for `member::push_number` and `member::push_token`.
 use Rattle.std.proofs.Common.{◌≡◌, ◌++◌, ◌∙◌, ap, ℕ, List, [], ◌∷◌}
 use Rattle.std.proofs.lemmas.List.{append-nil}
 use Rattle.json.proofs.OnLiterals.{json_on_literals}

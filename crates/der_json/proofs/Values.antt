@@ -1,7 +1,7 @@
--- What is shown of contents octets that have a value, for `Pieces`.
+-- What is shown of contents octets that have a value, for `piece::object_of`.
 use Rattle.std.proofs.Common.{◌≡◌, ◌≢◌, inl, inr, ℕ, Bool, true, false, List, length, refl, sym, ap, ◌∙◌, subst}
-use Rattle.std.proofs.lemmas.Bool.{false≢true, ltb-false, ltb-true}
-use Rattle.std.specs.Prelude.{◌&&◌, ◌||◌, ◌==◌, IfSome, Option, None, Some, if◌then◌else◌, nat_lt, not, option_map, string_bytes, unwrap_or}
+use Rattle.std.proofs.lemmas.Bool.{ltb-false, ltb-true, or_parts, or_from, and_right}
+use Rattle.std.specs.Prelude.{◌&&◌, ◌==◌, IfSome, Option, None, Some, if◌then◌else◌, nat_lt, not, option_map, string_bytes, unwrap_or}
 use Rattle.std.specs.Str.{chars}
 use Rattle.asn1_numbers.specs.TwosComplement.{signed_number}
 use Rattle.asn1_headers.specs.declared.header.ASN1Class.{ASN1Class}
@@ -22,11 +22,7 @@ use Rattle.der_contents.proofs.Values.{Encodes-leaf, Encodes-tagged, Encodes-unk
 use Rattle.der_json.specs.Json.{AreShown, IsIdentifierValue, IsLeafValue, IsValueOf, as_text, as_time, in_their_form, in_notation, is_text_type, of_block, of_characters, of_no_text, of_other_type, other_value, whole_json, with_value, without_characters}
 use Rattle.der_json.specs.Rows.{value_json, value_octets}
 
-and-false : (b : Bool) → (b && false) ≡ false
-and-false true = refl
-and-false false = refl
-
--- the tag of a leaf
+-- the tag of a leaf is not that of a type whose values are text
 has_text-leaf_tag : (l : Leaf) → has_text (leaf_tag l) ≡ false
 has_text-leaf_tag (boolean b) = refl
 has_text-leaf_tag (integer n) = refl
@@ -60,19 +56,11 @@ eqb-leaf_tag_enumerated (utc_time m) = refl
 eqb-leaf_tag_enumerated (generalized_time m) = refl
 
 -- a tag of no leaf is that of no UniversalString and no BMPString
-or-false : (a b : Bool) → (a || b) ≡ false → (a ≡ false) × (b ≡ false)
-or-false true b e = absurd (false≢true (sym e))
-or-false false b e = (refl, e)
-
-or-both_false : (a b : Bool) → a ≡ false → b ≡ false → (a || b) ≡ false
-or-both_false true b e f = absurd (false≢true (sym e))
-or-both_false false b e f = f
-
 is_wide_tag-no_leaf : (tag : ℕ) → is_leaf_tag tag ≡ false → is_wide_tag tag ≡ false
 is_wide_tag-no_leaf tag none =
-    let strings = (or-false _ (is_string_tag tag) none).1 in
-    let (others, bmp_no) = or-false _ (tag == BMP_STRING) strings in
-    or-both_false (tag == UNIVERSAL_STRING) (tag == BMP_STRING) (or-false _ (tag == UNIVERSAL_STRING) others).1 bmp_no
+    let strings = (or_parts _ (is_string_tag tag) none).1 in
+    let (others, bmp_no) = or_parts _ (tag == BMP_STRING) strings in
+    or_from (tag == UNIVERSAL_STRING) (tag == BMP_STRING) (or_parts _ (tag == UNIVERSAL_STRING) others).1 bmp_no
 
 module _ (class : ASN1Class) (tag : ℕ) (contents : List ℕ) (u : class ≡ Universal) where
   is_text_type-universal : (b : Bool) → has_text tag ≡ b → is_text_type class tag ≡ b
@@ -86,7 +74,7 @@ module _ (class : ASN1Class) (tag : ℕ) (contents : List ℕ) (u : class ≡ Un
   has_wide_characters-narrow : is_wide_tag tag ≡ false → has_wide_characters class tag contents ≡ false
   has_wide_characters-narrow e =
       subst (λ z. has_wide_characters z tag contents ≡ false) (sym u)
-      (ap (λ z. not (length contents == 0) && z) e ∙ and-false (not (length contents == 0)))
+      (ap (λ z. not (length contents == 0) && z) e ∙ and_right (not (length contents == 0)) false refl)
 
 is_text_type-other_class : (class : ASN1Class) (tag : ℕ) → class ≢ Universal → is_text_type class tag ≡ false
 is_text_type-other_class Universal tag other = absurd (other refl)
@@ -108,7 +96,7 @@ other_value-other_class Application tag contents other = refl
 other_value-other_class ContextSpecific tag contents other = refl
 other_value-other_class Private tag contents other = refl
 
--- the text of an object identifier
+-- the text of an object identifier is that of its components, whether or not it is held
 unwrap_or-dotted : {A : Type 0} (f : A → List ℕ) (dotted : Option A) (n : List ℕ) → IfSome dotted (λ d. f d ≡ n) →
     unwrap_or (option_map f dotted) n ≡ n
 unwrap_or-dotted f None n none = refl
@@ -131,7 +119,7 @@ IsIdentifierValue-by_size contents components identifier false e (short, dotted)
     )
 
 module _ (offset : ℕ) (class : ASN1Class) (tag : ℕ) (contents : List ℕ) where
-  -- a leaf
+  -- the value of a leaf is shown
   AreShown-leaf : (l : Leaf) (json : Data) → IsLeaf class tag contents l →
       has_wide_characters class tag contents ≡ false → IsLeafValue contents l json →
       AreShown offset class tag contents json None None
@@ -150,7 +138,7 @@ module _ (offset : ℕ) (class : ASN1Class) (tag : ℕ) (contents : List ℕ) wh
       AreShown-leaf l json (u, t, means)
       (has_wide_characters-narrow class tag contents u (subst (λ z. is_wide_tag z ≡ false) (sym t) e)) is
 
-  -- what stays as it came
+  -- the value of what stays as it came is shown
   AreShown-other : (json : Data) → class ≡ Universal → is_leaf_tag tag ≡ false → is_gone_into class false tag ≡ false →
       has_text tag ≡ false → IsValueOf class tag contents (unknown class false 0 tag contents) json →
       AreShown offset class tag contents json None None
@@ -160,7 +148,7 @@ module _ (offset : ℕ) (class : ASN1Class) (tag : ℕ) (contents : List ℕ) wh
       (unknown class false 0 tag contents)
       (λ all header e. Encodes-unknown all contents class false tag header e u none closed) is refl refl
 
--- each value
+-- each value of contents octets is shown
 pub AreShown-value :
     (offset : ℕ) (class : ASN1Class) (tag : ℕ) (contents : List ℕ) (value : LeafValue) →
     is_gone_into class false tag ≡ false → IsValue class tag contents value →

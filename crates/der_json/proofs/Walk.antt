@@ -1,4 +1,4 @@
--- How far the objects of octets were put.
+-- How far the objects of octets were put, for `rows`.
 use Rattle.std.proofs.Common.{◌≡◌, ℕ, suc, ◌+◌, ◌-◌, ◌<◌, Bool, true, false, List, [], ◌∷◌, ◌++◌, map, zero}
 use Rattle.std.proofs.Common.{slice_range, refl, sym, ap, ◌∙◌, subst, arith}
 use Rattle.std.proofs.lemmas.List.{append_assoc, append-nil, map-append}
@@ -24,12 +24,13 @@ use Rattle.der_json.specs.Rows.{AreListed, AreRowsAt, IsArray, IsNestedJson, IsO
 use Rattle.der_pieces.specs.Marks.{are_some, breach_of}
 use Rattle.der_json.specs.declared.object.Object.{Object}
 use Rattle.der_json.specs.declared.rows.Problems.{Problems}
-use Rattle.der_json.proofs.Arrays.{items_text-put, texts-append_put, are_some-append}
+use Rattle.der_json.proofs.Arrays.{items_text-put, texts-append_put}
 use Rattle.der_json.proofs.Pieces.{IsKind-offset}
 use Rattle.der_json.proofs.ShownText.{IsBreak-row, shown_text-append, shown_text-more}
 use Rattle.der_json.specs.Shown.{shown_text}
+use Rattle.der_pieces.proofs.Breach.{are_some-append}
 
--- what stands inside contents octets
+-- the objects of encodings inside contents octets are of what stands inside these
 IsInside-nested :
     (documents : ℕ) (here : Place) (contents : List ℕ) (offset deep : ℕ) (nested : Option Nested)
     (inside : Option Items) (marks : List Departed) → here.documents ≡ documents → deep ≡ suc here.depth →
@@ -124,7 +125,7 @@ data_offset-placed base offset at None shown e o there = ap data_offset e
 data_offset-placed base offset at (Some f) shown e o there =
     ap data_offset e ∙ ap (λ z. z ∷ []) (o ∙ ap (λ z. base + z) (sym there))
 
--- one more
+-- with the object of one piece more, the objects up to the next place of the walk were put
 pub RowsTo-append :
     (strict : Bool) (place : Place) (octets : List ℕ) (old new : Walk) (piece : Piece) (object : Object)
     (inside : Option Items) (listed marks : List Departed) (later : Bool) (found next : Problems)
@@ -196,7 +197,7 @@ RowsTo-append strict place octets old new piece object inside listed marks later
           (Appends-trans a b comma (shown_text before) (comma_if later) s.text_is put_comma) put);
     }
 
--- all
+-- where the walk is at its end, and the closing bracket was put, the array of all objects was put
 pub IsArray-all :
     (strict : Bool) (place : Place) (octets : List ℕ) (walk : Walk) (later : Bool) (found : Problems)
     (a b c : Option (List ℕ)) → RowsTo strict place octets walk later found a b →

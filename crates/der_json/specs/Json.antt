@@ -46,7 +46,8 @@ natural_json n =
     else if nat_lt 9007199254740991 n then string (natural_numeral n)
     else number (unsigned n)
 
--- a whole number, likewise; null where it has more than 1,024 octets (X.690 8.3.2), which take long to be a numeral
+-- a whole number: greater ones than these are texts, since readers of JSON round them; null where it has more than
+-- 1,024 octets (X.690 8.3.2), which take long to be a numeral
 abbrev pub whole_json : ℤ → Data
 whole_json n =
     if nat_lt 1024 (length (shortest_octets n)) then null
@@ -71,8 +72,8 @@ bits_json bits octets =
     object (member (codes "bits") (number (unsigned bits))
     (member (codes "octets") (string (encode_lower octets)) no_members))
 
--- the value of an object identifier of these contents octets, which the library reads so: null where they are more than
--- 1,024. Where its first subidentifier has more octets, its components are others
+-- the value of an object identifier of these contents octets, which the library reads as the components: null where
+-- they are more than 1,024. Where its first subidentifier has more octets, its components are others
 abbrev pub IsIdentifierValue : List ℕ → List ℕ → Data → Type 0
 IsIdentifierValue contents components value =
     ((1024 < length contents) × (value ≡ null))
@@ -96,7 +97,7 @@ IsLeafValue contents (generalized_time moment) value =
     (digits text : List ℕ) × AreFractionOf contents digits × IsMomentText moment digits text
     × (value ≡ string text)
 
--- the value of a block of these contents octets, in which none stand
+-- the value of a block of these contents octets, in which no blocks stand
 abbrev pub IsValue : List ℕ → Tree ℕ → Data → Type 0
 IsValue contents (leaf offset value_read) value = IsLeafValue contents value_read value
 IsValue contents (group offset kind blocks) value = value ≡ null
@@ -300,7 +301,7 @@ pub data IsRowOf (octets : List ℕ) (front : Front) (row : Row) : Type 0 where
   of_unreadable : IsUnreadableRow octets front row → IsRowOf octets front row
   of_encoding : IsEncodingRow octets front row → IsRowOf octets front row
 
--- a member with a text, before others, where there is one; so with a number
+-- a member with a text, or with a number, before others, where there is one
 abbrev pub member_if : List ℕ → Option (List ℕ) → Members → Members
 member_if name None others = others
 member_if name (Some text) others = member name (string text) others
@@ -339,7 +340,7 @@ abbrev pub blocks_if : Option Items → Members
 blocks_if None = no_members
 blocks_if (Some items) = member (codes "blocks") (array items) no_members
 
--- an array of the objects of these
+-- an array of the objects of a list
 abbrev pub items_of : {A : Type 0} → (A → Data) → List A → Items
 items_of json [] = no_items
 items_of json (x ∷ xs) = item (json x) (items_of json xs)
@@ -446,7 +447,7 @@ AreInside (suc documents) contents base deep items marks =
 abbrev pub AreRowsOf : List ℕ → List Row → Type 0
 AreRowsOf octets = AreRows (AreInside 8) false octets 0 0
 
--- nothing is not DER
+-- no rule is broken
 abbrev pub is_der : List Departed → Bool
 is_der [] = true
 is_der (mark ∷ marks) = false
@@ -467,7 +468,7 @@ line_text json = shown_text (compact_text json) ++ 10 ∷ []
 abbrev pub refusal_json : FaultData → Members → Data
 refusal_json fault origin = object (member (codes "fault") (fault_json fault) origin)
 
--- the line of the rows
+-- the line of an array of rows
 abbrev pub rows_text : List Row → Members → List ℕ
 rows_text rows origin = line_text (object (member (codes "blocks") (array (items_of row_json rows)) origin))
 
@@ -482,7 +483,7 @@ marks_text [] origin = []
 marks_text (mark ∷ marks) origin =
     line_text (object (member (codes "not_der") (array (items_of departed_json (mark ∷ marks))) origin))
 
--- the line that there are no octets
+-- the line that says that there are no octets
 abbrev pub IsEmptyLine : Members → List ℕ → Type 0
 IsEmptyLine origin text =
     (message : List ℕ) × (text ≡ line_text (refusal_json (named_fault 0 empty_buffer message) origin))
@@ -494,8 +495,8 @@ IsJsonOf octets origin right text =
     × (text ≡ rows_text rows origin ++ first_text (first_fault rows) origin))
     ⊎ ((octets ≡ []) × (right ≡ false) × IsEmptyLine origin text)
 
--- the text is of octets that have to be DER, where all is, or not: between these lines that of what is not DER, with
--- the offset of each
+-- the text is of octets that have to be DER, where all of them are, or not: the line of the rows, that of what is not
+-- DER, with the offset of each, and that of the first fault
 abbrev pub IsStrictJsonOf : List ℕ → Members → Bool → List ℕ → Type 0
 IsStrictJsonOf octets origin right text =
     ((rows : List Row) × AreRowsOf octets rows

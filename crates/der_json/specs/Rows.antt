@@ -54,7 +54,7 @@ row_of object inside marks = record {
   marks_inside = marks;
 }
 
--- none of it is a float
+-- no number of the object is a float
 abbrev pub IsExact : Object → Type 0
 IsExact object = (has_float (view object.tag.number) ≡ false) × (has_float (view object.value) ≡ false)
 
@@ -221,12 +221,12 @@ abbrev pub blocks_text : Option Items → List ℕ
 blocks_text None = []
 blocks_text (Some items) = codes ",\"blocks\":" ++ compact_text (array items)
 
--- the texts of these, with a comma between two of them
+-- the texts of items, with a comma between two of them
 abbrev pub texts : {A : Type 0} → (A → Data) → Bool → List A → List ℕ
 texts json later [] = []
 texts json later (x ∷ xs) = comma_if later ++ (compact_text (json x) ++ texts json true xs)
 
--- what was found in encodings
+-- what was found in encodings, as rows have it
 abbrev pub departed_of : Departure → Departed
 departed_of departure = record { offset = departure.offset; rule = breach_of departure.rule }
 
@@ -240,7 +240,7 @@ found_departures found = departures_of found.marks.items
 abbrev pub AreRowsAt : Place → List ℕ → List Row → Type 0
 AreRowsAt place octets = AreRows (AreInside place.documents) place.is_inside octets place.base place.depth
 
--- these are the rules that are broken, if they are listed: where octets have to be DER
+-- the rules that are broken are listed where octets have to be DER
 abbrev pub AreListed : Bool → List Departed → List Departed → Type 0
 AreListed strict listed marks = strict ≡ true → listed ≡ marks
 

@@ -1,4 +1,4 @@
--- Marks after marks, and what a mark says.
+-- Marks after marks, and what a mark says, for `encodings` and `lines::push_rules`.
 use Rattle.std.proofs.Common.{◌≡◌, ◌+◌, ◌<◌, ℕ, Bool, true, false, List, [], ◌∷◌, ◌++◌, map, refl, sym, ap, ◌∙◌, append_assoc, append-nil, get_or, length, take}
 use Rattle.std.proofs.lemmas.List.{map-append, take_more}
 use Rattle.der_lines.specs.Dump.{AreMarked, marked_offset, no_more, one, one_inside}
@@ -6,8 +6,9 @@ use Rattle.der_pieces.specs.Fronts.{Front}
 use Rattle.der_pieces.specs.Marks.{Breach, are_some}
 use Rattle.der_lines.specs.MarkText.{separator, breaches_text}
 use Rattle.der_lines.specs.Steps.{counted}
+use Rattle.der_pieces.proofs.Breach.{are_some-append}
 
--- marks after marks
+-- the marks of fronts, and then of others, are the marks of all
 pub AreMarked-append : (P : Front → Type 0) (fs gs : List Front) (a b : List ℕ) → AreMarked P fs a → AreMarked P gs b →
     AreMarked P (fs ++ gs) (a ++ b)
 AreMarked-append P fs gs a b (no_more p q) h = rw (p, q) h
@@ -18,7 +19,7 @@ AreMarked-append P fs gs a b (one_inside f rest q i m) h =
     one_inside f (rest ++ b) (ap (λ z. z ++ b) q ∙ append_assoc (marked_offset f) rest b) i
     (AreMarked-append P fs gs rest b m h)
 
--- what holds of those inside may be weaker
+-- what holds of the fronts inside octets may be weaker
 pub AreMarked-weaker : (P Q : Front → Type 0) → ((f : Front) → P f → Q f) → (fs : List Front) (a : List ℕ) →
     AreMarked P fs a → AreMarked Q fs a
 AreMarked-weaker P Q m fs a (no_more p q) = no_more p q
@@ -34,13 +35,13 @@ pub counted-nil : (inside : Bool) → counted inside [] ≡ []
 counted-nil true = refl
 counted-nil false = refl
 
--- the mark of one
+-- the mark of one front
 pub AreMarked-one : (P : Front → Type 0) (inside : Bool) (f : Front) → P f →
     AreMarked P (counted inside (f ∷ [])) (marked_offset f)
 AreMarked-one P true f i = one_inside f [] (sym (append-nil (marked_offset f))) i (no_more refl refl)
 AreMarked-one P false f i = one f [] [] refl (sym (append-nil (marked_offset f))) (no_more refl refl)
 
--- the texts of breaches behind others
+-- the texts of breaches and one more are those of the breaches, a separator, and the text of this one
 breaches_text-later : (xs : List Breach) (x : Breach) →
     breaches_text true (xs ++ x ∷ []) ≡ breaches_text true xs ++ (separator true ++ x.text)
 breaches_text-later [] x = ap (λ z. separator true ++ z) (append-nil x.text)
@@ -56,11 +57,7 @@ breaches_text-append (y ∷ xs) x =
     ap (λ z. y.text ++ z) (breaches_text-later xs x)
     ∙ sym (append_assoc y.text (breaches_text true xs) (separator true ++ x.text))
 
-are_some-append : (xs : List Breach) (x : Breach) → true ≡ are_some (xs ++ x ∷ [])
-are_some-append [] x = refl
-are_some-append (y ∷ xs) x = refl
-
--- the text of one more was put, of those at an index
+-- where the text of the rule at an index was put, the texts up to this rule were put
 pub breaches_text-put_at :
     {A : Type 0} (breach : A → Breach) (rules : List A) (i : ℕ) (d : A) (later : Bool)
     (before middle comma after : List ℕ) →

@@ -1,4 +1,4 @@
--- What is put of documents.
+-- What is put of a document, its lines and what is wrong with it, for `document::push_lines` and `document::push_last`.
 use Rattle.std.proofs.Common.{◌≡◌, ◌<◌, ℕ, Bool, true, false, List, [], ◌∷◌, ◌++◌, arith, length, take, refl, sym, ap, ◌∙◌, subst, append-nil}
 use Rattle.std.specs.Prelude.{Option, None, Some, Result, Ok, Err, IfOk}
 use Rattle.der_io.specs.declared.StreamFault.{StreamFault}
@@ -106,7 +106,7 @@ IsDumpOfSome-put contents place strict octets most found marks a b c d (Ok v) i 
     (λ rest. (y w : List ℕ) × (rest ≡ y ++ w) × AreFaultLines (mark_offsets marks) y
     × IsLast found.fault (mark_offsets marks) v w) b c d (λ y w are end. (y, w, refl, are, end)) lines last)
 
--- the verdict where nothing is wrong, and where something is
+-- where there are no marks, all was read, and where there are some, it was refused
 pub verdict_of-none : (marks : List Marked) → length marks ≡ 0 → AllRead ≡ verdict_of (mark_offsets marks)
 verdict_of-none [] none = refl
 verdict_of-none (mark ∷ marks) none = absurd (omega (arith, none))

@@ -1,4 +1,4 @@
--- Lines are put after lines.
+-- Lines are put after lines, for `document`, `encodings` and `lines::push_mark`.
 use Rattle.std.proofs.Common.{◌≡◌, ℕ, zero, suc, ◌+◌, ◌-◌, ◌<◌, List, [], ◌∷◌, ◌++◌, codes, drop, if◌then◌else◌, replicate}
 use Rattle.std.proofs.Common.{Bool, true, false, refl, sym, ap, ◌∙◌, subst, append_assoc, append-nil, arith, length}
 use Rattle.std.proofs.lemmas.List.{drop-drop}
@@ -18,7 +18,7 @@ use Rattle.der_rows.specs.Rows.{contents_column, fault_message, indentation, on_
 use Rattle.der_rows.specs.declared.printer.Printer.{Printer}
 use Rattle.der_rows.specs.declared.row.Row.{Row}
 
--- a dump after a dump
+-- the lines of fronts, and then of others, are the lines of all
 pub IsDump-append : (P : Front → Type 0) (fs gs : List Front) (a b : List ℕ) → IsDump P fs a → IsDump P gs b →
     IsDump P (fs ++ gs) (a ++ b)
 IsDump-append P fs gs a b (no_lines p q) h = rw (p, q) h
@@ -29,7 +29,7 @@ IsDump-append P fs gs a b (inside_line f line rest q l i d) h =
     inside_line f line (rest ++ b) (ap (λ z. z ++ b) q ∙ append_assoc line (10 ∷ rest) b) l i
     (IsDump-append P fs gs rest b d h)
 
--- what holds of those inside may be weaker
+-- what holds of the fronts inside octets may be weaker
 pub IsDump-weaker : (P Q : Front → Type 0) → ((f : Front) → P f → Q f) → (fs : List Front) (a : List ℕ) →
     IsDump P fs a → IsDump Q fs a
 IsDump-weaker P Q m fs a (no_lines p q) = no_lines p q
@@ -110,7 +110,7 @@ row_rest row =
 abbrev pub row_text : Row → List ℕ
 row_text row = on_one_line row.value.now ++ on_one_line (fault_message row)
 
--- the line of a row
+-- the line of a row with the fields of a front is the line of this front
 IsBlockLine-row :
     (row : Row) (f : Front) → row.offset ≡ f.offset → row.header ≡ f.header → row.contents ≡ f.contents →
     row.is_indefinite ≡ f.indefinite → row.depth ≡ f.depth → on_one_line row.type_name.now ≡ f.type_name →
@@ -157,7 +157,7 @@ row_line-front true row f q o h c i d w m v =
 row_line-front false row f q o h c i d w m v =
     IsBlockLine-row row f o h c i d w m v 7 (row_line row) (rw q (simp append_assoc))
 
--- octets among octets among octets
+-- what is left of joined octets is what is left of the first, and more
 drop-append : (n : ℕ) (xs ys : List ℕ) → (zs : List ℕ) × (drop n (xs ++ ys) ≡ drop n xs ++ zs)
 drop-append zero xs ys = (ys, refl)
 drop-append (suc n) [] ys = (drop (suc n) ys, refl)
@@ -201,7 +201,7 @@ StandsInside-inside octets part base m further f at e s =
       };
     }
 
--- a mark
+-- there is a mark exactly where there are breaches
 pub mark_text-none : (breaches : List Breach) → length breaches ≡ 0 → mark_text breaches ≡ []
 mark_text-none [] e = refl
 mark_text-none (x ∷ breaches) e = absurd (omega (arith, e))
@@ -219,7 +219,7 @@ mark_text-put a b c d breaches some p q r =
     rw (r, q, p) (simp append_assoc) in
     whole ∙ ap (λ z. a ++ z) (sym (mark_text-some breaches some))
 
--- lines of faults
+-- the line of one fault
 pub AreFaultLines-one : (offset : ℕ) (text : List ℕ) → IsLine (IsFaultLine offset) text →
     AreFaultLines (offset ∷ []) text
 AreFaultLines-one offset text line = (text, [], sym (append-nil text), line, refl)

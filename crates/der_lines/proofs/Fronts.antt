@@ -1,4 +1,4 @@
--- How far the lines of octets were put.
+-- How far the lines of octets were put, for `encodings`.
 use Rattle.std.proofs.Common.{◌≡◌, ◌⊎◌, inl, inr, ℕ, ◌+◌, Bool, true, false, List, [], ◌∷◌, ◌++◌, slice_range, refl, sym, ap, ◌∙◌, subst, append_assoc, append-nil, arith}
 use Rattle.std.specs.Prelude.{Option, None, Some}
 use Rattle.der_pieces.specs.Fronts.{AreFrontsOf, Front, StandAt}
@@ -21,7 +21,7 @@ use Rattle.der_rows.specs.declared.printer.Printer.{Printer}
 abbrev pub IsAmong : List Front → Front → Type 0
 IsAmong fronts f = (earlier others : List Front) × (fronts ≡ earlier ++ f ∷ others)
 
--- the line is of one of these, or of one inside the octets
+-- the front is one of the fronts, at an offset greater by the base, or of an encoding inside the octets
 abbrev pub IsSoFar : ℕ → List ℕ → List Front → Front → Type 0
 IsSoFar base octets fronts p = ((f : Front) × IsAmong fronts f × IsLater base f p) ⊎ StandsInside base octets p
 
@@ -53,14 +53,14 @@ ShownTo-none place octets walk o p ahead = record {
   dump = no_lines (outer-nil place.is_inside place.most_depth) refl;
 }
 
--- the first line
+-- outside of strings the line of a front is that of an equal front, and inside there is none
 IsDump-same_front :
     (P : Front → Type 0) (inside : Bool) (most : Option ℕ) (f g : Front) (text : List ℕ) → (inside ≡ false → f ≡ g) →
     IsDump P (outer inside most (f ∷ [])) text → IsDump P (outer inside most (g ∷ [])) text
 IsDump-same_front P true most f g text e dump = dump
 IsDump-same_front P false most f g text e dump = subst (λ z. IsDump P (outer false most (z ∷ [])) text) (e refl) dump
 
--- the first mark
+-- outside of strings the mark of a front is that of an equal front, and inside it is not counted
 AreMarked-same_front :
     (P : Front → Type 0) (inside : Bool) (f g : Front) (marks : List ℕ) → (inside ≡ false → f ≡ g) →
     AreMarked P (counted inside (f ∷ [])) marks → AreMarked P (counted inside (g ∷ [])) marks
@@ -85,7 +85,7 @@ IsFirstFault-one : (fault : Option Fault) → IsFirstFault (fault_offset fault) 
 IsFirstFault-one None = refl
 IsFirstFault-one (Some fault) = ([], refl)
 
--- the line of a piece is of one of these
+-- the line of the piece that a walk passes is of the fronts with one more
 module _ (place : Place) (octets : List ℕ) (fronts : List Front) (old new : Walk) (piece : Piece)
     (p : Passes old new piece) (same : old.place ≡ place) (same_octets : old.cursor.octets.now ≡ octets)
     (outside : place.is_inside ≡ false → (place.base ≡ 0) × (place.depth ≡ 0)) where
@@ -112,7 +112,7 @@ module _ (place : Place) (octets : List ℕ) (fronts : List Front) (old new : Wa
       } in
       inl (f, (fronts, [], refl), later)
 
-  -- outside of strings it is what the walk came to
+  -- outside of strings the line of a piece begins with what the walk came to
   shown_front-outside : place.is_inside ≡ false → shown_front piece ≡ front_of p.levels piece
   shown_front-outside out =
       let (no_base, no_depth) = outside out in
@@ -134,7 +134,7 @@ module _ (place : Place) (octets : List ℕ) (fronts : List Front) (old new : Wa
       inr (StandsInside-inside octets p.left place.base piece.offset (place.base + piece.offset) h stands refl
       (StandsInside-inside p.left slice (place.base + piece.offset) header further h within (omega (arith, base_is)) s))
 
-  -- the line of one more, and those inside it
+  -- the line of one piece more, and the lines inside it, are lines of the fronts with one more
   IsDump-piece :
       (strict : Bool) (kept text : List ℕ) → IsPieceDump strict p.left piece kept text →
       IsDump (IsSoFar place.base octets one_more)
@@ -155,7 +155,7 @@ module _ (place : Place) (octets : List ℕ) (fronts : List Front) (old new : Wa
       (subst (λ z. IsDump P z (put.first ++ put.rest)) (append-nil (outer place.is_inside place.most_depth (f ∷ [])))
       all)
 
-  -- the mark of one more, and those inside it
+  -- the mark of one piece more, and the marks inside it, are marks of the fronts with one more
   AreMarked-piece :
       (marks : List ℕ) → AreMarked (StandsInPiece p.left piece) [] marks →
       AreMarked (IsSoFar place.base octets one_more) (counted place.is_inside (front_of p.levels piece ∷ []))

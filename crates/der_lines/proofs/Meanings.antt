@@ -12,13 +12,13 @@ use Rattle.der_pieces.specs.declared.piece.PieceKind.TheVariants.{Cut, EndOfCont
 use Rattle.der_pieces.specs.declared.piece.Piece.{Piece}
 use Rattle.der_rows.specs.Rows.{on_one_line}
 
--- what does not stand there has no message
+-- where there is no fault, there is no message
 unwrap_or-none : {A : Type 0} (text : A → List ℕ) (fault : Option A) → is_some fault ≡ false →
     unwrap_or (option_map text fault) [] ≡ []
 unwrap_or-none text None none = refl
 unwrap_or-none text (Some fault) none = absurd (cc none)
 
--- the text of a piece of the kind, and its message
+-- the text of a piece of the kind, and its message, are the text of its value, if it has one
 IsMeaningText-kind :
     (style : ValueStyle) (kind : PieceKind) (value text message : List ℕ) (name : Option (List ℕ)) →
     IsKindText style kind value → text ≡ value ++ parenthesized_if name →
@@ -38,7 +38,8 @@ IsMeaningText-kind style (Leaf header contents (Some v)) value text message name
       ∙ (append-nil (on_one_line text) ∙ ap on_one_line e);
 }
 
--- what stands behind the type in the row of a piece, with the message of the row's fault
+-- what stands behind the type in the row of a piece, and the message of its fault, are the text of its value, if it has
+-- one
 pub IsMeaningText-piece :
     {A : Type 0} (text_of : A → List ℕ) (piece : Piece) (text : List ℕ) (fault : Option A) → IsPieceText piece text →
     IfSome (kind_meaning piece.kind) (λ _. piece.fault ≡ None) → is_some fault ≡ is_some piece.fault →

@@ -61,7 +61,7 @@ IsOneLine-breaches_text later (rule ∷ rules) spare =
     IsOneLine-append (separator later) (text_of rule ++ more) (IsOneLine-separator later)
     (IsOneLine-append (text_of rule) more (IsOneLine-text_of rule) (IsOneLine-breaches_text true rules spare))
 
--- a mark
+-- a mark has no control characters
 pub IsOneLine-mark_text : (rules : List Rule) (spare : Bool) → IsOneLine (mark_text (breaches_of rules spare))
 IsOneLine-mark_text [] false = refl
 IsOneLine-mark_text [] true = refl
@@ -70,7 +70,7 @@ IsOneLine-mark_text (rule ∷ rules) spare =
     IsOneLine-append (codes " (not DER: ") (text ++ codes ")") refl
     (IsOneLine-append text (codes ")") (IsOneLine-breaches_text false (rule ∷ rules) spare) refl)
 
--- a name, if there is one
+-- a name, if there is one, has no control characters
 abbrev is_shown_name : Option (List ℕ) → Bool
 is_shown_name None = true
 is_shown_name (Some name) = list_all is_shown name
@@ -103,7 +103,7 @@ IsOneLine-tag_name Application tag = IsOneLine-numbered (codes "[APPLICATION ") 
 IsOneLine-tag_name ContextSpecific tag = IsOneLine-numbered (codes "[") tag refl
 IsOneLine-tag_name Private tag = IsOneLine-numbered (codes "[PRIVATE ") tag refl
 
--- the type of a piece
+-- the type of a piece has no control characters
 pub IsOneLine-kind_type_name : (kind : PieceKind) → IsOneLine (kind_type_name kind)
 IsOneLine-kind_type_name (EndOfContents size) = refl
 IsOneLine-kind_type_name (Unreadable octets) = refl

@@ -11,7 +11,7 @@ use Rattle.der_pieces.specs.Fronts.{AreFrontsOf, Front, Meaning, StandAt, is_too
 use Rattle.der_lines.specs.ValueText.{IsValueText, parenthesized_if}
 use Rattle.der_lines.specs.declared.values.ValueStyle.{ValueStyle}
 
--- the offset of one that is marked
+-- the offset of a front, if it is marked
 abbrev pub marked_offset : Front → List ℕ
 marked_offset front = if are_some (breaches_of front.rules front.has_spare_bits) then front.offset ∷ [] else []
 
@@ -46,14 +46,14 @@ pub record IsBlockLine (front : Front) (line : List ℕ) : Type 0 where
   pub value : IfSome front.meaning (λ meaning. IsMeaningText meaning text)
   pub mark_is : mark ≡ mark_text (breaches_of front.rules front.has_spare_bits)
 
--- the line of one that stands inside octets of another: `>`, and then as any
+-- the line of an encoding inside octets of another: `>`, and then what the line of any encoding has
 pub record IsInsideLine (front : Front) (line : List ℕ) : Type 0 where
   pub shown : List ℕ
   pub line_is : line ≡ greater_than_sign ∷ shown
   pub block : IsBlockLine front shown
 
--- any other line but that of a first fault: `=`, a space and the label of an object, or `!`, a space and what is wrong
--- with one, on one line
+-- a line of no encoding and no first fault: `=`, a space and the label of an object, or `!`, a space and what is wrong
+-- with an object, on one line
 abbrev pub IsNote : ℕ → List ℕ → List ℕ → Type 0
 IsNote mark text line = line ≡ mark ∷ space ∷ on_one_line text
 
@@ -74,7 +74,7 @@ pub record IsLater (base : ℕ) (front later : Front) : Type 0 where
   pub rules : later.rules ≡ front.rules
   pub meaning : later.meaning ≡ front.meaning
 
--- it is of an encoding in octets among these, which stand so many octets later than these
+-- the front is of an encoding in a part of the octets, at an offset greater by the base and by where the part stands
 pub record StandsInside (base : ℕ) (octets : List ℕ) (later : Front) : Type 0 where
   pub before : ℕ
   pub part : List ℕ
@@ -88,7 +88,7 @@ pub record StandsInside (base : ℕ) (octets : List ℕ) (later : Front) : Type 
   pub among : fronts ≡ earlier ++ front ∷ others
   pub place : IsLater (base + before) front later
 
--- the text is lines, each ended by octet 0A: those that begin so, in order, and those of encodings inside octets, for
+-- the text is lines, each ended by octet 0A: those of the fronts, in order, and those of encodings inside octets, for
 -- which something holds
 pub data IsDump (Inside : Front → Type 0) : List Front → List ℕ → Type 0 where
   no_lines : {fronts : List Front} {text : List ℕ} → fronts ≡ [] → text ≡ [] → IsDump Inside fronts text
@@ -101,7 +101,7 @@ pub data IsDump (Inside : Front → Type 0) : List Front → List ℕ → Type 0
       text ≡ line ++ line_feed ∷ rest → IsInsideLine front line → Inside front →
       IsDump Inside fronts rest → IsDump Inside fronts text
 
--- the offsets of encodings that are marked, in order: of these, and of some inside octets, for which something holds
+-- the offsets of marked encodings, in order: of the fronts, and of some inside octets, for which something holds
 pub data AreMarked (Inside : Front → Type 0) : List Front → List ℕ → Type 0 where
   no_more :
       {fronts : List Front} {offsets : List ℕ} → fronts ≡ [] → offsets ≡ [] →
@@ -145,7 +145,7 @@ IsDumpOfSome strict most octets verdict text =
     × AreFaultLines (wrong_offsets strict marks faults) last
     × (verdict ≡ verdict_of (wrong_offsets strict marks faults))
 
--- the lines of octets, or of none that there are none
+-- the lines of octets, or, where there are no octets, the line that says so
 abbrev pub IsDumpOf : Bool → Option ℕ → List ℕ → Verdict → List ℕ → Type 0
 IsDumpOf strict most octets verdict text =
     ((0 < length octets) × IsDumpOfSome strict most octets verdict text)

@@ -29,7 +29,7 @@ abbrev pub row_faults : Piece → List Bool
 row_faults piece =
     if is_too_deep piece.place.most_depth piece.place.depth then [] else is_some piece.fault ∷ []
 
--- of what stands inside the contents octets of a piece
+-- the front is of what stands inside the contents octets of a piece
 abbrev pub StandsInPiece : List ℕ → Piece → Front → Type 0
 StandsInPiece left piece =
     StandsInside (piece.place.base + (piece.offset + kind_header piece.kind))
@@ -54,8 +54,8 @@ pub record IsPieceDump (strict : Bool) (left : List ℕ) (piece : Piece) (kept t
   pub inside : IsDump (StandsInPiece left piece) [] rest
   pub marked : AreKept strict left piece kept
 
--- what stands before the type: the name of the field and a space; of what has none the name of its type in its place,
--- or nothing, as of what has no names
+-- what stands before the type: the name of the field and a space; where a field has no name, that of its type in its
+-- place, or nothing; and nothing where there are no names
 abbrev pub IsFieldText : Option Named → List ℕ → Type 0
 IsFieldText named text =
     MatchOption named (text ≡ [])
@@ -75,7 +75,7 @@ IsOpenedText style joined text =
     (name : Option (List ℕ)) × (is_shown : Bool) × (identifier_name : List ℕ)
     × (text ≡ spaced_if name ++ opened_text style is_shown identifier_name joined)
 
--- what stands behind the type of a piece of the kind: its value; of octets that have none these
+-- what stands behind the type of a piece of the kind: its value, or its octets where they have none
 abbrev pub IsKindText : ValueStyle → PieceKind → List ℕ → Type 0
 IsKindText style (EndOfContents size) text = text ≡ []
 IsKindText style (Unreadable octets) text = text ≡ after_space style.is_full octets.now

@@ -32,7 +32,7 @@ abbrev pub IsFirstFault : List ℕ → Option Fault → Type 0
 IsFirstFault faults first =
     MatchOption first (faults ≡ []) (λ fault. (later : List ℕ) × (faults ≡ fault.offset ∷ later))
 
--- the first of two
+-- the first of two faults, where there is one
 abbrev pub earlier_fault : Option Fault → Option Fault → Option Fault
 earlier_fault None next = next
 earlier_fault (Some fault) next = Some fault
@@ -47,7 +47,7 @@ abbrev pub kept_marks : Bool → List ℕ → List ℕ
 kept_marks true offsets = offsets
 kept_marks false offsets = []
 
--- where marks stand
+-- the offsets of marks
 abbrev pub mark_offsets : List Marked → List ℕ
 mark_offsets marks = map (λ m. m.offset) marks
 

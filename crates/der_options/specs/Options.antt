@@ -116,43 +116,44 @@ task_exclusions =
     ∷ (codes "extract", codes "contents") ∷ (codes "extract", codes "value")
     ∷ (codes "contents", codes "value") ∷ []
 
--- JSON, which has all blocks whole, with what shows fewer or less, or writes octets
+-- arguments that do not go together: JSON, which has all blocks whole, and what shows fewer or less, or writes octets
 abbrev pub json_exclusions : List (Text × Text)
 json_exclusions =
     (codes "json", codes "depth") ∷ (codes "json", codes "full") ∷ (codes "json", codes "flat")
     ∷ (codes "json", codes "extract") ∷ (codes "json", codes "contents") ∷ (codes "json", codes "value") ∷ []
 
--- a page with JSON or octets
+-- arguments that do not go together: a page, and JSON or octets
 abbrev pub html_exclusions : List (Text × Text)
 html_exclusions =
     (codes "html", codes "json") ∷ (codes "html", codes "extract") ∷ (codes "html", codes "contents")
     ∷ (codes "html", codes "value") ∷ []
 
--- accounts, which show no blocks, with what shows some of them, and with other forms of output
+-- arguments that do not go together: accounts, which show no blocks, and what shows some of them, or another form of
+-- output
 abbrev pub text_exclusions : List (Text × Text)
 text_exclusions =
     (codes "text", codes "json") ∷ (codes "text", codes "html") ∷ (codes "text", codes "color")
     ∷ (codes "text", codes "extract") ∷ (codes "text", codes "contents") ∷ (codes "text", codes "value")
     ∷ (codes "text", codes "depth") ∷ (codes "text", codes "full") ∷ (codes "text", codes "flat") ∷ []
 
--- colors of lines with what writes none
+-- arguments that do not go together: colors of lines, and what writes no lines
 abbrev pub color_exclusions : List (Text × Text)
 color_exclusions =
     (codes "color", codes "json") ∷ (codes "color", codes "html") ∷ (codes "color", codes "extract")
     ∷ (codes "color", codes "contents") ∷ (codes "color", codes "value") ∷ []
 
--- names of object identifiers with octets
+-- arguments that do not go together: names of object identifiers, and octets
 abbrev pub oids_exclusions : List (Text × Text)
 oids_exclusions =
     (codes "oids", codes "extract") ∷ (codes "oids", codes "contents") ∷ (codes "oids", codes "value") ∷ []
 
--- the type of a document with no names of fields, or octets
+-- arguments that do not go together: the type of a document, and no names of fields, or octets
 abbrev pub type_exclusions : List (Text × Text)
 type_exclusions =
     (codes "as", codes "plain") ∷ (codes "as", codes "extract") ∷ (codes "as", codes "contents")
     ∷ (codes "as", codes "value") ∷ []
 
--- all of them
+-- all arguments that do not go together
 abbrev pub exclusions : List (Text × Text)
 exclusions =
     task_exclusions ++ json_exclusions ++ html_exclusions ++ text_exclusions ++ color_exclusions ++ oids_exclusions
@@ -219,8 +220,8 @@ pub record AsksFor (rows : List Row) (options : Options) : Type 0 where
 abbrev pub Means : List Text → Options → Type 0
 Means arguments options = (fault_of command arguments ≡ []) × AsksFor (matches_of command arguments) options
 
--- the matches ask for nothing: the value of an argument that takes a number is none, that of `--color` none of its own,
--- or two arguments do not go together
+-- the matches ask for nothing: the value of an argument that takes a number is no number, that of `--color` is none of
+-- its values, or two arguments do not go together
 abbrev pub AsksForNothing : List Row → OptionsFault → Type 0
 AsksForNothing rows (Command e) = ⊥
 AsksForNothing rows (NoNumber name text) =

@@ -1,4 +1,4 @@
--- What the steps give. Private contracts alone name these.
+-- What the steps return. Private contracts alone name these.
 use Rattle.std.specs.Prelude.{◌≡◌, ◌⊎◌, List, []}
 use Rattle.clap.specs.Words.{IsAmong, Row, Text, fault_of, found_of, kind_of, matches_of, rows_of}
 use Rattle.clap.specs.declared.error.kind.ErrorKind.TheVariants.{OutOfMemory as memory_kind}

@@ -1,4 +1,4 @@
--- What was read of the piece that begins octets.
+-- What was read of the piece that begins octets, for the functions of `piece` and `strings::read_joined`.
 use Rattle.std.proofs.Common.{◌≡◌, inl, inr, ℕ, ◌+◌, ◌-◌, ◌<◌, ◌≤◌, Bool, true, false, List, [], ◌∷◌, ◌++◌, drop, length, take, slice_range, refl, sym, ap, ◌∙◌, subst, append_assoc, arith}
 use Rattle.std.proofs.Math.Seq.{take-add}
 use Rattle.std.proofs.lemmas.List.{length-drop, length-take-le}
@@ -37,7 +37,7 @@ StartsNext-first left offset depth front (Into header size indefinite) faults e 
 StartsNext-first left offset depth front (Past size) faults e some starts = (e, some, starts)
 StartsNext-first left offset depth front (Out size) faults e some starts = absurd starts
 
--- an encoding, where no end-of-contents octets end what is left
+-- where no end-of-contents octets end what is left, the piece that begins its octets is the next piece
 pub IsPiece-first :
     (left : Left) (offset : ℕ) (place : Place) (piece : Piece) →
     (left.is_indefinite && begins_with_end left.octets.now) ≡ false → 0 < length left.octets.now →
@@ -52,7 +52,7 @@ IsPiece-first left offset place piece e some p = record {
   no_list = p.no_list;
 }
 
--- where a fault stands
+-- the offset of a fault at an offset is this offset
 fault_offset-at :
     (Is : Fault → Type 0) (offset : ℕ) (fault : Option Fault) → ((f : Fault) → Is f → f.offset ≡ offset) →
     IsFault Is fault → fault_offset fault ≡ offset ∷ []
@@ -67,7 +67,7 @@ pub fault_offset-nameless : (offset : ℕ) (fault : Option Fault) → IsFault (I
     fault_offset fault ≡ offset ∷ []
 fault_offset-nameless offset fault = fault_offset-at (IsNameless offset) offset fault (λ f is. is.0)
 
--- the encoding with the header that begins the octets is judged so
+-- the faults are what is wrong with the encoding with the header that begins the octets
 abbrev pub IsJudgedAs :
     (left : List ℕ) → ℕ → ℕ → List Rule → Option Meaning → (header : Header) → IsAtFront left header → List ℕ → Type 0
 IsJudgedAs left offset depth rules meaning header h faults =
@@ -101,7 +101,7 @@ IsFirst-begins left offset depth rules meaning header opened faults h o form jud
   meaning = means;
 }
 
--- one offset of a fault is some
+-- a list of the offset of one fault is not empty
 one_fault-not_empty : (faults : List ℕ) (offset : ℕ) → faults ≡ offset ∷ [] → 0 < length faults
 one_fault-not_empty faults offset e = subst (λ z. 0 < length z) (sym e) (omega arith)
 
@@ -109,7 +109,7 @@ taken-cut : (indefinite : Bool) (n there : ℕ) → there < n → there ≡ take
 taken-cut true n there less = refl
 taken-cut false n there less = omega (arith, less)
 
--- an encoding that is cut short
+-- what begins the octets is an encoding that is cut short
 pub StartsWith-cut :
     (left : List ℕ) (offset depth : ℕ) (header : Header) (step : Step) (faults : List ℕ) → IsAtFront left header →
     length left < header.size + header.announced → IsTrue header.is_indefinite ↔ HasIndefiniteForm left →
@@ -130,7 +130,7 @@ StartsWith-cut left offset depth header (Past all) faults h l form (o, q) e =
     )
 StartsWith-cut left offset depth header (Out all) faults h l form none e = absurd none
 
--- one that is whole
+-- an encoding that is whole
 pub StartsWith-whole :
     (left : List ℕ) (offset depth : ℕ) (rules : List Rule) (meaning : Option Meaning) (header : Header) (size : ℕ)
     (step : Step) (faults : List ℕ) (h : IsAtFront left header) →
@@ -146,7 +146,7 @@ StartsWith-whole left offset depth rules meaning header size (Past all) faults h
 StartsWith-whole left offset depth rules meaning header size (Out all) faults h form judged means m none is =
     absurd none
 
--- the octets of a whole encoding
+-- a header with all contents octets that it announces is an encoding at the front of the octets
 pub Encoding-front :
     (left contents : List ℕ) (s n : ℕ) (c : ASN1Class) (k : Bool) (t : ℕ) → BeginsWithHeader left s n c k t →
     s + n ≤ length left → contents ≡ slice_range left s (s + n) → Encoding (take (s + n) left) c k t contents s
@@ -167,7 +167,7 @@ Encoding-front left contents s n c k t h l e =
       size = size-length_header left s n c k t h;
     }
 
--- what is wrong with an encoding that is gone into
+-- what was found to be wrong with an encoding that is gone into is wrong with it
 pub IsJudgedAs-opened :
     (left : List ℕ) (offset depth : ℕ) (rules : List Rule) (header : Header) (fault : Option Fault)
     (h : IsAtFront left header) → header.size + header.announced ≤ length left →
@@ -198,7 +198,7 @@ IsJudgedAs-meaning left offset depth rules meaning header (Some value) fault h l
     (Encoding-front left contents header.size header.announced header.class header.constructed header.tag h l refl) is)
     (ap fault_offset none)
 
--- and with one that is not
+-- what is wrong with an encoding that is not gone into
 pub IsJudgedAs-leaf :
     (left : List ℕ) (offset depth : ℕ) (rules : List Rule) (meaning : Option Meaning) (header : Header)
     (value : Option LeafValue) (fault : Option Fault) (h : IsAtFront left header) →
@@ -211,7 +211,7 @@ IsJudgedAs-leaf left offset depth rules meaning header value fault h l o (inl (s
 IsJudgedAs-leaf left offset depth rules meaning header value fault h l o (inr (stray, is)) =
     IsJudgedAs-meaning left offset depth rules meaning header value fault h l o stray is
 
--- and its meaning
+-- the meaning of an encoding that is not gone into
 pub HasMeaningAs-leaf :
     (left : List ℕ) (offset depth : ℕ) (rules : List Rule) (header : Header) (value : Option LeafValue)
     (fault : Option Fault) (behind : List ℕ) → IsLeafMeaning left header behind offset value fault →
@@ -224,13 +224,13 @@ HasMeaningAs-leaf left offset depth rules header None fault behind (inr (stray, 
 HasMeaningAs-leaf left offset depth rules header (Some value) fault behind (inl (stray, none, is)) = absurd (cc none)
 HasMeaningAs-leaf left offset depth rules header (Some value) fault behind (inr (stray, (is, none))) = (refl, is)
 
--- the rules of a whole encoding
+-- the rules that were found for a whole encoding are those that it breaks
 pub AreFirstRules-whole :
     (left : List ℕ) (header : Header) (rules : List Rule) → header.size + header.announced ≤ length left →
     AreRulesFound left header rules → AreFirstRules left header rules
 AreFirstRules-whole left header rules whole found front = of_whole whole (found front)
 
--- the value of segments joined
+-- the value of joined segments is the value of the string
 pub IsValue-joined :
     (header whole : Header) (contents joined : List ℕ) (value : Option LeafValue) (v : LeafValue)
     (fault : Option Fault) → header.class ≡ Universal → whole.class ≡ Universal → whole.tag ≡ header.tag →

@@ -1,4 +1,4 @@
--- Going over the pieces of octets.
+-- Going over the pieces of octets, for `walk::Walk::next` and `der_lines`.
 use Rattle.std.proofs.Common.{◌≡◌, inl, inr, ℕ, ◌+◌, ◌-◌, ◌<◌, Bool, true, false, List, [], ◌∷◌, ◌++◌, drop, length, slice_range, refl, sym, ap, ◌∙◌, subst, arith}
 use Rattle.std.specs.Prelude.{◌&&◌}
 use Rattle.der_pieces.specs.Fronts.{AreFronts, Front, IsFirst, all_ended, end_missing, end_of_contents, ended_by_octets, gone_into, no_header, one_ended, passed_over, size_in, StandAt}
@@ -27,7 +27,7 @@ cons-end_at :
     (a b : ℕ) (i j : Bool) (ends : List End) → a ≡ b → i ≡ j → end_at a i ∷ ends ≡ end_at b j ∷ ends
 cons-end_at a b i j ends e f = ap (λ z. end_at z i ∷ ends) e ∙ ap (λ z. end_at b z ∷ ends) f
 
--- what begins what is left is the first of what is ahead
+-- a step over the first front leaves the later fronts ahead
 pub IsAhead-step :
     (m n : Cursor) (left : Left) (f : Front) (step : Step) (own : List ℕ) (later : List Front) (more : List ℕ)
     (at : IsLeftOf m left) → StartsNext left m.offset (length at.around) f step own → Goes step m n →

@@ -59,11 +59,11 @@ spare_if false = []
 abbrev pub breaches_of : List Rule → Bool → List Breach
 breaches_of rules spare = map rule_breach rules ++ spare_if spare
 
--- there are some
+-- the list is not empty
 abbrev pub are_some : {A : Type 0} → List A → Bool
 are_some [] = false
 are_some (x ∷ xs) = true
 
--- what a struct tells
+-- what the struct of a broken rule tells
 abbrev pub breach_of : BrokenRule → Breach
 breach_of rule = record { name = rule.name.now; section = rule.section.now; text = rule.text.now }

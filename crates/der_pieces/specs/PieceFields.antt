@@ -15,12 +15,12 @@ abbrev pub AreFieldsIn : Shapes → Around → Option Fields → Type 0
 AreFieldsIn shapes around fields =
     MatchOption fields (around ≡ Nothing) (λ f. (f.shapes.now ≡ shapes) × (f.around ≡ around))
 
--- with so many encodings around it, it is a field, if any, that ends a path of these
+-- with so many encodings around it, the encoding is a field, if any, that ends a path of these fields
 abbrev pub IsSpotIn : Option Fields → ℕ → Option Spot → Type 0
 IsSpotIn None depth spot = spot ≡ None
 IsSpotIn (Some fields) depth spot = IfSome spot (EndsPath fields.shapes.now fields.around depth)
 
--- a piece is such a field, in octets with so many encodings around them
+-- a piece is a field that ends a path of these fields, in octets with so many encodings around them
 abbrev pub IsFieldOf : Option Fields → ℕ → Piece → Type 0
 IsFieldOf fields around piece =
     (depth : ℕ) × (piece.place.depth ≡ around + depth) × IsSpotIn fields depth piece.place.spot

@@ -51,12 +51,12 @@ IsJoined header contents joined =
     × (is_gone_into header.class false header.tag ≡ false)
     × IsValue header.class header.tag joined.contents.items joined.value
 
--- what is wrong with one that is gone into
+-- what is wrong with an encoding that is gone into
 abbrev pub IsOpenedFault : Bool → ℕ → Option Fault → Type 0
 IsOpenedFault stray offset fault =
     ((stray ≡ true) × IsFault (IsNameless offset) fault) ⊎ ((stray ≡ false) × (fault ≡ None))
 
--- this begins the octets, which stand at the offset, and this is wrong with it
+-- a piece of the kind begins the octets, which stand at the offset, and this fault is what is wrong with it
 abbrev pub IsKind : List ℕ → ℕ → PieceKind → Option Fault → Type 0
 IsKind left offset (EndOfContents size) fault =
     ((size ≡ 2) × (fault ≡ None)) ⊎ ((size ≡ 0) × IsFault (IsNamed offset incomplete) fault)
@@ -78,7 +78,7 @@ IsKind left offset (Leaf header contents value) fault =
     × (contents.now ≡ slice_range left header.size (header.size + header.announced))
     × IsLeafMeaning left header (drop (length front.identifier) left) offset value fault
 
--- how many octets its header has, or end-of-contents octets
+-- how many octets the header of a piece has, or how many are end-of-contents octets
 abbrev pub kind_header : PieceKind → ℕ
 kind_header (EndOfContents size) = size
 kind_header (Unreadable octets) = 0
@@ -86,7 +86,7 @@ kind_header (Cut header contents) = header.size
 kind_header (Opened header contents joined) = header.size
 kind_header (Leaf header contents value) = header.size
 
--- how many contents octets it announces, or has
+-- how many contents octets a piece announces, or has
 abbrev pub kind_contents : PieceKind → ℕ
 kind_contents (EndOfContents size) = 0
 kind_contents (Unreadable octets) = length octets.now
@@ -94,7 +94,7 @@ kind_contents (Cut header contents) = header.announced
 kind_contents (Opened header contents joined) = header.announced
 kind_contents (Leaf header contents value) = header.announced
 
--- whether its length is of the indefinite form
+-- whether the length of a piece is of the indefinite form
 abbrev pub kind_indefinite : PieceKind → Bool
 kind_indefinite (EndOfContents size) = false
 kind_indefinite (Unreadable octets) = false
@@ -102,7 +102,7 @@ kind_indefinite (Cut header contents) = header.is_indefinite
 kind_indefinite (Opened header contents joined) = header.is_indefinite
 kind_indefinite (Leaf header contents value) = header.is_indefinite
 
--- the name of its type, or its tag
+-- the name of the type of a piece, or its tag
 abbrev pub kind_type_name : PieceKind → List ℕ
 kind_type_name (EndOfContents size) = codes "end-of-contents"
 kind_type_name (Unreadable octets) = codes "unreadable"
@@ -140,13 +140,13 @@ kind_front offset depth rules spare kind = record {
 abbrev pub front_of : ℕ → Piece → Front
 front_of depth piece = kind_front piece.offset depth piece.breaches.rules.items false piece.kind
 
--- encodings inside its contents octets
+-- the encodings that a piece holds stand inside its contents octets
 abbrev pub IsHolding : List ℕ → PieceKind → Place → Option Nested → Type 0
 IsHolding left kind place nested =
     IfSome nested (λ n. (0 < place.documents)
     × StandAt (slice_range left (kind_header kind) (kind_header kind + kind_contents kind)) n.before n.octets.now)
 
--- the piece begins octets that stand at the offset, and starts so
+-- the piece begins octets that stand at the offset, and a line of the piece starts as this says
 pub record IsPieceAs (Starts : ℕ → Front → Step → List ℕ → Type 0) (left : List ℕ) (offset : ℕ)
     (place : Place) (piece : Piece) : Type 0 where
   pub starts : (depth : ℕ) → Starts depth (front_of depth piece) piece.step (fault_offset piece.fault)

@@ -32,7 +32,7 @@ AreFirstRules left header rules =
     (front : IsAtFront left header) → AreRules left front.identifier front.len header.size header.announced
     header.class header.constructed header.tag rules
 
--- a whole one does
+-- the whole encoding with the header, which begins the octets, breaks these rules
 abbrev pub AreRulesFound : List ℕ → Header → List Rule → Type 0
 AreRulesFound left header rules =
     (front : IsAtFront left header) → AreBroken front.identifier front.len header.class header.constructed header.tag

@@ -7,16 +7,13 @@ ghost use Rattle.der_pieces.specs.Pieces.{IsJoined};
 
 use crate::place::Place;
 use asn1_headers::header::ASN1Class;
-use asn1_headers::tags::{
-    BIT_STRING, BMP_STRING, NUMERIC_STRING, OBJECT_DESCRIPTOR, OCTET_STRING, UNIVERSAL_STRING,
-    UTF8_STRING,
-};
 use asn1_headers::whole_header::Header;
 use asn1_numbers::number::big_uint::BigUint;
 use der_contents::leaf::{Read, read_contents};
 use der_contents::value::LeafValue;
 use der_elements::header::{holds_encodings, universal_tag};
 use der_elements::segments::joined_segments;
+use der_elements::string_value::is_string_tag;
 use der_values::Role;
 use std::alloc::{AllocError, Global};
 
@@ -25,20 +22,9 @@ pub fn string_tag(header: &Header) -> Option<u8>
     ensures { IfSome result (λ tag. (header.now.class ≡ Universal) × (header.now.tag ≡ tag)) }
 {
     match universal_tag(header) {
-        Some(tag) if header.constructed => { if is_string(tag) { Some(tag) } else { None } }
+        Some(tag) if header.constructed => { if is_string_tag(tag) { Some(tag) } else { None } }
         _ => None,
     }
-}
-
-fn is_string(tag: u8) -> bool {
-    matches!(
-        u64::from(tag),
-        BIT_STRING
-            | OCTET_STRING
-            | OBJECT_DESCRIPTOR
-            | UTF8_STRING
-            | NUMERIC_STRING..=UNIVERSAL_STRING | BMP_STRING
-    )
 }
 
 // How many encodings are around the outermost string that is open and constructed, if there is one, after an encoding

@@ -10,7 +10,7 @@ use Rattle.der_rows.specs.declared.line.NoteKind.{NoteKind}
 use Rattle.der_rows.specs.declared.line.NoteKind.TheVariants.{Error, Title}
 use Rattle.der_rows.specs.declared.row.Row.{Row}
 
--- one text and then another
+-- two texts on one line, joined, are on one line
 pub IsOneLine-append : (xs ys : List ℕ) → IsOneLine xs → IsOneLine ys → IsOneLine (xs ++ ys)
 IsOneLine-append xs ys p q = list_all-append is_shown xs ys ∙ (ap (λ z. z && list_all is_shown ys) p ∙ q)
 
@@ -18,19 +18,19 @@ is_shown-or_space : (b : ℕ) (q : Bool) → is_shown b ≡ q → is_shown (if q
 is_shown-or_space b true is = is
 is_shown-or_space b false is = refl
 
--- a text whose control characters became spaces
+-- a text whose control characters became spaces is on one line
 pub IsOneLine-on_one_line : (text : List ℕ) → IsOneLine (on_one_line text)
 IsOneLine-on_one_line [] = refl
 IsOneLine-on_one_line (b ∷ text) =
     ap (λ z. z && list_all is_shown (on_one_line text)) (is_shown-or_space b (is_shown b) refl)
     ∙ IsOneLine-on_one_line text
 
--- spaces
+-- spaces are on one line
 IsOneLine-spaces : (n : ℕ) → IsOneLine (replicate n 32)
 IsOneLine-spaces zero = refl
 IsOneLine-spaces (suc n) = IsOneLine-spaces n
 
--- one of two
+-- either of two texts on one line is on one line
 pub IsOneLine-if : (is : Bool) (xs ys : List ℕ) → IsOneLine xs → IsOneLine ys → IsOneLine (if is then xs else ys)
 IsOneLine-if true xs ys p q = p
 IsOneLine-if false xs ys p q = q
@@ -47,7 +47,7 @@ IsOneLine-digits_onto (suc k) n more one =
     IsOneLine-if (n / 10 == 0) (d ∷ more) (digits_onto k 10 false (n / 10) (d ∷ more)) first
     (IsOneLine-digits_onto k (n / 10) (d ∷ more) first)
 
--- a number in decimal
+-- a number in decimal is on one line
 pub IsOneLine-decimal : (n : ℕ) → IsOneLine (decimal n)
 unfolding digits
 IsOneLine-decimal n = IsOneLine-digits_onto 64 n [] refl

@@ -11,7 +11,7 @@ use Rattle.der_rows.specs.declared.printer.Look.{Look}
 use Rattle.der_rows.specs.declared.printer.Look.TheVariants.{Colored, Page, Plain}
 use Rattle.der_rows.specs.declared.printer.Printer.{Printer}
 
--- nothing was pushed
+-- where nothing is pushed, no text is
 pub Pushes-nil : (look : Look) (a : List ℕ) → Pushes look [] [] a a
 Pushes-nil Plain a = sym (append-nil a)
 Pushes-nil Colored a = Paints-nil a
@@ -25,7 +25,7 @@ Pushes-append Plain fs gs s t a b c one next = next ∙ (ap (λ z. z ++ t) one �
 Pushes-append Colored fs gs s t a b c one next = Paints-append s t a b c one next
 Pushes-append Page fs gs s t a b c one next = Shows-append fs gs s t [] [] a b c one next
 
--- a line and its end, behind what begins it
+-- what begins a line, the line and its end are pushed as the line
 pub Pushes-line :
     (look begun : Look) (fs gs : List Bool) (line a b c d : List ℕ) → begun ≡ look → gs ≡ fs →
     Pushes look gs [] a b → Pushes begun [] line b c → Pushes begun [] (10 ∷ []) c d →
@@ -35,7 +35,7 @@ Pushes-line look begun fs gs line a b c d same are first next last =
     (Pushes-append look gs [] [] (line ++ 10 ∷ []) a b d first
     (subst (λ z. Pushes z [] (line ++ 10 ∷ []) b d) same (Pushes-append begun [] [] line (10 ∷ []) b c d next last)))
 
--- behind another text it is the same
+-- what is pushed does not hang on the text before it
 pub Pushes-behind :
     (look : Look) (fs : List Bool) (t a own : List ℕ) → Pushes look fs t [] own → Pushes look fs t a (a ++ own)
 Pushes-behind Plain fs t a own e = ap (λ z. a ++ z) e
@@ -43,7 +43,7 @@ Pushes-behind Colored fs t a own h =
     record { pieces = h.pieces; text_is = h.text_is; after_is = ap (λ z. a ++ z) h.after_is }
 Pushes-behind Page fs t a own h = Shows-behind fs t [] a own h
 
--- one text alone and then another
+-- two texts, each pushed by itself, are pushed joined
 pub Pushes-append_own :
     (look : Look) (fs gs : List Bool) (s t one next : List ℕ) → Pushes look fs s [] one → Pushes look gs t [] next →
     Pushes look (fs ++ gs) (s ++ t) [] (one ++ next)
@@ -51,11 +51,11 @@ Pushes-append_own look fs gs s t one next first later =
     Pushes-append look fs gs s t [] one (one ++ next) first (Pushes-behind look gs t one next later)
 
 module _ {W : Type 0} (contents : W → Option (List ℕ)) where
-  -- nothing was printed
+  -- a printer that is as it was has printed nothing
   pub Prints-nil : (a : Printer W) → Prints contents [] [] a a
   Prints-nil a = (refl, ([], Pushes-nil a.look [], Appends-nil (contents a.out)))
 
-  -- one text was printed and then another
+  -- two texts printed one after the other are printed joined
   pub Prints-append :
       (fs gs : List Bool) (s t : List ℕ) (a b c : Printer W) → Prints contents fs s a b → Prints contents gs t b c →
       Prints contents (fs ++ gs) (s ++ t) a c
@@ -68,17 +68,17 @@ module _ {W : Type 0} (contents : W → Option (List ℕ)) where
     ),
   )
 
-  -- a text of another kind
+  -- a text of a kind that was printed is of each kind that follows from it
   pub IsPrinted-weaker :
       (Is Other : List ℕ → Type 0) (a b : Printer W) → ((text : List ℕ) → Is text → Other text) →
       IsPrinted contents Is a b → IsPrinted contents Other a b
   IsPrinted-weaker Is Other a b turn (faults, (text, prints, is)) = (faults, (text, prints, turn text is))
 
-  -- nothing
+  -- where the empty text is of the kind, nothing has to be printed
   pub IsPrinted-nil : (Is : List ℕ → Type 0) (a : Printer W) → Is [] → IsPrinted contents Is a a
   IsPrinted-nil Is a is = ([], ([], Prints-nil a, is))
 
-  -- one text and then another
+  -- two texts printed one after the other are a text of the kind of both, joined
   pub IsPrinted-append :
       (Is Later Other : List ℕ → Type 0) (a b c : Printer W) →
       ((text more : List ℕ) → Is text → Later more → Other (text ++ more)) → IsPrinted contents Is a b →
@@ -86,7 +86,7 @@ module _ {W : Type 0} (contents : W → Option (List ℕ)) where
   IsPrinted-append Is Later Other a b c turn (fs, (text, prints, is)) (gs, (more, others, later)) =
       (fs ++ gs, (text ++ more, Prints-append fs gs text more a b c prints others, turn text more is later))
 
-  -- octets that are part of a page, and then more of them
+  -- octets printed as parts of a page, and then more of them, are printed joined
   pub PrintsOctets-append :
       (os ps : List ℕ) (a b c : Printer W) → PrintsOctets contents os a b → PrintsOctets contents ps b c →
       PrintsOctets contents (os ++ ps) a c
@@ -102,7 +102,7 @@ module _ {W : Type 0} (contents : W → Option (List ℕ)) where
   pub PrintsOctets-nil : (a : Printer W) → PrintsOctets contents [] a a
   PrintsOctets-nil a = (refl, ([], Shows-nil [], Appends-nil (contents a.out)))
 
-  -- what a printer has printed by its end
+  -- what a printer has printed is printed at its end
   pub IsPrinted-ended :
       (Is : List ℕ → Type 0) (a b c : Printer W) → IsPrinted contents Is a b → Prints contents [] [] b c →
       IsPrinted contents Is a c
@@ -111,7 +111,7 @@ module _ {W : Type 0} (contents : W → Option (List ℕ)) where
       (λ text more is none. subst Is (sym (ap (λ z. text ++ z) none ∙ append-nil text)) is) printed
       ([], ([], end, refl))
 
-  -- what was written of lines
+  -- lines that were printed are written in the look of the printer
   pub IsWritten-lines :
       (Is : List ℕ → Type 0) (look : Look) (a b : Printer W) → a.look ≡ look → IsPrinted contents Is a b →
       IsWritten (λ text. (lines : List ℕ) × Is lines × ((faults : List Bool) × Pushes look faults lines [] text))
@@ -119,7 +119,7 @@ module _ {W : Type 0} (contents : W → Option (List ℕ)) where
   IsWritten-lines Is look a b same (faults, (lines, (later, (own, made, written)), is)) =
       (own, written, (lines, is, (faults, subst (λ z. Pushes z faults lines [] own) same made)))
 
-  -- a section of a page: its beginning, its rows and the ends of their folds, and octets
+  -- a section of a page that was printed is written: its beginning, its rows and the ends of their folds, and octets
   pub IsWritten-section :
       (Is : List ℕ → Type 0) (octets : List ℕ) (a b c d : Printer W) → a.look ≡ Page →
       PrintsOctets contents [] a b → IsPrinted contents Is b c → PrintsOctets contents octets c d →

@@ -85,7 +85,7 @@ IsSaid shapes shape tag identifier of =
     (row : Part) × (i : ℕ) × IsRowOf shapes shape row × (identifier ≡ Some i)
     × (slice_get shapes.identifiers.items i ≡ Some row.number) × IsOne shapes row.shape tag of
 
--- an element may be anything
+-- an element of the shape, which is open, may be anything
 abbrev pub IsAnything : Shapes → ℕ → OfShape → Type 0
 IsAnything shapes shape of =
     (found : Shape) × (slice_get shapes.shapes.items shape ≡ Some found) × (found.kind ≡ Open)

@@ -10,11 +10,11 @@ use Rattle.der_shapes.specs.Spots.{IsPath}
 abbrev pub path_of : List Frame → List Spot
 path_of frames = reverse (map (λ frame. frame.spot) frames)
 
--- where those that are open stand one inside the next, the element stands in the innermost of them
+-- where the elements that are open stand one inside the next, the element stands in the innermost of them
 abbrev pub GoesOn : Shapes → Inside → List Frame → Spot → Type 0
 GoesOn shapes all frames spot = IsPath shapes all (path_of frames) → IsPath shapes all (spot ∷ path_of frames)
 
--- an element with so many around it is at the end of the path of those that are open, which stand one inside the next
+-- an element with so many around it is at the end of the path of the open elements, which stand one inside the next
 abbrev pub IsReached : Shapes → Inside → ℕ → List Frame → Spot → Type 0
 IsReached shapes all depth frames spot =
     (around : List Spot) × (path_of frames ≡ spot ∷ around) × (length around ≡ depth)

@@ -44,7 +44,7 @@ length-decoded_lt : (line octets : List ℕ) (n : ℕ) → length line ≤ n →
     length octets < 2 ^ 64
 length-decoded_lt line octets n within small is = omega (arith, within, small, (decode_of-ok line octets is).2)
 
--- of all octets one thing is said
+-- octets are accepted with one canonical form, or refused with one fault, and not both
 record Settled (reading : Reading) : Type 0 where
   either :
       (octets : List ℕ) → length octets < 2 ^ 64 →

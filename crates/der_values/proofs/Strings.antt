@@ -1,5 +1,5 @@
--- The characters of strings are UTF-8.
-use Rattle.std.proofs.Common.{◌≡◌, ◌<◌, ◌&&◌, ◌==◌, ℕ, Bool, true, false, List, [], ◌∷◌, if◌then◌else◌, arith, refl}
+-- The characters of strings are UTF-8, for `universal::is_utf8`, `universal::string_of` and `moment::fraction_digits`.
+use Rattle.std.proofs.Common.{◌≡◌, ◌<◌, ◌==◌, ℕ, Bool, true, false, List, [], ◌∷◌, if◌then◌else◌, arith, refl}
 use Rattle.std.proofs.lemmas.Bool.Decides.{nat_tests}
 use Rattle.std.proofs.lemmas.List.Elements.{All-cons, All-nil}
 use Rattle.std.proofs.lemmas.Str.{IsUtf8-from_ascii, IsUtf8-from_is_utf8}
@@ -10,10 +10,7 @@ use Rattle.std.specs.Prelude.{IsUtf8}
 use Rattle.std.specs.Str.{is_utf8}
 use Rattle.asn1_headers.specs.declared.tags.TheConstants.{NUMERIC_STRING}
 use Rattle.der_values.specs.Strings.{has_printed_characters, is_iri, is_numeric, is_printed, is_string}
-
-and-both : (a b : Bool) → (a && b) ≡ true → (a ≡ true) × (b ≡ true)
-and-both true b e = (refl, e)
-and-both false b e = absurd (cc)
+use Rattle.std.proofs.lemmas.Bool.{and_parts}
 
 is_numeric-small : (b : ℕ) → is_numeric b ≡ true → b < 128
 is_numeric-small b e = grind (arith, nat_tests)
@@ -25,7 +22,7 @@ module _ (p : ℕ → Bool) (small : (b : ℕ) → p b ≡ true → b < 128) whe
   list_all-small : (bs : List ℕ) → list_all p bs ≡ true → All (λ b. b < 128) bs
   list_all-small [] e = All-nil (λ b. b < 128)
   list_all-small (b ∷ bs) e =
-      let (here, later) = and-both (p b) (list_all p bs) e in
+      let (here, later) = and_parts (p b) (list_all p bs) e in
       All-cons (λ b. b < 128) b bs (small b here) (list_all-small bs later)
 
   IsUtf8-list_all : (bs : List ℕ) → list_all p bs ≡ true → IsUtf8 bs

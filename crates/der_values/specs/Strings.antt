@@ -22,7 +22,7 @@ has_printed_characters tag = (tag == OBJECT_DESCRIPTOR) || (tag == VIDEOTEX_STRI
 abbrev pub is_iri : ℕ → Bool
 is_iri tag = (tag == OID_IRI) || (tag == RELATIVE_OID_IRI)
 
--- contents octets with the tag are the characters of such a string
+-- contents octets with the tag are the characters of a string of this type
 abbrev pub is_string : ℕ → List ℕ → Bool
 is_string tag octets =
     if tag == NUMERIC_STRING then list_all is_numeric octets

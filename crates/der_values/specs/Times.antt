@@ -46,7 +46,7 @@ abbrev pub is_below : ℕ → ℕ → ℕ → Bool
 is_below limit tens units =
     is_ascii_digit tens && is_ascii_digit units && nat_lt (10 * (tens - digit 0) + (units - digit 0)) limit
 
--- hours and minutes; in a GeneralizedTime also hours alone
+-- a time of day or a difference: hours and minutes; in a GeneralizedTime also hours alone
 abbrev pub is_clock : ℕ → List ℕ → Bool
 is_clock tag clock =
     if length clock == 4
@@ -54,14 +54,14 @@ is_clock tag clock =
     (slice_index clock 3)
     else (tag == GENERALIZED_TIME) && (length clock == 2) && is_below 24 (slice_index clock 0) (slice_index clock 1)
 
--- `Z`, or a sign with a difference; nothing in a GeneralizedTime of local time
+-- a time zone: `Z`, or a sign with a difference; nothing in a GeneralizedTime of local time
 abbrev pub is_zone : ℕ → List ℕ → Bool
 is_zone tag [] = tag == GENERALIZED_TIME
 is_zone tag (first ∷ clock) =
     if first == byte "Z" then length clock == 0
     else ((first == byte "+") || (first == byte "-")) && is_clock tag clock
 
--- nothing; in a GeneralizedTime also a point or a comma with digits
+-- a fraction: nothing; in a GeneralizedTime also a point or a comma with digits
 abbrev pub is_fraction : ℕ → List ℕ → Bool
 is_fraction tag [] = true
 is_fraction tag (mark ∷ digits) =
@@ -75,11 +75,11 @@ full_digits tag digits =
     if tag == GENERALIZED_TIME then digits
     else (if nat_lt (get_or digits 0 0) (byte "5") then codes "20" else codes "19") ++ digits
 
--- how many these are: to the second, or to the minute; in a GeneralizedTime also to the hour
+-- how many digits a date and a time have: to the second, or to the minute; in a GeneralizedTime also to the hour
 abbrev pub is_size : ℕ → ℕ → Bool
 is_size tag size = (size == 14) || (size == 12) || ((tag == GENERALIZED_TIME) && (size == 10))
 
--- with a 0 for each digit that is left out, and `Z`, they are a GeneralizedTime that the library reads
+-- the digits, with a 0 for each digit that is left out, and `Z`, are a GeneralizedTime that the library reads
 abbrev pub AreDateTime : ℕ → List ℕ → Type 0
 AreDateTime tag digits =
     let full = full_digits tag digits in

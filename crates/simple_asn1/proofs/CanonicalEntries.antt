@@ -1,5 +1,5 @@
 -- A document is canonical where each of its blocks, at whatever depth, has the shortest header and, as a leaf, the
--- contents octets that are written.
+-- contents octets that are written, for the functions of `outline::canonical`.
 use Rattle.std.proofs.Common.{◌≡◌, ◌≢◌, ℕ, suc, ◌+◌, ◌-◌, ◌<◌, ◌≤◌, ◌^◌, Bool, true, false, List, [], ◌∷◌, ◌++◌, ◌⊎◌, inl, inr, length, take, drop, get_or, refl, sym, ap, ap₂, ◌∙◌, subst, arith, length-append, append_assoc, append-nil}
 use Rattle.std.specs.Prelude.{All}
 use Rattle.std.specs.List.{slice_range}
@@ -27,7 +27,7 @@ use Rattle.asn1_outline.specs.Entries.{AreEntriesOf, HasHeaderAt, no_entry}
 use Rattle.asn1_outline.specs.Structure.{AreNodes, IsNode, Node, Nodes, more_nodes, no_node, no_nodes, node, node_in_order, node_tree, nodes_depths, nodes_in_order, nodes_trees}
 use Rattle.asn1_outline.specs.declared.entry.Entry.{Entry}
 use Rattle.asn1_outline.proofs.Entries.{length-entries, IsEntry-get_or}
-use Rattle.asn1_outline.proofs.Standing.{drop-contents, length-contents_le, drop-first, drop-rest}
+use Rattle.asn1_outline.proofs.Standing.{drop-contents, length-contents_two_less, drop-first, drop-rest}
 use Rattle.asn1_outline.proofs.Values.{slice_range-at_offset}
 use Rattle.simple_asn1.specs.Canonical.{all_canonical, canonical, shortest_encoding}
 use Rattle.simple_asn1.specs.Inner.InEntries.{BeginsCanonical, HasCanonicalAt, HasShortestAt, IsCanonicalEncoding}
@@ -50,7 +50,7 @@ IsCanonicalEncoding-at_offset x y rest o c k n v h s e there =
     let q4 = subst (λ z. IsCanonicalEncoding y c k z there.contents) same.tag q3 in
     subst (λ z. IsCanonicalEncoding y c k n z) same.contents q4
 
--- the encodings of all nodes are
+-- the encoding at the offset of each node is canonical
 abbrev AllStand : List ℕ → List Node → Type 0
 AllStand x [] = Unit {0}
 AllStand x (n ∷ ns) = HasCanonicalAt x (tree_offset (node_tree n)) × AllStand x ns
@@ -69,7 +69,7 @@ AllStand-each :
 AllStand-each x [] f = tt
 AllStand-each x (n ∷ ns) f = (f 0 (omega arith), AllStand-each x ns (λ k h. f (suc k) (omega (arith, h))))
 
--- a canonical encoding, by equal fields
+-- the shortest encoding of fields is that of equal fields
 shortest_encoding-equal : (c : ASN1Class) (j k : Bool) (n : ℕ) (v w y : List ℕ) → y ≡ shortest_encoding c j n v →
     j ≡ k → v ≡ w
     → y ≡ shortest_encoding c k n w
@@ -123,7 +123,7 @@ mutual
       let later = all_canonical-nodes_trees x ns (place + length e.first) e.rest rest behind e.items are.1 both.1 in
       e.whole ∙ ap₂ (λ a b. a ++ b) first later
 
--- the octets of a document all of whose entries are found to be canonical
+-- a document is canonical where a canonical encoding stands at the offset of each of its entries
 pub all_canonical-entries :
     (x : List ℕ) (bs cs : Trees ℕ) (rs : List Entry) → AreEntriesOf x bs rs →
     ((k : ℕ) → k < length rs → HasCanonicalAt x (get_or rs k no_entry).offset) → IsDocument x cs → IsDocument x bs →
@@ -149,7 +149,7 @@ HasHeaderAt-get_or x bs rs are k h =
     (IsEntry-get_or x 0 order depths rs are.entries k
     (omega (arith, h, length-entries x 0 order depths rs are.entries))).header
 
--- the octets of an encoding that stands in the document
+-- an encoding y with the fields of an entry stands in the document x
 module _ (x y v : List ℕ) (r : Entry) (n : ℕ) (at : EncodingAt x r.offset y) (size : r.contents ≡ length v)
     (e : Encoding y r.class r.constructed n v r.header) where
   -- an encoding is as long as its entry's header and contents octets
@@ -171,7 +171,7 @@ module _ (x y v : List ℕ) (r : Entry) (n : ℕ) (at : EncodingAt x r.offset y)
 
   -- the header of an entry has two octets at least
   pub header-two_le : 2 ≤ r.header
-  header-two_le = omega (arith, length-encoding, size, length-contents_le y r.class r.constructed n v r.header e)
+  header-two_le = omega (arith, length-encoding, size, length-contents_two_less y r.class r.constructed n v r.header e)
 
   -- the contents octets of the entry stand behind its header
   pub slice_range-contents : slice_range x (r.offset + r.header) (r.offset + r.header + r.contents) ≡ v
@@ -182,7 +182,7 @@ module _ (x y v : List ℕ) (r : Entry) (n : ℕ) (at : EncodingAt x r.offset y)
         size,
       ))
 
-  -- the header stands at the front
+  -- the header that the fields of an entry describe
   abbrev header_of_fields : Header
   header_of_fields = record {
     class = r.class;
@@ -210,7 +210,7 @@ module _ (x y v : List ℕ) (r : Entry) (n : ℕ) (at : EncodingAt x r.offset y)
         length_octets = e.length_octets;
       }
 
-  -- a header of no more octets than the shortest
+  -- an encoding with a header as long as the shortest, whose length octets are not 80, is the shortest encoding
   pub shortest_encoding-of_size :
       All (λ b. b < 256) x → n < 31 → (r.contents ≡ 0 → get_or x (r.offset + r.header - 1) 0 ≢ 128) →
       r.header ≡ 1 + length (shortest_length r.contents) → y ≡ shortest_encoding r.class r.constructed n v

@@ -1,4 +1,5 @@
--- An answer that says of octets whether they are a document, with the place of the first fault, is the only one.
+-- A result that says whether octets are a document, with the place of the first fault, is the only one, for
+-- `write::check::check_document` and `write::rewrite_unless_canonical`.
 use Rattle.std.proofs.Common.{◌≡◌, ℕ, ◌<◌, ◌^◌, List, length, Option, Result, Ok, Err, Vec, Global, IfErr, IsErrAnd, subst}
 use Rattle.std.specs.Prelude.{IfOk, MatchOption, MatchResult, OnOk}
 use Rattle.asn1_headers.specs.Fault.{DecodeFault, OutOfMemoryOr}

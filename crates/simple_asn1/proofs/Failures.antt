@@ -1,4 +1,4 @@
--- The first block in tree order that is not read back.
+-- The first block in tree order that is not read back, for the functions of `write::faithful`.
 use Rattle.std.proofs.Common.{◌≡◌, ℕ, zero, suc, ◌+◌, ◌<◌, ◌≤◌, List, [], ◌∷◌, ◌++◌, Bor, Option, Some, None, length, map, take, drop, get_or, refl, sym, ap, ◌∙◌, subst, arith, inl, inr, append-nil, length-take}
 use Rattle.std.proofs.lemmas.List.Elements.{All-append, All-cons, All-head, All-more, All-nil, All-tail, All-weaker}
 use Rattle.std.proofs.lemmas.List.{take_all}
@@ -62,7 +62,7 @@ FailsBy-unique (group o g bs) a b h k = absurd h
 FailsBy-unique (explicit class o tag t) a b h k = h.1 ∙ sym k.1
 FailsBy-unique (unknown class c o tag contents) a b h k = h.1 ∙ sym k.1
 
--- no tree of a list fails
+-- the tree fails for no reason
 abbrev pub DoesNotFail : Tree ℕ → Type 0
 DoesNotFail t = (other : Unfaithful) → FailsBy t other → ⊥
 
@@ -125,7 +125,7 @@ IsFaithful-no_failure t index reason f h =
     All-head DoesNotFail h.failing h.after
     (All-append_right DoesNotFail h.before (h.failing ∷ h.after) all) reason h.fails
 
--- two lists split at a tree that fails behind others that do not: at one place
+-- a list is split at one place alone into trees that do not fail and then one that fails
 FailsBy-same_place :
     (xs ys : List (Tree ℕ)) (s t : Tree ℕ) (after rest : List (Tree ℕ)) (a b : Unfaithful) →
     xs ++ s ∷ after ≡ ys ++ t ∷ rest → All DoesNotFail xs → All DoesNotFail ys → FailsBy s a → FailsBy t b →
@@ -155,7 +155,7 @@ FailsFirst-unique t i j a b h k =
     h.fails k.fails in
     (h.index_is ∙ (s.0 ∙ sym k.index_is), s.1)
 
--- the trees up to a place are faithful alone, and the one there fails
+-- where the trees up to an index are faithful alone and the tree there fails, it is the first that fails
 pub FailsFirst-at :
     (t d : Tree ℕ) (order : List (Tree ℕ)) (index : ℕ) (reason : Unfaithful) → order ≡ in_order t →
     index < length order →
@@ -191,7 +191,7 @@ view-get_or : (order : List (Bor ASN1Block)) (i : ℕ) (b : Bor ASN1Block) → b
     → view b.now ≡ get_or (views_of order) i (view b.now)
 view-get_or order i b is = ap (λ (z : Bor ASN1Block). view z.now) is ∙ sym (get_or-views_of order i b)
 
--- the blocks up to a place and the one there are faithful alone
+-- where the blocks up to a place and the one there are faithful alone, the blocks up to the next place are
 pub All-take_next :
     (order : List (Bor ASN1Block)) (i : ℕ) (b : Bor ASN1Block) → i < length order → b ≡ get_or order i b →
     All IsFaithfulAlone (take i (views_of order)) → IsFaithfulAlone (view b.now) →
@@ -200,7 +200,7 @@ All-take_next order i b l is h f =
     All-more IsFaithfulAlone (views_of order) i (view b.now) (omega (arith, l, length-views_of order)) h
     (subst IsFaithfulAlone (view-get_or order i b is) f)
 
--- the order of one block
+-- the list of all blocks of one tree has the trees of this tree in order
 views_of-one_tree : (t : Tree ℕ) (order : List (Bor ASN1Block)) →
     views_of order ≡ all_in_order (more_trees t no_trees) →
     views_of order ≡ in_order t

@@ -21,7 +21,7 @@ use Rattle.simple_asn1.specs.Inner.InEntries.{BeginsCanonical, IsOfOneForm}
 use Rattle.simple_asn1.specs.Inner.InPlace.{AreCanonicalContents}
 use Rattle.simple_asn1.proofs.InPlace.{HasCanonicalFront, HasCanonicalFront-header, append-short_header, shortest_encoding-same_fields}
 
--- an encoding at the front of octets that begin with a header of two octets
+-- an encoding at the front of octets that begin with a header of two octets has this header
 HasCanonicalFront-short :
     (x y r rest v : List ℕ) (c : ASN1Class) (j k : Bool) (n h b p m : ℕ) → p < 31 → b ≡ leading_octet Universal k p →
     m < 128 → x ≡ b ∷ m ∷ rest → x ≡ y ++ r → Encoding y c j n v h →
@@ -30,19 +30,19 @@ HasCanonicalFront-short x y r rest v c j k n h b p m low is short e whole F =
     HasCanonicalFront-header x y r v [] rest c Universal j k n p h m whole F (omega (arith, short))
     (append-short_header x rest k b p m low is short e)
 
--- its contents octets
+-- the contents octets of an encoding with a header of two octets stand behind the header
 take-front : (y v r rest : List ℕ) (c : ASN1Class) (j k : Bool) (n p m : ℕ) →
     HasCanonicalFront y v [] r rest c Universal j k n p m → v ≡ take m rest
 take-front y v r rest c j k n p m f =
     sym (take-append_seam v r) ∙ ap (λ z. take (length v) z) f.whole ∙ ap (λ z. take z rest) f.size
 
--- octets with such a front are the shortest encoding
+-- an encoding with a canonical header of two octets is the shortest encoding
 shortest_encoding-front : (y v r rest : List ℕ) (c : ASN1Class) (j k : Bool) (n p m : ℕ) →
     HasCanonicalFront y v [] r rest c Universal j k n p m → y ≡ shortest_encoding c j n v
 shortest_encoding-front y v r rest c j k n p m f =
     f.encoding ∙ sym (shortest_encoding-same_fields c Universal j k n p v v f.class f.constructed f.tag refl)
 
--- a leaf with a header of two octets and canonical contents octets
+-- octets with a header of two octets of a leaf, and canonical contents octets, begin with a canonical encoding
 pub BeginsCanonical-leaf : (x rest : List ℕ) (b m : ℕ) → b < 31 → m < 128 → x ≡ b ∷ m ∷ rest →
     AreCanonicalContents Universal false b (take m rest) → BeginsCanonical x
 BeginsCanonical-leaf x rest b m low short e keeps y r c j n v h whole F =
@@ -55,7 +55,7 @@ BeginsCanonical-leaf x rest b m low short e keeps y r c j n v h whole F =
       leaf = λ u l t means. here ∙ keeps.leaf refl l (sym f.tag ∙ t) (subst (LeafContents l) here means);
     }
 
--- a SEQUENCE or SET with a header of two octets
+-- octets with a header of two octets of a SEQUENCE or SET begin with a canonical encoding
 BeginsCanonical-group : (x rest : List ℕ) (g : GroupKind) (b m : ℕ) → group_tag g < 31 →
     b ≡ leading_octet Universal true (group_tag g) → m < 128 → x ≡ b ∷ m ∷ rest → BeginsCanonical x
 BeginsCanonical-group x rest g b m low is short e y r c j n v h whole F =
@@ -67,24 +67,24 @@ BeginsCanonical-group x rest g b m low is short e y r c j n v h whole F =
       leaf = λ u l t means. absurd (leaf_tag-not_group_tag l g (sym t ∙ f.tag));
     }
 
--- octets of an INTEGER that are those that are written, whatever they mean
-integer_leaf :
+-- contents octets that are written of whatever INTEGER they mean are written of whatever leaf of its tag they mean
+LeafContents-integer :
     (contents : List ℕ) → ((n : ℤ) → IntegerContents n contents → contents ≡ integer_contents n) → (l : Leaf) →
     2 ≡ leaf_tag l → LeafContents l contents → contents ≡ leaf_contents l
-integer_leaf contents written (integer n) e p = written n p
-integer_leaf contents written (object_identifier ns) e p = absurd (omega (arith, e))
-integer_leaf contents written (boolean b) e p = absurd (omega (arith, e))
-integer_leaf contents written (bit_string n v) e p = absurd (omega (arith, e))
-integer_leaf contents written (octet_string v) e p = absurd (omega (arith, e))
-integer_leaf contents written null e p = absurd (omega (arith, e))
-integer_leaf contents written (text utf8 cs) e p = absurd (omega (arith, e))
-integer_leaf contents written (text printable cs) e p = absurd (omega (arith, e))
-integer_leaf contents written (text teletex cs) e p = absurd (omega (arith, e))
-integer_leaf contents written (text ia5 cs) e p = absurd (omega (arith, e))
-integer_leaf contents written (text universal cs) e p = absurd (omega (arith, e))
-integer_leaf contents written (text bmp cs) e p = absurd (omega (arith, e))
-integer_leaf contents written (utc_time m) e p = absurd (omega (arith, e))
-integer_leaf contents written (generalized_time m) e p = absurd (omega (arith, e))
+LeafContents-integer contents written (integer n) e p = written n p
+LeafContents-integer contents written (object_identifier ns) e p = absurd (omega (arith, e))
+LeafContents-integer contents written (boolean b) e p = absurd (omega (arith, e))
+LeafContents-integer contents written (bit_string n v) e p = absurd (omega (arith, e))
+LeafContents-integer contents written (octet_string v) e p = absurd (omega (arith, e))
+LeafContents-integer contents written null e p = absurd (omega (arith, e))
+LeafContents-integer contents written (text utf8 cs) e p = absurd (omega (arith, e))
+LeafContents-integer contents written (text printable cs) e p = absurd (omega (arith, e))
+LeafContents-integer contents written (text teletex cs) e p = absurd (omega (arith, e))
+LeafContents-integer contents written (text ia5 cs) e p = absurd (omega (arith, e))
+LeafContents-integer contents written (text universal cs) e p = absurd (omega (arith, e))
+LeafContents-integer contents written (text bmp cs) e p = absurd (omega (arith, e))
+LeafContents-integer contents written (utc_time m) e p = absurd (omega (arith, e))
+LeafContents-integer contents written (generalized_time m) e p = absurd (omega (arith, e))
 
 -- octets at the front of octets are octets
 take-octets : (x : List ℕ) (n : ℕ) → ((k : ℕ) → get_or x k 0 < 256) → (k : ℕ) → get_or (take n x) k 0 < 256
@@ -95,10 +95,10 @@ take-octets x n small k = elim (cases_lt k n) [
 ]
 
 -- contents octets of an INTEGER are canonical where the first is needed before the second, if there are two
-pub canonical_integer :
+pub AreCanonicalContents-integer :
     (x : List ℕ) (n : ℕ) → ((k : ℕ) → get_or x k 0 < 256) → 0 < n → 0 < length x →
     (1 < n → get_or x 0 0 ≢ sign_before (get_or x 1 0)) → AreCanonicalContents Universal false 2 (take n x)
-canonical_integer x n small some more needed =
+AreCanonicalContents-integer x n small some more needed =
     let v = take n x in
     let first : get_or v 0 0 ≡ get_or x 0 0 = get_or-take n x 0 0 some in
     let long : 0 < length v = omega (arith, length-take n x, some, more) in
@@ -109,7 +109,7 @@ canonical_integer x n small some more needed =
     record {
       no_group = λ u g e. is_leaf_tag-not_group_tag 2 g refl e;
       primitive = λ u l e. refl;
-      leaf = λ u l e p. integer_leaf v (λ m q. IsShortestSigned-drop v 0 long (take-octets x n small) own
+      leaf = λ u l e p. LeafContents-integer v (λ m q. IsShortestSigned-drop v 0 long (take-octets x n small) own
           ∙ ap shortest_octets (sym q)) l e p;
       within = λ other e. absurd (other refl);
     }
@@ -118,7 +118,7 @@ canonical_integer x n small some more needed =
 abbrev IsPlain : ℕ → Type 0
 IsPlain tag = (tag ≡ 4) ⊎ (tag ≡ 12) ⊎ ((17 < tag) × (tag < 24))
 
--- no other tag number is one of these
+-- no tag number outside 4, 12 and 18 to 23 has one form alone
 IsPlain-no_other : (tag n : ℕ) → IsPlain tag → tag ≡ n →
     (n < 4) ⊎ ((4 < n) × (n < 12)) ⊎ ((12 < n) × (n < 18)) ⊎ (23 < n) → ⊥
 IsPlain-no_other tag n (inl a) e (inl o) = omega (arith, a, e, o)
@@ -134,50 +134,51 @@ IsPlain-no_other tag n (inr (inr a)) e (inr (inl o)) = omega (arith, a.0, e, o.1
 IsPlain-no_other tag n (inr (inr a)) e (inr (inr (inl o))) = omega (arith, a.0, e, o.1)
 IsPlain-no_other tag n (inr (inr a)) e (inr (inr (inr o))) = omega (arith, a.1, e, o)
 
--- octets of such a tag are those that are written of what they mean
-plain_leaf :
+-- contents octets of a tag number of one form are those that are written of what they mean
+LeafContents-plain :
     (contents : List ℕ) (tag : ℕ) → IsPlain tag → (l : Leaf) → tag ≡ leaf_tag l → LeafContents l contents →
     contents ≡ leaf_contents l
-plain_leaf contents tag plain (octet_string v) e p = sym p
-plain_leaf contents tag plain (text utf8 cs) e p = sym p.1
-plain_leaf contents tag plain (text printable cs) e p = sym p.1
-plain_leaf contents tag plain (text teletex cs) e p = sym p.1
-plain_leaf contents tag plain (text ia5 cs) e p = sym p
-plain_leaf contents tag plain (text universal cs) e p = sym p.1
-plain_leaf contents tag plain (text bmp cs) e p = sym p.1
-plain_leaf contents tag plain (utc_time m) e p = p.1
-plain_leaf contents tag plain (integer n) e p = absurd (IsPlain-no_other tag 2 plain e (inl (omega arith)))
-plain_leaf contents tag plain (boolean b) e p = absurd (IsPlain-no_other tag 1 plain e (inl (omega arith)))
-plain_leaf contents tag plain (bit_string n v) e p = absurd (IsPlain-no_other tag 3 plain e (inl (omega arith)))
-plain_leaf contents tag plain null e p =
+LeafContents-plain contents tag plain (octet_string v) e p = sym p
+LeafContents-plain contents tag plain (text utf8 cs) e p = sym p.1
+LeafContents-plain contents tag plain (text printable cs) e p = sym p.1
+LeafContents-plain contents tag plain (text teletex cs) e p = sym p.1
+LeafContents-plain contents tag plain (text ia5 cs) e p = sym p
+LeafContents-plain contents tag plain (text universal cs) e p = sym p.1
+LeafContents-plain contents tag plain (text bmp cs) e p = sym p.1
+LeafContents-plain contents tag plain (utc_time m) e p = p.1
+LeafContents-plain contents tag plain (integer n) e p = absurd (IsPlain-no_other tag 2 plain e (inl (omega arith)))
+LeafContents-plain contents tag plain (boolean b) e p = absurd (IsPlain-no_other tag 1 plain e (inl (omega arith)))
+LeafContents-plain contents tag plain (bit_string n v) e p = absurd (IsPlain-no_other tag 3 plain e (inl (omega arith)))
+LeafContents-plain contents tag plain null e p =
     absurd (IsPlain-no_other tag 5 plain e (inr (inl (omega arith, omega arith))))
-plain_leaf contents tag plain (object_identifier ns) e p =
+LeafContents-plain contents tag plain (object_identifier ns) e p =
     absurd (IsPlain-no_other tag 6 plain e (inr (inl (omega arith, omega arith))))
-plain_leaf contents tag plain (generalized_time m) e p =
+LeafContents-plain contents tag plain (generalized_time m) e p =
     absurd (IsPlain-no_other tag 24 plain e (inr (inr (inr (omega arith)))))
 
--- no such tag is that of a SEQUENCE or SET
+-- no tag number of one form is that of a SEQUENCE or SET
 IsPlain-no_group : (tag : ℕ) → IsPlain tag → (g : GroupKind) → tag ≡ group_tag g → ⊥
 IsPlain-no_group tag plain Sequence e =
     IsPlain-no_other tag 16 plain e (inr (inr (inl (omega arith, omega arith))))
 IsPlain-no_group tag plain Set e = IsPlain-no_other tag 17 plain e (inr (inr (inl (omega arith, omega arith))))
 
--- contents octets of such a tag are canonical
-canonical_plain : (tag : ℕ) (contents : List ℕ) → IsPlain tag → AreCanonicalContents Universal false tag contents
-canonical_plain tag contents plain = record {
+-- contents octets of a tag number of one form are canonical
+AreCanonicalContents-plain : (tag : ℕ) (contents : List ℕ) → IsPlain tag →
+    AreCanonicalContents Universal false tag contents
+AreCanonicalContents-plain tag contents plain = record {
   no_group = λ u g e. IsPlain-no_group tag plain g e;
   primitive = λ u l e. refl;
-  leaf = λ u l e p. plain_leaf contents tag plain l e p;
+  leaf = λ u l e p. LeafContents-plain contents tag plain l e p;
   within = λ other e. absurd (other refl);
 }
 
--- a leaf of such a tag with a header of two octets
+-- octets with a header of two octets of a tag number of one form begin with a canonical encoding
 BeginsCanonical-plain : (x rest : List ℕ) (b m : ℕ) → m < 128 → x ≡ b ∷ m ∷ rest → IsPlain b → b < 31 →
     BeginsCanonical x
 BeginsCanonical-plain x rest b m short e plain low =
-    BeginsCanonical-leaf x rest b m low short e (canonical_plain b (take m rest) plain)
+    BeginsCanonical-leaf x rest b m low short e (AreCanonicalContents-plain b (take m rest) plain)
 
--- an encoding with a header of two octets, whose contents octets have one form alone
+-- octets with a header of two octets, whose contents octets have one form alone, begin with a canonical encoding
 pub BeginsCanonical-one_form : (x rest : List ℕ) (b m : ℕ) → IsOfOneForm b → m < 128 → x ≡ b ∷ m ∷ rest →
     BeginsCanonical x
 BeginsCanonical-one_form x rest b m is short e = elim is [

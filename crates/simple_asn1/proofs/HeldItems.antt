@@ -1,4 +1,4 @@
--- The blocks that a tree holds.
+-- A tree holds blocks in one way, and one made of items holds these, for `items::items_of` and `build::implicit`.
 use Rattle.std.proofs.Common.{◌≡◌, ◌≢◌, ℕ, suc, ◌+◌, ◌<◌, ◌^◌, true, false, List, [], ◌∷◌, Option, Some, None, Result, Ok, Err, length, refl, sym, ap, ◌∙◌, subst, arith, append-nil, inr}
 use Rattle.std.specs.Prelude.{IfOk, IsSomeAnd, MatchOption}
 use Rattle.std.specs.declared.alloc.AllocError.{AllocError}
@@ -28,7 +28,7 @@ Holds-unique (explicit class o tag b) xs ys h k = h ∙ sym k
 Holds-unique (unknown class true o tag contents) xs ys h k = EncodesAll-unique 0 contents xs ys h k
 Holds-unique (unknown class false o tag contents) xs ys h k = absurd h
 
--- what is found of a tree that holds blocks
+-- of a tree that holds blocks these blocks are found
 pub IsSomeAnd-held_items :
     (t : Tree ℕ) (r : Result (Option Items) AllocError) →
     IfOk r (λ found. MatchOption found (HoldsNothing t) (λ items. Holds t (items_trees items))) →
@@ -43,7 +43,7 @@ tree_count-all_placed : (o : ℕ) (bs : Trees ℕ) → tree_count (all_placed o 
 tree_count-all_placed o no_trees = refl
 tree_count-all_placed o (more_trees b bs) = ap suc (tree_count-all_placed (o + length (canonical b)) bs)
 
--- what the contract of the maker says of the tree made
+-- how the tree is written that is made of items, and what it holds
 pub record IsMadeOf (class : ASN1Class) (tag : ℕ) (items : Trees ℕ) (t : Tree ℕ) : Type 0 where
   pub encoded : canonical t ≡ shortest_encoding class true tag (all_canonical items)
   pub writable : write_fault t ≡ first_write_fault items
@@ -80,7 +80,7 @@ IsMadeOf-several class tag xs t several e writable small = subst (IsMadeOf class
       inr (ne, λ p. no_block p.1);
 }
 
--- what is made of these items, by what the two ways of making it say
+-- a tree that is made of one item, or of any other number of items, is made of these items
 IsMadeOf-items :
     (class : ASN1Class) (tag : ℕ) (xs : List ASN1Block) (r : Result ASN1Block ASN1EncodeErr) →
     ((item : ASN1Block) → xs ≡ item ∷ [] → IfOk r (λ b. view b ≡ explicit class 0 tag (view item))) →

@@ -1,4 +1,5 @@
--- Octets are canonical where each header in them is, and the contents octets of each leaf.
+-- Octets are canonical where each header in them is, and the contents octets of each leaf, for `write::in_place` and
+-- `outline::canonical`.
 use Rattle.std.proofs.Common.{◌≡◌, ◌≢◌, ℕ, ◌+◌, ◌-◌, ◌<◌, ◌≤◌, ◌^◌, Bool, true, false, List, [], ◌∷◌, ◌++◌, ◌⊎◌, inl, inr, length, take, drop, get_or, refl, sym, ap, ◌∙◌, subst, ap₂, arith, length-append, append_assoc, append-nil}
 use Rattle.std.specs.Prelude.{All}
 use Rattle.std.proofs.Math.Seq.{drop-append_seam, take-append_seam}
@@ -35,7 +36,8 @@ all_canonical-joined (more_trees b xs) ys =
     ap (λ z. canonical b ++ z) (all_canonical-joined xs ys)
     ∙ sym (append_assoc (canonical b) (all_canonical xs) (all_canonical ys))
 
--- an encoding whose header is canonical, and what stands there in place of its contents octets
+-- an encoding s has a canonical header that announces m octets: its contents octets, which r follows, stand behind the
+-- header as own and rest do
 pub record HasCanonicalFront (s contents own r rest : List ℕ) (c d : ASN1Class) (j k : Bool) (n p m : ℕ) : Type 0 where
   pub encoding : s ≡ shortest_encoding d k p contents
   pub whole : contents ++ r ≡ own ++ rest
@@ -44,7 +46,7 @@ pub record HasCanonicalFront (s contents own r rest : List ℕ) (c d : ASN1Class
   pub constructed : j ≡ k
   pub tag : n ≡ p
 
--- the encoding at the front of octets that begin with a canonical header
+-- an encoding at the front of octets that begin with a canonical header has this header
 pub HasCanonicalFront-header :
     (x s r contents own rest : List ℕ) (c d : ASN1Class) (j k : Bool) (n p h m : ℕ) →
     x ≡ s ++ r → Encoding s c j n contents h → m < 2 ^ 64 →
@@ -70,7 +72,7 @@ HasCanonicalFront-header x s r contents own rest c d j k n p h m w F small e =
       tag = t.tag;
     }
 
--- octets of trees at the front of canonical octets of these are no others
+-- octets that encode trees, at the front of octets that begin with the trees' canonical octets, are these
 all_canonical-front :
     (o : ℕ) (y z w : List ℕ) (bs : Trees ℕ) → length (y ++ z) < 2 ^ 64 → EncodesAll o y bs →
     y ++ z ≡ all_canonical bs ++ w → (y ≡ all_canonical bs) × (z ≡ w)
@@ -89,7 +91,7 @@ all_canonical-front o y z w (more_trees b bs) small s e =
     let r = all_canonical-front (o + length s.first) s.rest z w bs (omega (arith, small, n)) s.items h.rest in
     (s.whole ∙ (ap (λ q. q ++ s.rest) h.octets ∙ ap (λ q. canonical b ++ q) r.0), r.1)
 
--- no octets are no trees
+-- octets of length 0 are canonical
 pub AreCanonical-empty : (x : List ℕ) → length x ≡ 0 → AreCanonical x
 AreCanonical-empty x none o no_trees s = s
 AreCanonical-empty x none o (more_trees b bs) s =
@@ -108,7 +110,7 @@ shortest_encoding-same_fields c d j k m n v w p q r s =
     ap (λ z. shortest_encoding z j m v) p ∙ (ap (λ z. shortest_encoding d z m v) q
     ∙ (ap (λ z. shortest_encoding d k z v) r ∙ ap (λ z. shortest_encoding d k n z) s))
 
--- a canonical encoding, and canonical octets after it
+-- a canonical encoding followed by canonical octets of trees is canonical octets
 all_canonical-first_and_rest : (o : ℕ) (x s r rest written : List ℕ) (bs : Trees ℕ) → x ≡ s ++ r → EncodesAll o r bs →
     s ≡ written → r ≡ rest →
     AreCanonical rest
@@ -131,7 +133,7 @@ length-contents_lt x own rest c k n few e =
       length-append own rest,
     )
 
--- past an encoding that is no SEQUENCE or SET
+-- octets are canonical if those behind a canonical encoding of no SEQUENCE or SET are
 AreCanonical-past : (x own rest : List ℕ) (c : ASN1Class) (k : Bool) (n : ℕ) → length x < 2 ^ 64 →
     AreCanonicalContents c k n own
     → x ≡ shortest_identifier c k n ++ (shortest_length (length own) ++ (own ++ rest)) → AreCanonical rest →
@@ -183,7 +185,7 @@ AreCanonical-past x own rest c k n few keeps e after o (more_trees (unknown d j 
     all_canonical-first_and_rest (o + length s.first) x s.first s.rest rest
     (canonical (unknown d j p m v)) bs s.whole s.items here q.1 after
 
--- into a SEQUENCE or SET
+-- octets with the shortest header of a SEQUENCE or SET are canonical if those behind the header are
 AreCanonical-into_group : (x rest : List ℕ) (g : GroupKind) (m : ℕ) → length x < 2 ^ 64 → m < 2 ^ 64
     → x ≡ shortest_identifier Universal true (group_tag g) ++ (shortest_length m ++ rest) → AreCanonical rest →
     AreCanonical x
@@ -238,9 +240,9 @@ AreCanonical-into_group x rest g m few small e after o (more_trees (group p h he
     refl (sym f.tag) v.0 in
     s.whole ∙ (ap (λ z. z ++ r) here ∙ ap (λ z. canonical (group p h held) ++ z) v.1)
 
--- length octets are some
-length-shortest_length_some : (n : ℕ) → 0 < length (shortest_length n)
-length-shortest_length_some n =
+-- the shortest length octets are not empty
+shortest_length-not_empty : (n : ℕ) → 0 < length (shortest_length n)
+shortest_length-not_empty n =
     let ds = digits_of 256 n in
     let long = (128 + length ds) ∷ ds in
     elim (cases_lt n 128) [
@@ -258,14 +260,14 @@ length-two_octets_fewer x own rest c k n m e =
     omega (
       arith,
       IsIdentifier-not_empty i c k n (IsIdentifier-shortest c k n),
-      length-shortest_length_some m,
+      shortest_length-not_empty m,
       ap length e,
       length-append i (l ++ (own ++ rest)),
       length-append l (own ++ rest),
       length-append own rest,
     )
 
--- contents octets of a tag without a rule
+-- contents octets of a tag without a rule are canonical
 pub AreCanonicalContents-no_rule : (c : ASN1Class) (k : Bool) (n : ℕ) (own : List ℕ) →
     (c ≡ Universal → is_known_tag n ≡ false) →
     (c ≢ Universal → k ≡ true → ⊥)
@@ -277,7 +279,7 @@ AreCanonicalContents-no_rule c k n own plain closed = record {
   within = λ other e. absurd (closed other e);
 }
 
--- what an encoding leaves that holds no octets to be gone over
+-- an encoding with canonical contents octets leaves the octets after it
 LeavesBoth-past : (x own rest : List ℕ) (c : ASN1Class) (k : Bool) (n : ℕ) → length x < 2 ^ 64
     → x ≡ shortest_identifier c k n ++ (shortest_length (length own) ++ (own ++ rest)) →
     AreCanonicalContents c k n own → LeavesBoth x [] rest
@@ -320,7 +322,7 @@ get_or-last_of_header x i l size within HasCanonicalFront-header one =
     ∙ ap (λ z. get_or z (size - 1) 0) f
     ∙ get_or_push i 128 0 (size - 1) (omega (arith, n, m))
 
--- length octets 80 announce none
+-- length octets 80 announce no contents octets
 IsLength-80 : (l : List ℕ) (n : ℕ) → IsLength l n → l ≡ 128 ∷ [] → n ≡ 0
 IsLength-80 l n is one =
     elim (subst (λ z. IsLength z n) one is) [ inl q ↦ absurd (omega (arith, q.0)) | inr q ↦ q.2 ]
@@ -344,7 +346,7 @@ AreHeaderOctets-front x i l size all whole =
 length-header_parts : (x i l : List ℕ) (size : ℕ) → size ≤ length x → take size x ≡ i ++ l → size ≡ length i + length l
 length-header_parts x i l size within whole = sym (length-take-le size x within) ∙ (ap length whole ∙ length-append i l)
 
--- the shortest octets of its fields are no more
+-- the shortest header is no longer than any header with its fields
 pub length-shortest_header_le : (x : List ℕ) (h : Header) → All (λ b. b < 256) x → IsAtFront x h
     → length (shortest_identifier h.class h.constructed h.tag) + length (shortest_length h.announced) ≤ h.size
 length-shortest_header_le x h all f =
@@ -356,7 +358,7 @@ length-shortest_header_le x h all f =
       length-shortest_length_le f.len h.announced p.len f.length_octets,
     )
 
--- a header with no more octets than these
+-- a header as long as the shortest, whose length octets are not 80, is the shortest
 pub BeginsShortest-of_size : (x : List ℕ) (h : Header) → All (λ b. b < 256) x → IsAtFront x h →
     (h.announced ≡ 0 → get_or x (h.size - 1) 0 ≢ 128)
     → length (shortest_identifier h.class h.constructed h.tag) + length (shortest_length h.announced) ≡ h.size →
@@ -379,7 +381,7 @@ BeginsShortest-of_size x h all f other same =
           (shortest_length-only l h.announced p.len not f.length_octets (omega (arith, size, a, b, same)));
     }
 
--- octets that begin with a shortest header, by that header and what follows it
+-- octets that begin with a shortest header are this header and what follows it
 pub append-shortest_header : (x rest : List ℕ) (h : Header) → BeginsShortest x h → rest ≡ drop h.size x
     → x ≡ shortest_identifier h.class h.constructed h.tag ++ (shortest_length h.announced ++ rest)
 append-shortest_header x rest h f behind =
@@ -388,7 +390,7 @@ append-shortest_header x rest h f behind =
     sym (take-append-drop h.size x)
     ∙ (ap (λ z. z ++ drop h.size x) f.shortest ∙ (ap (λ z. (i ++ l) ++ z) (sym behind) ∙ append_assoc i l rest))
 
--- octets that begin with a shortest header and its contents octets, by that encoding and what follows it
+-- octets that begin with a shortest header and its contents octets are this encoding and what follows it
 pub append-shortest_encoding : (x rest own after : List ℕ) (h : Header) → BeginsShortest x h → rest ≡ drop h.size x →
     rest ≡ own ++ after → length own ≡ h.announced
     → x ≡ shortest_identifier h.class h.constructed h.tag ++ (shortest_length (length own) ++ (own ++ after))
@@ -398,7 +400,7 @@ append-shortest_encoding x rest own after h f behind whole size =
     ∙ (ap (λ z. i ++ (shortest_length h.announced ++ z)) whole
     ∙ ap (λ z. i ++ (shortest_length z ++ (own ++ after))) (sym size))
 
--- a SEQUENCE or SET leaves all octets after it
+-- a SEQUENCE or SET leaves all octets after its header
 pub LeavesBoth-group : (x rest : List ℕ) (h : Header) → length x < 2 ^ 64 → h.announced < 2 ^ 64 → BeginsShortest x h →
     rest ≡ drop h.size x
     → IsOfGroup h → LeavesBoth x [] rest
@@ -411,7 +413,7 @@ LeavesBoth-group x rest h few small f behind is = elim is.2 [ inl tag ↦ of Seq
         ∙ ap (λ z. shortest_identifier Universal true z ++ (shortest_length h.announced ++ rest)) tag)
         ))
 
--- an encoding of class Universal whose contents octets are canonical leaves those after it
+-- an encoding of class Universal whose contents octets are canonical leaves the octets after it
 pub LeavesBoth-universal : (x rest own after : List ℕ) (h : Header) → length x < 2 ^ 64 → BeginsShortest x h →
     rest ≡ drop h.size x → rest ≡ own ++ after
     → length own ≡ h.announced → h.class ≡ Universal → AreCanonicalContents Universal h.constructed h.tag own →
@@ -439,7 +441,7 @@ LeavesBoth-primitive x rest own after h few f behind whole size other primitive 
     (AreCanonicalContents-no_rule h.class h.constructed h.tag own (λ u. absurd (other u))
     (λ not k. false≢true (sym primitive ∙ k)))
 
--- octets that begin with a header of class Universal in two octets
+-- a header of class Universal in two octets is the shortest header
 pub append-short_header : (x rest : List ℕ) (k : Bool) (b n m : ℕ) → n < 31 → b ≡ leading_octet Universal k n →
     m < 128 → x ≡ b ∷ m ∷ rest → x ≡ shortest_identifier Universal k n ++ (shortest_length m ++ rest)
 append-short_header x rest k b n m low is short e =
@@ -461,7 +463,7 @@ LeavesBoth-short_group x rest b m few short is e = elim is [
       (append-short_header x rest true b 17 m (omega arith) at short e)
 ]
 
--- a canonical leaf with a header of two octets leaves those after it
+-- a canonical leaf with a header of two octets leaves the octets after it
 pub LeavesBoth-short_leaf : (x own after : List ℕ) (b m : ℕ) → length x < 2 ^ 64 → b < 31 → m < 128 → length own ≡ m →
     x ≡ b ∷ m ∷ (own ++ after)
     → AreCanonicalContents Universal false b own → LeavesBoth x [] after

@@ -1,4 +1,4 @@
--- What has no two items is no point.
+-- A SEQUENCE without two items is no point, for `convert::point::point_of`.
 use Rattle.std.proofs.Common.{◌≡◌, ◌≢◌, ℕ, List, [], ◌∷◌, length, refl, sym, ◌∙◌}
 use Rattle.asn1_blocks.specs.declared.block.ASN1Block.{ASN1Block}
 use Rattle.asn1_blocks.specs.declared.block.GroupKind.TheVariants.{Sequence}

@@ -1,4 +1,5 @@
--- What is written of a tree, and whether it is faithful, does not hang on its offsets.
+-- What is written of a tree, and whether it is faithful, does not hang on its offsets, for `write::to_der`,
+-- `convert::round_trip` and the laws.
 use Rattle.std.proofs.Common.{◌≡◌, ◌≢◌, ◌++◌, true, false, refl, sym, ap, ◌∙◌}
 use Rattle.asn1_headers.specs.declared.header.ASN1Class.TheVariants.{Universal}
 use Rattle.simple_asn1.specs.Canonical.{all_canonical, canonical, first_of, first_write_fault, shortest_encoding, write_fault}

@@ -1,4 +1,5 @@
--- What is no signed triple, and what follows where a document begins with one.
+-- What is no signed triple, and what follows where a document begins with one, for `convert::signed::parts_of` and
+-- `convert::signed::read_signed`.
 use Rattle.std.proofs.Common.{◌≡◌, ◌≢◌, ◌+◌, ◌-◌, ◌++◌, ℕ, List, [], ◌∷◌, length, get_or, drop, min, refl, sym, ap, subst, ◌∙◌, inl, inr, arith, length-append, Result, Ok, Err}
 use Rattle.std.specs.Prelude.{◌⊎◌, MatchResult, IfOk, IfErr, IsErrAnd, slice_range}
 use Rattle.std.proofs.lemmas.List.{length-take}
@@ -20,7 +21,7 @@ use Rattle.simple_asn1.specs.Inner.Algorithm.{IsAlgorithm}
 use Rattle.asn1_blocks.specs.Tree.{Tree, Trees, leaf, group, bit_string, object_identifier, no_trees, more_trees}
 use Rattle.asn1_blocks.specs.View.{tree_offset, view, views}
 
--- a SEQUENCE of any other number of items is none
+-- a SEQUENCE of any other number of items than three is no signed triple
 pub signed_tree-not_three_items : (t : Tree ℕ) (p : SignedParts) (o : ℕ) (items : List ASN1Block) → length items ≢ 3 →
     t ≡ group o Sequence (views items) → t ≢ signed_tree p
 signed_tree-not_three_items t p o [] h e f = let g = sym e ∙ f in cc
@@ -43,7 +44,7 @@ signed_tree-no_signature t p o (a ∷ b ∷ c ∷ []) z h i e other f =
     other p.signature_offset p.bits p.signature (ap view i ∙ last)
 signed_tree-no_signature t p o (a ∷ b ∷ c ∷ d ∷ items) z h i e other f = let g = sym e ∙ f in cc
 
--- the parts of three items
+-- a SEQUENCE of a block, an algorithm and a BIT STRING is a signed triple of these parts
 pub signed_tree-three_items :
     (t : Tree ℕ) (o : ℕ) (items : List ASN1Block) (x y z : ASN1Block) (algorithm : List ℕ) (n : ℕ) (v : List ℕ) →
     length items ≡ 3 →
@@ -115,7 +116,7 @@ BeginWithSigned-document law octets p rest bs d e =
       within = omega (arith, all, at);
     }
 
--- trees have one triple: what is read of one is read of the other
+-- trees begin with one triple: what has the fields of one has the fields of the other
 HasFields-same_trees : (octets : List ℕ) (t : SignedTriple) (p q : SignedParts) (xs ys : Trees ℕ) →
     signed_trees p xs ≡ signed_trees q ys →
     HasFields octets q t → HasFields octets p t
@@ -161,7 +162,7 @@ IsRefused-out_of_memory law parts octets small e (inr (f, inl m, g)) p s = g ∙
 IsRefused-out_of_memory law parts octets small e (inr (f, inr at, g)) p (xs, s) =
     absurd (law.not_both octets (signed_trees p xs) (fault_of f) small s at)
 
--- octets that are refused for their shape are a document of another one
+-- octets that are refused for their shape are a document of another shape
 IsOfAnotherShape-refused : BlockAlone → (octets : List ℕ) → IsRefused octets Shape → IsOfAnotherShape octets
 IsOfAnotherShape-refused law octets (inl (bs, d, inl e)) = cc
 IsOfAnotherShape-refused law octets (inl (bs, d, inr (e, other))) =
@@ -187,7 +188,7 @@ IsDocument-rebased_content law parts octets (Ok t) is = λ p s.
     (HasOctets-content octets p s.0 t.content.items (HasFields-read law octets t is p s).content)
 IsDocument-rebased_content law parts octets (Err e) is = tt
 
--- an error of shape says that the octets are a document of another one
+-- an error of shape says that the octets are a document of another shape
 pub IfErr-another_shape : BlockAlone → (octets : List ℕ) (r : Result SignedTriple TripleErr) →
     IfErr r (IsRefused octets) →
     IfErr r (λ e. e ≡ Shape → IsOfAnotherShape octets)
@@ -203,7 +204,7 @@ pub MatchResult-signed : Unambiguous → BlockAlone → (octets : List ℕ) → 
 MatchResult-signed law parts octets small (Ok t) is _ p s = HasFields-read law octets t is p s
 MatchResult-signed law parts octets small (Err e) _ is p s = IsRefused-out_of_memory law parts octets small e is p s
 
--- a document of another shape is refused for it
+-- a document of another shape is refused for its shape
 pub IsErrAnd-another_shape : Unambiguous → (octets : List ℕ) → FitInSlice octets → (r : Result SignedTriple TripleErr) →
     IfOk r (IsRead octets) →
     IfErr r (IsRefused octets) → IsOfAnotherShape octets → IsErrAnd r (λ e. (e ≡ Shape) ⊎ (e ≡ Codec OutOfMemory))

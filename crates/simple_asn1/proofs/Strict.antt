@@ -1,5 +1,5 @@
--- Canonical documents.
-use Rattle.std.proofs.Common.{◌≡◌, ◌≢◌, ℕ, ◌+◌, ◌<◌, ◌≤◌, ◌^◌, Bool, true, false, List, [], ◌++◌, ◌⊎◌, ◌↔◌, inl, inr, length, refl, sym, ap, ◌∙◌, subst, arith, length-append, append_assoc, append-nil, take, drop, length-drop, get_or, None, Result, Ok, Err, Vec, Global, IfOk, IfErr, IsErrAnd, IsTrue, MatchResult}
+-- Octets are a canonical document or have one strict fault, for `write::strict` and `laws::law_strict`.
+use Rattle.std.proofs.Common.{◌≡◌, ◌≢◌, ℕ, ◌+◌, ◌<◌, ◌≤◌, ◌^◌, Bool, true, false, List, [], ◌++◌, ◌⊎◌, ◌↔◌, inl, inr, length, refl, sym, ap, ◌∙◌, subst, arith, length-append, append_assoc, take, drop, length-drop, get_or, None, Result, Ok, Err, Vec, Global, IfOk, IfErr, IsErrAnd, MatchResult}
 use Rattle.std.specs.List.{slice_range}
 use Rattle.std.proofs.lemmas.List.{take-append-drop, length-take-le, drop_at, drop_more}
 use Rattle.asn1_blocks.specs.declared.block.ASN1Block.{ASN1Block}
@@ -7,8 +7,6 @@ use Rattle.asn1_headers.specs.declared.error.ASN1DecodeErr.{ASN1DecodeErr}
 use Rattle.asn1_headers.specs.declared.error.ASN1DecodeErr.TheVariants.{OutOfMemory}
 use Rattle.asn1_headers.specs.declared.header.ASN1Class.{ASN1Class}
 use Rattle.asn1_headers.specs.declared.header.ASN1Class.TheVariants.{Universal}
-use Rattle.asn1_numbers.specs.declared.sink.Comparison.{Comparison}
-use Rattle.asn1_numbers.specs.Inner.Comparisons.{compared}
 use Rattle.asn1_headers.specs.Fault.{DecodeFault, OutOfMemoryOr, fault_of, not_canonical}
 use Rattle.asn1_blocks.specs.Tree.{Tree, Trees, leaf, group, explicit, unknown, no_trees, more_trees, shapes}
 use Rattle.asn1_blocks.specs.View.{tree_offset, view, views}
@@ -19,18 +17,18 @@ use Rattle.asn1_blocks.specs.Places.{end_before}
 use Rattle.simple_asn1.specs.ReadBack.{CanonicalDocument}
 use Rattle.simple_asn1.specs.Strict.{EqualByOctets, FirstNotCanonical, EachIsCanonical, StrictFault, top_octets}
 use Rattle.asn1_leaves.proofs.Leaves.Known.{Known-octets}
-use Rattle.asn1_headers.proofs.Prefixes.{Encoding-unique, append-injective}
+use Rattle.asn1_headers.proofs.Prefixes.{Encoding-unique}
 use Rattle.asn1_blocks.proofs.OneReading.{IsBlock-encodes, EncodesAll-unique}
 use Rattle.asn1_blocks.specs.Places.{IsEncoding}
 use Rattle.asn1_blocks.proofs.Faults.{IsEncoding-block}
 use Rattle.asn1_blocks.proofs.FaultsAlone.{FirstFault-unique}
 use Rattle.simple_asn1.proofs.Totality.{IsDocument-or_fault}
 use Rattle.asn1_blocks.proofs.Readings.{IsDocument-no_fault}
-use Rattle.asn1_leaves.proofs.SliceSplit.{drop-slice_range}
 use Rattle.asn1_blocks.proofs.Slices.{tree_offset-encodes, end_before-encodes, slice_range-middle}
 use Rattle.simple_asn1.proofs.WriteSteps.{first_of-none_of_both}
 use Rattle.simple_asn1.proofs.Placed.{length-le_shortest_encoding, header_size, Encoding-shortest_encoding}
 use Rattle.simple_asn1.proofs.Shapes.{all_canonical-shapes}
+use Rattle.std.proofs.lemmas.List.Folds.{drop_split}
 
 -- what is written of a tree is an encoding
 IsEncoding-shortest_encoding :
@@ -60,7 +58,7 @@ record IsFirstAt (i u : List ℕ) (b : Tree ℕ) (bs : Trees ℕ) (first rest : 
   pub whole : i ≡ (u ++ first) ++ rest
   pub after : EncodesAll (length (u ++ first)) rest bs
 
--- where the octets of the first of trees stand
+-- the octets of the first of trees stand behind u, and those of the others behind them
 IsFirstAt-first :
     (i u x : List ℕ) (b : Tree ℕ) (bs : Trees ℕ) → i ≡ u ++ x → (s : EncodesAll (length u) x (more_trees b bs)) →
     IsFirstAt i u b bs s.first s.rest
@@ -86,7 +84,7 @@ pub record ComparesFirst (i : List ℕ) (o : ℕ) (b : Tree ℕ) (bs : Trees ℕ
   pub at : tree_offset b ≡ o
   pub left : EncodesAll e (drop e i) bs
   pub whole : drop o i ≡ slice_range i o e ++ drop e i
-  -- what decides of the trees after the first
+  -- the offset of the first tree that is not canonical, by whether the first tree is
   pub first_is : (n : ℕ) → slice_range i o e ≡ canonical b → FirstNotCanonical i bs n →
       FirstNotCanonical i (more_trees b bs) n
   pub first_here : slice_range i o e ≢ canonical b → FirstNotCanonical i (more_trees b bs) o
@@ -117,18 +115,18 @@ ComparesFirst-at i o b bs e h d s =
       to = to;
       at = at;
       left = subst (λ z. EncodesAll e z bs) (sym r) after;
-      whole = drop-slice_range i o e ordered;
+      whole = drop_split i o e ordered;
       first_is = λ m c f. inr (same ∙ c, f);
       first_here = λ ne. inl (λ c. ne (sym same ∙ c), sym at);
     }
 
--- the block at a place, and those after it
+-- the trees of the blocks from a place on are that of the block there and those of the blocks after it
 pub views-drop :
     (bs : List ASN1Block) (i : ℕ) (b : ASN1Block) → i < length bs → b ≡ get_or bs i b →
     views (drop i bs) ≡ more_trees (view b) (views (drop (i + 1) bs))
 views-drop bs i b h e = ap views (drop_more bs i b h) ∙ ap (λ z. more_trees (view z) (views (drop (i + 1) bs))) (sym e)
 
--- where those from a place on can be written, the one at the place can be, and those after it
+-- where the blocks from a place on can be written, so can the block there and those behind it
 pub first_write_fault-drop :
     (bs : List ASN1Block) (i : ℕ) (b : ASN1Block) → i < length bs → b ≡ get_or bs i b →
     first_write_fault (views (drop i bs)) ≡ None →
@@ -137,15 +135,7 @@ first_write_fault-drop bs i b h e f =
     first_of-none_of_both (write_fault (view b)) (first_write_fault (views (drop (i + 1) bs)))
     (sym (ap first_write_fault (views-drop bs i b h e)) ∙ f)
 
--- octets that are compared with as many are the same exactly if the comparison says so
-pub compared-whole : (a b : Comparison) (xs : List ℕ) → compared a xs b → length xs ≡ length a.rest.now → IsTrue a.same
-    → IsTrue b.same ↔ (a.rest.now ≡ xs)
-compared-whole a b xs (front, whole, size, same) n s =
-    let all : a.rest.now ≡ front =
-    (append-injective a.rest.now front [] b.rest.now (omega (arith, n, size)) (append-nil a.rest.now ∙ whole)).0 in
-    (λ h. all ∙ (same.0 h).1, λ e. same.1 (s, sym all ∙ e))
-
--- what is written of trees is, of each, where it stands
+-- where the octets of trees are canonical, each tree stands in its canonical octets
 EachIsCanonical-written : (bs : Trees ℕ) (i u x : List ℕ) → i ≡ u ++ x → length x < 2 ^ 64 → EncodesAll (length u) x bs
     → x ≡ all_canonical bs → EachIsCanonical i bs
 EachIsCanonical-written no_trees i u x w small s e = tt
@@ -172,7 +162,7 @@ all_canonical-each_canonical (more_trees b bs) i u x w s c =
     s.whole ∙ (ap (λ z. z ++ s.rest) (sym p.octets ∙ c.0)
     ∙ ap (λ z. canonical b ++ z) (all_canonical-each_canonical bs i (u ++ s.first) s.rest p.whole p.after c.1))
 
--- each stands so, or one is the first that does not
+-- each tree stands in its canonical octets, or one is the first that does not
 EachIsCanonical-or_first : (i : List ℕ) (bs : Trees ℕ) → EachIsCanonical i bs ⊎ ((n : ℕ) × FirstNotCanonical i bs n)
 EachIsCanonical-or_first i no_trees = inl tt
 EachIsCanonical-or_first i (more_trees b bs) = elim (Known-octets (top_octets i b bs) (canonical b)) [
@@ -186,7 +176,7 @@ EachIsCanonical-no_first i no_trees n s f = f
 EachIsCanonical-no_first i (more_trees b bs) n s (inl f) = f.0 s.0
 EachIsCanonical-no_first i (more_trees b bs) n s (inr f) = EachIsCanonical-no_first i bs n s.1 f.1
 
--- there is one first
+-- at most one tree is the first that is not canonical
 FirstNotCanonical-unique : (i : List ℕ) (bs : Trees ℕ) (m n : ℕ) → FirstNotCanonical i bs m → FirstNotCanonical i bs n →
     m ≡ n
 FirstNotCanonical-unique i no_trees m n p q = absurd p

@@ -1,4 +1,5 @@
--- An answer that is the outline of a canonical document, or a strict fault, is the only one.
+-- A result that is the outline of a canonical document, or a strict fault, is the only one, for
+-- `outline::check_canonical` and `outline::outline_strict`.
 use Rattle.std.proofs.Common.{◌≡◌, ℕ, ◌<◌, ◌^◌, List, Ok, Err, Result, length, inl, inr, ap, subst, ◌∙◌}
 use Rattle.std.specs.Prelude.{IfErr, IfOk, IsErrAnd, MatchResult}
 use Rattle.asn1_headers.specs.Fault.{DecodeFault, OutOfMemoryOr, fault_of}
@@ -41,7 +42,7 @@ StrictFault-outline_refused i (Err e) small ok (inl memory) fault f = inl memory
 StrictFault-outline_refused i (Err e) small ok (inr first) fault f =
     inr (StrictFault-unique i (fault_of e) fault small first f)
 
--- a document that has the octets of its blocks has those of its only reading
+-- a canonical document is the canonical octets of whichever trees it is read as
 pub all_canonical-only_reading : (i : List ℕ) (bs cs : Trees ℕ) → CanonicalDocument i bs → IsDocument i cs →
     i ≡ all_canonical cs
 all_canonical-only_reading i bs cs d e = d.1 ∙ ap all_canonical (EncodesAll-unique 0 i bs cs d.0.blocks e.blocks)

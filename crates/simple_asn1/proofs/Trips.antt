@@ -1,4 +1,4 @@
--- What is written of a value, and read again.
+-- What is written of a value, and read again, for `convert::round_trip`.
 use Rattle.std.proofs.Common.{◌≡◌, ℕ, ◌<◌, ◌^◌, List, length, Result, Ok, refl, sym, ap, ◌∙◌, subst, arith, inl, inr, length-append}
 use Rattle.std.proofs.lemmas.Option.{none-some}
 use Rattle.asn1_headers.specs.declared.error.ASN1DecodeErr.{ASN1DecodeErr}
@@ -10,7 +10,7 @@ use Rattle.asn1_headers.specs.Fault.{fault_of}
 use Rattle.asn1_blocks.specs.Grammar.{IsDocument}
 use Rattle.asn1_blocks.specs.Tree.{Tree, Trees, leaf, group, explicit, unknown, no_trees, more_trees, shape, shapes}
 use Rattle.asn1_blocks.proofs.OneReading.{EncodesAll-unique}
-use Rattle.simple_asn1.proofs.Placed.{all_placed, EncodesAll-all_canonical, length-canonical_some, shapes-all_placed, first_write_fault-faithful}
+use Rattle.simple_asn1.proofs.Placed.{all_placed, EncodesAll-all_canonical, canonical-not_empty, shapes-all_placed, first_write_fault-faithful}
 use Rattle.simple_asn1.proofs.Shapes.{all_canonical-shapes, first_write_fault-shapes}
 use Rattle.asn1_blocks.proofs.Readings.{IsDocument-no_fault}
 
@@ -31,11 +31,11 @@ IsDocument-all_canonical : (ss : Trees (Unit {0})) → AreReadAgain ss → lengt
     IsDocument (all_canonical ss) (all_placed 0 ss)
 IsDocument-all_canonical no_trees k small = absurd (k.0 refl)
 IsDocument-all_canonical (more_trees b bs) k small = record {
-  some = omega (arith, length-canonical_some b, length-append (canonical b) (all_canonical bs));
+  some = omega (arith, canonical-not_empty b, length-append (canonical b) (all_canonical bs));
   blocks = EncodesAll-all_canonical 0 (more_trees b bs) small k.1;
 }
 
--- what is written of trees is read as no others
+-- what is written of trees is read as these trees alone
 shapes-read : (ss : Trees (Unit {0})) (bs : Trees ℕ) → AreFaithful ss → length (all_canonical ss) < 2 ^ 64
     → IsDocument (all_canonical ss) bs → shapes bs ≡ ss
 shapes-read ss bs f small d =

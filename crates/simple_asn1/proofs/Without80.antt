@@ -1,4 +1,5 @@
--- Contents octets of an OBJECT IDENTIFIER none of which is 80 (hexadecimal) are canonical.
+-- Contents octets of an OBJECT IDENTIFIER none of which is 80 (hexadecimal) are canonical, for
+-- `write::in_place::begin_with_identifier`.
 use Rattle.std.proofs.Common.{◌≡◌, ◌≢◌, ℕ, suc, ◌+◌, ◌-◌, ◌<◌, ◌≤◌, ◌%◌, ◌^◌, true, false, List, [], ◌∷◌, ◌∙◌, ap, eqb, get_or, length, map, not, refl, replicate, sym, arith, inl, inr}
 use Rattle.std.proofs.lemmas.Bool.{both_ways, cases_lt, eqb-true, not-true}
 use Rattle.std.proofs.lemmas.List.{get_or-map, length-map}
@@ -16,7 +17,7 @@ use Rattle.asn1_blocks.specs.Tree.{Leaf, bit_string, boolean, generalized_time, 
 use Rattle.asn1_blocks.proofs.Leaves.{leaf_tag-not_group_tag}
 use Rattle.simple_asn1.specs.Inner.InPlace.{AreCanonicalContents}
 
--- none of the first 16 octets is 80, where no lane of a comparison with it is set
+-- none of the first 16 octets is 80, where no lane of their comparison with 80 is set
 pub none_is_80-lanes :
     (octets : List ℕ) (hit : ℕ → ℕ → ℕ) → 16 ≤ length octets →
     eqb (mask_l (map (top 7) (zip2 hit (chunk 0 16 octets) (replicate 16 128))) % 2 ^ 64) 0 ≡ true →
@@ -38,13 +39,13 @@ none_is_80-lanes octets hit room none hits k small found =
     absurd (both_ways _ clear (ap (top 7) lane ∙ hits))
 
 -- octets that mean components, and none of which is 80, are those that are written of them
-without_80-components :
+ObjectIdentifierContents-without_80 :
     (contents : List ℕ) → AreOctets contents → ((k : ℕ) → k < length contents → get_or contents k 0 ≢ 128) →
     (ns : List ℕ) → ObjectIdentifierContents ns contents → contents ≡ object_identifier_contents ns
-without_80-components [] all none [] p = absurd p
-without_80-components [] all none (x ∷ []) p = absurd p
-without_80-components [] all none (x ∷ y ∷ ns) p = absurd (omega (arith, ap length p.2))
-without_80-components (b ∷ octets) all none ns p =
+ObjectIdentifierContents-without_80 [] all none [] p = absurd p
+ObjectIdentifierContents-without_80 [] all none (x ∷ []) p = absurd p
+ObjectIdentifierContents-without_80 [] all none (x ∷ y ∷ ns) p = absurd (omega (arith, ap length p.2))
+ObjectIdentifierContents-without_80 (b ∷ octets) all none ns p =
     elim (cases_lt (get_or octets (length octets - 1) 0) 128) [
       | inl low ↦
           NoneLeads-object_identifier_contents ns b octets all
@@ -52,33 +53,34 @@ without_80-components (b ∷ octets) all none ns p =
       | inr high ↦ absurd (ObjectIdentifierContents-unended b octets high ns p)
     ]
 
--- octets of an OBJECT IDENTIFIER that are those that are written, whatever they mean
-identifier_leaf :
+-- contents octets that are written of whatever OBJECT IDENTIFIER they mean are written of whatever leaf of its tag they
+-- mean
+LeafContents-identifier :
     (contents : List ℕ) →
     ((ns : List ℕ) → ObjectIdentifierContents ns contents → contents ≡ object_identifier_contents ns) →
     (l : Leaf) → 6 ≡ leaf_tag l → LeafContents l contents → contents ≡ leaf_contents l
-identifier_leaf contents written (object_identifier ns) e p = written ns p
-identifier_leaf contents written (boolean b) e p = absurd (omega (arith, e))
-identifier_leaf contents written (integer n) e p = absurd (omega (arith, e))
-identifier_leaf contents written (bit_string n v) e p = absurd (omega (arith, e))
-identifier_leaf contents written (octet_string v) e p = absurd (omega (arith, e))
-identifier_leaf contents written null e p = absurd (omega (arith, e))
-identifier_leaf contents written (text utf8 cs) e p = absurd (omega (arith, e))
-identifier_leaf contents written (text printable cs) e p = absurd (omega (arith, e))
-identifier_leaf contents written (text teletex cs) e p = absurd (omega (arith, e))
-identifier_leaf contents written (text ia5 cs) e p = absurd (omega (arith, e))
-identifier_leaf contents written (text universal cs) e p = absurd (omega (arith, e))
-identifier_leaf contents written (text bmp cs) e p = absurd (omega (arith, e))
-identifier_leaf contents written (utc_time m) e p = absurd (omega (arith, e))
-identifier_leaf contents written (generalized_time m) e p = absurd (omega (arith, e))
+LeafContents-identifier contents written (object_identifier ns) e p = written ns p
+LeafContents-identifier contents written (boolean b) e p = absurd (omega (arith, e))
+LeafContents-identifier contents written (integer n) e p = absurd (omega (arith, e))
+LeafContents-identifier contents written (bit_string n v) e p = absurd (omega (arith, e))
+LeafContents-identifier contents written (octet_string v) e p = absurd (omega (arith, e))
+LeafContents-identifier contents written null e p = absurd (omega (arith, e))
+LeafContents-identifier contents written (text utf8 cs) e p = absurd (omega (arith, e))
+LeafContents-identifier contents written (text printable cs) e p = absurd (omega (arith, e))
+LeafContents-identifier contents written (text teletex cs) e p = absurd (omega (arith, e))
+LeafContents-identifier contents written (text ia5 cs) e p = absurd (omega (arith, e))
+LeafContents-identifier contents written (text universal cs) e p = absurd (omega (arith, e))
+LeafContents-identifier contents written (text bmp cs) e p = absurd (omega (arith, e))
+LeafContents-identifier contents written (utc_time m) e p = absurd (omega (arith, e))
+LeafContents-identifier contents written (generalized_time m) e p = absurd (omega (arith, e))
 
 -- contents octets of an OBJECT IDENTIFIER none of which is 80 are canonical
-pub canonical_identifier :
+pub AreCanonicalContents-identifier :
     (contents : List ℕ) → AreOctets contents → ((k : ℕ) → k < length contents → get_or contents k 0 ≢ 128) →
     AreCanonicalContents Universal false 6 contents
-canonical_identifier contents all none = record {
+AreCanonicalContents-identifier contents all none = record {
   no_group = λ u g e. leaf_tag-not_group_tag (object_identifier []) g e;
   primitive = λ u l e. refl;
-  leaf = λ u l e p. identifier_leaf contents (without_80-components contents all none) l e p;
+  leaf = λ u l e p. LeafContents-identifier contents (ObjectIdentifierContents-without_80 contents all none) l e p;
   within = λ other e. absurd (other refl);
 }

@@ -1,4 +1,5 @@
--- What blocks write, by the list of all blocks in tree order.
+-- What is written of blocks, by the list of all blocks in tree order, for `write::measure`, `write::push` and
+-- `write::strict`.
 use Rattle.std.proofs.Common.{◌≡◌, ℕ, zero, suc, ◌+◌, ◌-◌, ◌≤◌, ◌<◌, Option, Some, None, List, [], ◌∷◌, ◌++◌, length, take, drop, refl, sym, ap, subst, ◌∙◌, arith, append_assoc, append-nil, length-append, get_or, set, map}
 use Rattle.std.specs.List.{sum}
 use Rattle.std.specs.Prelude.{Result, Ok, Err, IfOk}
@@ -134,7 +135,7 @@ sum-sizes_back (b ∷ bs) =
           (all_canonical (views bs)),
     )
 
--- what is taken from the sizes of what comes after a block, and what then stands for the block itself
+-- the last n of m sizes are those of the blocks that a block holds, and its own size takes their place
 pub record MeasuresBlock (b : ASN1Block) (left : List ASN1Block) (sizes : List ℕ) (m n : ℕ) : Type 0 where
   pub enough : n ≤ m
   pub sum_inside : sum (drop (m - n) sizes) ≡ length (all_canonical (inside (view b)))
@@ -163,7 +164,7 @@ MeasuresBlock-next b left after sizes m n x w s k =
           ∙ ap sizes_back (sym x.first);
     }
 
--- a step of measuring at a place of the list
+-- measuring the block at a place of the list takes the sizes of the blocks that it holds, and puts its own
 pub MeasuresBlock-at : (order : List ASN1Block) (i j : ℕ) (b : ASN1Block) (sizes : List ℕ) (m : ℕ)
     (held : List ASN1Block) →
     j + 1 ≡ i → i ≤ length order
@@ -176,7 +177,7 @@ MeasuresBlock-at order i j b sizes m held e l g w s k left h =
     MeasuresBlock-next b left p.after sizes m (length held) p.next w (s p.after p.ordered)
     (sym (tree_count-views held) ∙ ap tree_count k)
 
--- the number at a place of a list of numbers, of which those before it are by f and the others by g
+-- where numbers are by f up to a block and by g behind it, the block's own is by f, and is then set to that by g
 pub set-measured_size : (f g : ASN1Block → ℕ) (order : List ASN1Block) (i j : ℕ) (x : ASN1Block) (sizes : List ℕ) →
     j + 1 ≡ i →
     i ≤ length order
@@ -213,14 +214,14 @@ pub length-contents_of : (b : Tree ℕ) →
 length-contents_of b = omega
     (arith, ap length (contents_of-parts b), length-append (own_contents b) (all_canonical (inside b)))
 
--- the sum of all sizes
+-- a result with the total of all sizes has the length of the canonical octets of all blocks
 pub IfOk-total_size : (r : Result ℕ ASN1EncodeErr) (t : ℕ) (order : List ASN1Block) → IfOk r (λ s. s ≡ t)
     → ((blocks : List ASN1Block) → IsInTreeOrder order blocks → t ≡ length (all_canonical (views blocks)))
     → IfOk r (λ n. (blocks : List ASN1Block) → IsInTreeOrder order blocks → n ≡ length (all_canonical (views blocks)))
 IfOk-total_size (Ok s) t order h f = λ blocks k. h ∙ f blocks k
 IfOk-total_size (Err e) t order h f = tt
 
--- a block of the list of the first walk: its size is the one beside it
+-- the size beside a block in the list of the first walk is that of its contents octets
 pub contents_size_of-get_or : (list : List Measured) (i : ℕ) (m : Measured) → i < length list → m ≡ get_or list i m
     → measured_sizes list ≡ map contents_size_of (measured_blocks list) → m.contents ≡ contents_size_of m.block.now
 contents_size_of-get_or [] i m h e s = absurd (omega (arith, h))
@@ -232,12 +233,12 @@ contents_size_of-get_or (x ∷ list) (suc i) m h e s =
     let r : measured_sizes list ≡ map contents_size_of (measured_blocks list) = cc in
     contents_size_of-get_or list i m (omega (arith, h)) e r
 
--- without a first fault of two there is none
+-- where two have no first fault, neither has a fault
 pub first_of-none_of_both : (a b : Option ASN1EncodeErr) → first_of a b ≡ None → (a ≡ None) × (b ≡ None)
 first_of-none_of_both None b e = (refl, e)
 first_of-none_of_both (Some x) b e = cc
 
--- a block in a list without faults has none
+-- a block in a list without faults has no fault
 pub own_fault-get_or : (list : List Measured) (i : ℕ) (m : Measured) → i < length list → m ≡ get_or list i m
     → first_own_fault (measured_blocks list) ≡ None
     → own_fault (view m.block.now) ≡ None

@@ -15,7 +15,7 @@ Holds (explicit class o tag b) bs = bs ≡ more_trees b no_trees
 Holds (unknown class true o tag contents) bs = EncodesAll 0 contents bs
 Holds (unknown class false o tag contents) bs = ⊥
 
--- the tree holds no blocks, and its contents octets are none
+-- the tree holds no list of blocks, not even an empty one
 abbrev pub HoldsNothing : Tree ℕ → Type 0
 HoldsNothing b = (bs : Trees ℕ) → Holds b bs → ⊥
 

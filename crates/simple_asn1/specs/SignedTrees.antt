@@ -11,16 +11,16 @@ use Rattle.asn1_blocks.specs.Grammar.{IsDocument}
 
 -- the parts of a signed triple, with the offsets of its blocks
 pub record SignedParts : Type 0 where
-  -- the offset of the whole
+  -- the offset of the whole triple
   pub offset : ℕ
-  -- any block
+  -- what was signed, which is any block
   pub content : Tree ℕ
-  -- a SEQUENCE, whose first item is an OBJECT IDENTIFIER, with these after it
+  -- the algorithm, a SEQUENCE whose first item is an OBJECT IDENTIFIER, with the parameters after it
   pub algorithm_offset : ℕ
   pub identifier_offset : ℕ
   pub algorithm : List ℕ
   pub parameters : Trees ℕ
-  -- a BIT STRING
+  -- the signature, a BIT STRING
   pub signature_offset : ℕ
   pub bits : ℕ
   pub signature : List ℕ
@@ -33,7 +33,7 @@ algorithm_tree p =
 abbrev pub signature_tree : SignedParts → Tree ℕ
 signature_tree p = leaf p.signature_offset (bit_string p.bits p.signature)
 
--- a SEQUENCE of exactly three
+-- the tree of a signed triple, a SEQUENCE of exactly three
 abbrev pub signed_tree : SignedParts → Tree ℕ
 signed_tree p =
     group p.offset Sequence
@@ -50,14 +50,14 @@ pub record HasFields (octets : List ℕ) (p : SignedParts) (t : SignedTriple) : 
   pub bits : t.bits ≡ p.bits
   pub signature : t.signature.items ≡ p.signature
 
--- the first tree is a signed triple of these parts, whose content stands in the octets; these are the trees after it
+-- the first tree is a signed triple of these parts, whose content stands in the octets; rest are the trees after it
 pub record BeginWithSigned (bs : Trees ℕ) (octets : List ℕ) (p : SignedParts) (rest : Trees ℕ) : Type 0 where
   pub trees : bs ≡ signed_trees p rest
   pub ordered : tree_offset p.content ≤ p.algorithm_offset
   pub within : p.algorithm_offset ≤ length octets
 
 -- what is read of trees and of the octets of their document: a value and the trees after it; that memory ran out; or,
--- exactly where they begin with none, that the shape is another
+-- exactly where the trees begin with no signed triple, that the shape is another
 abbrev pub ReadsSigned : Trees ℕ → List ℕ → Result (SignedTriple × Trees ℕ) TripleErr → Type 0
 ReadsSigned bs octets (Ok x) =
     (p : SignedParts) × BeginWithSigned bs octets p x.1 × HasFields octets p x.0
@@ -69,7 +69,7 @@ ReadsSigned bs octets (Err e) =
 abbrev pub IsSigned : List ℕ → SignedParts → Type 0
 IsSigned octets p = (rest : Trees ℕ) × IsDocument octets (signed_trees p rest)
 
--- the octets are a document whose first tree is none
+-- the octets are a document whose first tree is no signed triple
 abbrev pub IsOfAnotherShape : List ℕ → Type 0
 IsOfAnotherShape octets =
     (bs : Trees ℕ) × IsDocument octets bs × ((p : SignedParts) (rest : Trees ℕ) → bs ≢ signed_trees p rest)

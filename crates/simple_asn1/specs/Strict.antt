@@ -1,4 +1,4 @@
--- Documents that stand in their canonical octets, and why octets are none.
+-- Documents that stand in their canonical octets, and why octets are no such document.
 use Rattle.std.specs.Prelude.{◌≡◌, ◌≢◌, ◌↔◌, ◌⊎◌, ℕ, List, length, slice_range}
 use Rattle.asn1_headers.specs.Fault.{DecodeFault, not_canonical}
 use Rattle.asn1_blocks.specs.Tree.{Tree, Trees, no_trees, more_trees, shapes}
@@ -12,13 +12,13 @@ use Rattle.simple_asn1.specs.ReadBack.{CanonicalDocument}
 abbrev pub top_octets : List ℕ → Tree ℕ → Trees ℕ → List ℕ
 top_octets document b after = slice_range document (tree_offset b) (end_before after (length document))
 
--- each of these trees, which end with the document, stands there in its canonical octets
+-- each of these trees, which end with the document, stands in its canonical octets
 abbrev pub EachIsCanonical : List ℕ → Trees ℕ → Type 0
 EachIsCanonical document no_trees = Unit {0}
 EachIsCanonical document (more_trees b bs) =
     (top_octets document b bs ≡ canonical b) × EachIsCanonical document bs
 
--- the first of them that does not has this offset
+-- the first of these trees that does not stand in its canonical octets has this offset
 abbrev pub FirstNotCanonical : List ℕ → Trees ℕ → ℕ → Type 0
 FirstNotCanonical document no_trees offset = ⊥
 FirstNotCanonical document (more_trees b bs) offset =

@@ -1,4 +1,4 @@
--- What records spell is canonical where each encoding is.
+-- What records spell is canonical where each encoding is, for the functions of `canonical` and `spelling`.
 use Rattle.std.proofs.Common.{◌≡◌, ◌≢◌, ℕ, zero, suc, ◌+◌, ◌<◌, ◌^◌, Bool, true, false, List, [], ◌∷◌, ◌++◌, inl, inr, length, take, drop, refl, sym, ap, ap₂, subst, arith, append-nil}
 use Rattle.std.specs.Prelude.{not, ◌==◌}
 use Rattle.std.specs.List.{concat}
@@ -15,7 +15,7 @@ use Rattle.simple_asn1.specs.Canonical.{all_canonical, shortest_encoding}
 use Rattle.simple_asn1.proofs.Placed.{Encoding-shortest_encoding, header_size}
 use Rattle.simple_asn1_c.specs.Inner.InRecords.{AreCanonicalBlocks, AreWrittenOfLeaf, HoldsBlocks, IsCanonicalBlock}
 
--- the canonical encoding of a leaf
+-- the shortest encoding of contents octets that are written of a leaf is a canonical block
 pub IsCanonicalBlock-leaf : (tag : ℕ) (contents : List ℕ) → length contents < 2 ^ 64 → AreWrittenOfLeaf tag contents
     → IsCanonicalBlock (shortest_encoding Universal false tag contents)
 IsCanonicalBlock-leaf tag contents small (l, is, meant, written) offset =
@@ -27,7 +27,7 @@ IsCanonicalBlock-leaf tag contents small (l, is, meant, written) offset =
       ap₂ (λ s t. shortest_encoding Universal false s t) (sym is) written,
     )
 
--- the canonical encoding of a block that stays as it came
+-- the shortest encoding of what stays as it came is a canonical block
 pub IsCanonicalBlock-as_it_came : (class : ASN1Class) (constructed : Bool) (tag : ℕ) (contents : List ℕ) →
     length contents < 2 ^ 64
     → StaysAsItCame class constructed tag contents → IsCanonicalBlock (shortest_encoding class constructed tag contents)
@@ -38,7 +38,7 @@ IsCanonicalBlock-as_it_came class constructed tag contents small stays offset =
       refl,
     )
 
--- a primitive encoding of class Universal is that of a leaf
+-- a primitive encoding of class Universal with contents octets that are written of a leaf is a canonical block
 pub IsCanonicalBlock-universal_leaf : (class : ASN1Class) (constructed : Bool) (tag : ℕ) (contents : List ℕ) →
     length contents < 2 ^ 64
     → class ≡ Universal → constructed ≡ false → AreWrittenOfLeaf tag contents
@@ -68,7 +68,7 @@ pub nil-no_length : (xs : List ℕ) → (length xs == 0) ≡ true → [] ≡ xs
 nil-no_length [] e = refl
 nil-no_length (x ∷ xs) e = absurd (grind (arith, nat_tests, e))
 
--- the trees of encodings, one after another
+-- canonical blocks, one after another, encode trees, of which they are the canonical octets
 EncodesAll-concat : (xs : List (List ℕ)) → AreCanonicalBlocks xs → (offset : ℕ)
     → (bs : Trees ℕ) × EncodesAll offset (concat xs) bs × (all_canonical bs ≡ concat xs)
 EncodesAll-concat [] all offset = (no_trees, refl, refl)
@@ -80,7 +80,7 @@ EncodesAll-concat (x ∷ xs) all offset =
       ap₂ (λ s t. s ++ t) w ws,
     )
 
--- the encoding of a SEQUENCE or SET
+-- the shortest encoding of canonical blocks as a SEQUENCE or SET is a canonical block
 pub IsCanonicalBlock-group : (tag : ℕ) (xs : List (List ℕ)) (g : GroupKind) → tag ≡ group_tag g →
     length (concat xs) < 2 ^ 64
     → AreCanonicalBlocks xs → IsCanonicalBlock (shortest_encoding Universal true tag (concat xs))
@@ -104,7 +104,7 @@ IsCanonicalBlock-empty_group class constructed tag contents u k g is none =
     (subst (λ z. IsCanonicalBlock (shortest_encoding Universal true tag z)) none
     (IsCanonicalBlock-group tag [] g is (omega arith) tt)))
 
--- an encoding of another class around a canonical block is one
+-- an encoding of another class around a canonical block is a canonical block
 IsCanonicalBlock-explicit : (class : ASN1Class) (tag : ℕ) (x : List ℕ) → class ≢ Universal → length x < 2 ^ 64 →
     IsCanonicalBlock x
     → IsCanonicalBlock (shortest_encoding class true tag x)
@@ -144,7 +144,7 @@ AreCanonicalBlocks-drop zero xs all = all
 AreCanonicalBlocks-drop (suc k) [] all = tt
 AreCanonicalBlocks-drop (suc k) (x ∷ xs) all = AreCanonicalBlocks-drop k xs all.1
 
--- blocks are a document
+-- canonical blocks with octets are a document in its canonical octets
 pub IsDocument-concat : (xs : List (List ℕ)) → 0 < length (concat xs) → AreCanonicalBlocks xs
     → (bs : Trees ℕ) × IsDocument (concat xs) bs × (concat xs ≡ all_canonical bs)
 IsDocument-concat xs some all =

@@ -1,4 +1,4 @@
--- Records of the entries of a document.
+-- Records of the entries of a document are those of its blocks, for the calls that read and for `signed::parts_in`.
 use Rattle.std.proofs.Common.{◌≡◌, ℕ, List, get_or, map, refl, sym, subst, arith}
 use Rattle.std.proofs.lemmas.List.{get_or-map}
 use Rattle.simple_asn1.specs.Places.{EncodingAt}
@@ -32,7 +32,7 @@ HasHeader-block_of x b e octets (y, at, h) o s =
     } in
     subst (λ w. HasHeader w (block_of e)) (EncodingAt-unique x (tree_offset b) y octets here there) own
 
--- the records of a document
+-- the records of a document's entries are those of its blocks, in order
 pub AreRecords-block_of : (x : List ℕ) (ns : Nodes) (es : List Entry) → IsStructure x ns →
     AreEntries x 0 (nodes_in_order ns) (nodes_depths 0 ns) es
     → AreRecords x ns (map block_of es)

@@ -1,4 +1,4 @@
--- Components of object identifiers as numbers below 2^64.
+-- Components of object identifiers as numbers below 2^64, for `components::put_components`.
 use Rattle.std.proofs.Common.{◌≡◌, ℕ, ◌<◌, ◌^◌, inl, inr, List, [], ◌∷◌, refl, ap, ◌∙◌}
 use Rattle.std.specs.Prelude.{All}
 use Rattle.std.proofs.lemmas.List.Elements.{All-cons, All-head, All-nil, All-tail}
@@ -22,7 +22,7 @@ All-fits [] (n ∷ ns) all = absurd all
 All-fits (x ∷ xs) [] all = absurd all
 All-fits (x ∷ xs) (n ∷ ns) (h, e, rest) = All-cons Fits64 n ns h (All-fits xs ns rest)
 
--- components not all of which fit do not all fit
+-- where a component was found not to fit, not all components fit
 pub HasNotAll-not_all : (ns : List ℕ) → HasNotAll Fits64 ns → All Fits64 ns → ⊥
 HasNotAll-not_all [] none all = none
 HasNotAll-not_all (n ∷ ns) (inl large) all = large (All-head Fits64 n ns all)

@@ -1,4 +1,4 @@
--- Builders that keep the first entries, and builders of all of them that hold the same.
+-- A builder that keeps the first entries holds what a builder of all entries holds, for `front_builder` and `within`.
 use Rattle.std.proofs.Common.{◌≡◌, ℕ, suc, ◌+◌, ◌-◌, ◌<◌, ◌≤◌, ◌++◌, List, [], ◌∷◌, get_or, length, set, take, refl, sym, ap, ◌∙◌, subst, arith, length-append, suc-add, zero-add}
 use Rattle.std.specs.List.{slice_range}
 use Rattle.std.proofs.lemmas.List.{get_or_append_left, length-set, length-take-le, set-append_left, take_all}
@@ -19,11 +19,11 @@ use Rattle.asn1_outline.proofs.Listed.{HasEndedIn-entry_builder, HasKept-entry_b
 use Rattle.simple_asn1_c.specs.Inner.Fronts.{IsFront, holds_front}
 use Rattle.simple_asn1_c.specs.declared.front_builder.FrontBuilder.{FrontBuilder}
 
--- as many entries as are kept, and as there are beyond them
+-- there are as many entries as are kept and beyond them
 pub length-front : (b : FrontBuilder) (all : List Entry) → IsFront b all → length all ≡ length b.kept.items + b.beyond
 length-front b all w = omega (arith, ap length w.whole, length-append b.kept.items w.others, w.count)
 
--- a builder that keeps all of them
+-- the builder that keeps all entries
 abbrev whole_builder : (b : FrontBuilder) (all : List Entry) → IsFront b all → EntryBuilder
 whole_builder b all w = record {
   entries = record {
@@ -115,7 +115,7 @@ set-append_right [] ys n a = ap (λ k. set ys k a) (zero-add n)
 set-append_right (x ∷ xs) ys n a =
     ap (λ k. set (x ∷ (xs ++ ys)) k a) (suc-add (length xs) n) ∙ ap (λ z. x ∷ z) (set-append_right xs ys n a)
 
--- setting the items of an entry behind the first ones leaves these
+-- setting the items of an entry that is not kept leaves the kept entries as they are
 pub IsFront-with_items_behind : (b : FrontBuilder) (all : List Entry) (entry items : ℕ) → length b.kept.items ≤ entry →
     IsFront b all → IsFront b (with_items_at all entry items)
 IsFront-with_items_behind b all entry items le w =
@@ -129,7 +129,7 @@ IsFront-with_items_behind b all entry items le w =
       count = length-set w.others (entry - own) new ∙ w.count;
     }
 
--- setting the items of one of the first entries changes it there
+-- setting the items of a kept entry changes it among the kept entries
 pub IsFront-with_items_within :
     (b c : FrontBuilder) (all : List Entry) (entry items next : ℕ) (r : Entry) → entry < length b.kept.items →
     IsFront b all →
@@ -150,7 +150,7 @@ IsFront-with_items_within b c all entry items next r lt w is at new same =
       count = w.count ∙ sym same;
     }
 
--- a front that is cut behind the entries that are kept
+-- cutting entries behind the kept ones keeps these, and counts fewer beyond them
 pub IsFront-take_behind :
     (b c : FrontBuilder) (all : List Entry) (n : ℕ) → length b.kept.items ≤ n → n - length b.kept.items ≤ b.beyond →
     IsFront b all →
@@ -166,7 +166,7 @@ IsFront-take_behind b c all n le few w same beyond =
       count = length-take-le (n - own) w.others (omega (arith, few, w.count)) ∙ sym beyond;
     }
 
--- a front that is cut behind all entries
+-- cutting behind all entries leaves them as they are
 pub IsFront-take_all : (b : FrontBuilder) (all : List Entry) (n : ℕ) → length b.kept.items + b.beyond ≤ n →
     IsFront b all →
     IsFront b (take n all)

@@ -1,4 +1,4 @@
--- The header of octets that are an encoding.
+-- An encoding begins with its own header, for the functions of `encoding`, `alone` and `header_record`.
 use Rattle.std.proofs.Common.{◌≡◌, ◌≤◌, ℕ, Bool, List, ◌++◌, length, drop, take, refl, sym, ap, subst, ◌∙◌, arith, length-append, append_assoc}
 use Rattle.std.proofs.lemmas.List.{drop_at, length-take-le, take-append-drop, take_at}
 use Rattle.asn1_headers.specs.declared.header.ASN1Class.{ASN1Class}
@@ -17,7 +17,7 @@ IsEncoding-has_header x is none =
     (e.identifier, e.len, refl, (is.tag, (is.class, is.constructed, e.identifier_octets)), (length v, e.length_octets))
     (e.whole ∙ sym (append_assoc e.identifier e.len v))
 
--- the header at its front is its own, and the contents octets follow
+-- a header at the front of an encoding is the header of the encoding, and the contents octets follow
 pub Encoding-front_header : (x : List ℕ) (size m : ℕ) (c : ASN1Class) (k : Bool) (n : ℕ) → IsEncoding x →
     BeginsWithHeader x size m c k n
     → Encoding x c k n (drop size x) size × (m ≡ length (drop size x))
@@ -57,7 +57,7 @@ IsEncoding-has_identifier x is none =
       subst (λ z. IsIdentifier z is.class is.constructed is.tag) (sym front) e.identifier_octets,
     )
 
--- identifier octets at the front are its own
+-- identifier octets at the front of an encoding are as many as the encoding's
 pub length-front_identifier : (x : List ℕ) (size n : ℕ) (c : ASN1Class) (k : Bool) → (is : IsEncoding x) →
     size ≤ length x →
     IsIdentifier (take size x) c k n
@@ -71,7 +71,7 @@ length-front_identifier x size n c k is within found =
     found (sym e.whole ∙ sym (take-append-drop size x)) in
     ap length same.octets ∙ length-take-le size x within
 
--- the class whose number is 0
+-- the class with the number 0 is Universal
 pub class_number-universal : (c : ASN1Class) → class_number c ≡ 0 → c ≡ Universal
 class_number-universal Universal e = refl
 class_number-universal Application e = absurd (omega (arith, e))

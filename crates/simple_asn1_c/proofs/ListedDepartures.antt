@@ -1,4 +1,5 @@
--- What listing departures answers, by what it did; and that nothing is listed exactly of DER.
+-- What listing departures returns, by what it did, and that it lists none exactly for DER, for
+-- `simple_asn1_departures`.
 use Rattle.std.proofs.Common.{◌≡◌, ◌⊎◌, ℕ, inl, inr, List, [], ◌∷◌, length, map, refl, sym, subst, ◌∙◌, arith}
 use Rattle.std.specs.Prelude.{◌↔◌}
 use Rattle.asn1_departures.specs.Departures.{AreDepartures, NoEncodingsFault}
@@ -30,7 +31,7 @@ AnswersDepartures-refused octets before o status offset told (inl m) =
 AnswersDepartures-refused octets before o status offset (s, p, c) (inr (fault, first, e)) =
     are_no_encodings (fault, subst (λ z. NoEncodingsFault octets z fault) (sym p) first, s ∙ e) c refl
 
--- a fault has a number of its own
+-- no fault has the number of what was done
 status_of-not_done : (fault : DecodeFault) → status_of fault ≡ 0 → ⊥
 status_of-not_done empty_buffer e = absurd (omega (arith, e))
 status_of-not_done (bad_boolean_length n) e = absurd (omega (arith, e))
@@ -45,7 +46,7 @@ status_of-not_done out_of_memory e = absurd (omega (arith, e))
 status_of-not_done (invalid_class n) e = absurd (omega (arith, e))
 status_of-not_done overflow e = absurd (omega (arith, e))
 
--- listing that found no departures counts none, and no other does
+-- the count is 0 exactly if no departures were found
 count-none : (found : List Departure) (count : ℕ) → count ≡ length (map departure_record found) →
     (count ≡ 0) ↔ (found ≡ [])
 count-none [] count e = ((λ z. refl), (λ none. e))

@@ -1,4 +1,5 @@
--- The leaf that an encoding at an offset is, by its tag and its contents octets, and why there is none of a kind.
+-- The leaf that an encoding at an offset is, by its tag and its contents octets, and why there is none of a kind, for
+-- the calls that return a value.
 use Rattle.std.proofs.Common.{◌≡◌, ◌⊎◌, ℕ, ◌<◌, ◌^◌, List, [], inl, inr, refl, sym, subst, ◌∙◌, append-nil}
 use Rattle.asn1_headers.proofs.Prefixes.{Encoding-unique}
 use Rattle.asn1_headers.specs.declared.header.ASN1Class.TheVariants.{Universal}
@@ -38,7 +39,7 @@ module _ (octets : List ℕ) (offset : ℕ) where
         meaning = meaning;
       }
 
-  -- one encoding stands there
+  -- at most one encoding of class Universal stands at an offset
   pub UniversalAt-unique : (m n : ℕ) (v w : List ℕ) → UniversalAt octets offset m v → UniversalAt octets offset n w →
       (m ≡ n) × (v ≡ w)
   UniversalAt-unique m n v w a b =

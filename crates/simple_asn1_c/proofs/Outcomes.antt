@@ -1,4 +1,4 @@
--- What a call answers, by what it did.
+-- What calls return, by what they did, for those that read, check, rewrite or write.
 use Rattle.std.proofs.Common.{◌≡◌, ◌⊎◌, ℕ, ◌<◌, ◌≤◌, ◌++◌, inl, inr, List, drop, get_or, length, map, refl, sym, ap, subst, ◌∙◌, arith}
 use Rattle.std.proofs.lemmas.List.{drop_at, get_or_append_left, length-map}
 use Rattle.simple_asn1.specs.Canonical.{all_canonical}
@@ -32,7 +32,7 @@ AnswersRewrite-written octets found before after o bs d e (n, z, inl (s, w, f)) 
 AnswersRewrite-written octets found before after o bs d e (n, z, inr (s, lt, f)) =
     had_no_room_to_write s z bs d (n ∙ ap length e) (omega (arith, lt, n)) f
 
--- the records of a document that are put at the front
+-- records of a document that are put at the front are records of the document
 AreRecords-put :
     (octets : List ℕ) (ns : Nodes) (records found before after : List Block) → found ≡ records →
     AreRecords octets ns records →
@@ -54,7 +54,7 @@ AreKeptBehind-put found before after count n w f = (
   ap (drop count) f ∙ drop_at found (drop (length found) before) count (sym n) ∙ ap (λ k. drop k before) (sym n),
 )
 
--- as many records as blocks
+-- there are as many records as blocks
 length-records : (octets : List ℕ) (ns : Nodes) (es : List Entry) →
     AreEntries octets 0 (nodes_in_order ns) (nodes_depths 0 ns) es
     → length (map block_of es) ≡ length (nodes_in_order ns)
@@ -117,7 +117,7 @@ AnswersReadStrict-read octets bs es found before after o e d are put =
 abbrev pub HasOutcome : Outcome → ℕ → ℕ → Type 0
 HasOutcome o status offset = (o.status ≡ status) × (o.offset ≡ offset) × (o.count ≡ 0)
 
--- an outcome with the status and offset of want of memory is that
+-- an outcome with the status and offset of want of memory says that memory ran out
 pub IsNoMemory-outcome : (o : Outcome) (status offset : ℕ) → HasOutcome o status offset → IsNoMemory status offset →
     IsNoMemory o.status o.offset
 IsNoMemory-outcome o status offset (s, p, c) (m, z) = (s ∙ m, p ∙ z)

@@ -1,4 +1,5 @@
--- Steps from one entry to the next, values one after another, and numbers that fit.
+-- Steps from one entry to the next, values one after another, and numbers that fit, for `paths`, `number::int64_of` and
+-- `putting::put_records`.
 use Rattle.std.proofs.Common.{◌≡◌, ℕ, zero, suc, ◌-◌, ◌<◌, ◌≤◌, ◌^◌, ◌++◌, inl, inr, List, [], ◌∷◌, ℤ, pos, negsuc, None, Some, Bool, true, false, drop, get_or, length, map, set, take, refl, sym, ap, ◌∙◌, arith, FitsSigned}
 use Rattle.std.specs.Prelude.{◌↔◌, IsTrue}
 use Rattle.std.specs.Int.{w64}
@@ -11,7 +12,7 @@ use Rattle.simple_asn1_c.specs.Paths.{fitting, item_from}
 use Rattle.asn1_outline.specs.declared.entry.Entry.{Entry}
 use Rattle.simple_asn1_c.specs.declared.record.Path.{Path}
 
--- one step on
+-- the item some steps behind an entry is one step less behind the entry that follows side by side
 pub item_from-next : (rs : List Entry) (index end step : ℕ) → 0 < step → index < end
     → item_from rs index end step ≡ item_from rs (entry_at rs index).next end (step - 1)
 item_from-next rs index end zero some below = absurd (omega (arith, some))
@@ -24,7 +25,7 @@ item_from-next rs index end (suc step) some below =
 abbrev pub no_path : Path
 no_path = record { start = 0; length = 0 }
 
--- one value more is put
+-- setting the next value puts one value more
 pub set-next_value : {A B : Type 0} (f : A → B) (xs : List A) (room : List B) (k : ℕ) (d : A) → k < length xs →
     length xs ≤ length room
     → set (map f (take k xs) ++ drop k room) k (f (get_or xs k d)) ≡ map f (take (suc k) xs) ++ drop (suc k) room
@@ -34,7 +35,7 @@ set-next_value f (x ∷ xs) (r ∷ room) zero d h l = refl
 set-next_value f (x ∷ xs) (r ∷ room) (suc k) d h l =
     ap (λ z. f x ∷ z) (set-next_value f xs room k d (omega (arith, h)) (omega (arith, l)))
 
--- the magnitude, by whether the first bit is set
+-- the digits of the magnitude, by whether the first bit is set, make the magnitude
 pub number_from_digits-magnitude : (octets : List ℕ) (negative : Bool) → (IsTrue negative ↔ (128 ≤ get_or octets 0 0))
     → number_from_digits 256 (magnitude_digits negative octets) ≡ magnitude_of octets
 number_from_digits-magnitude octets true is =

@@ -1,4 +1,4 @@
--- Numerals that are pushed, and components of which each is.
+-- Numerals that are pushed, and the components in decimal that they make, for the functions of `dotted`.
 use Rattle.std.proofs.Common.{◌≡◌, ℕ, zero, suc, ◌+◌, ◌<◌, ◌≤◌, ◌%◌, ◌/◌, List, [], ◌∷◌, ◌++◌, refl, sym, ap, ◌∙◌, arith, map, append_assoc}
 use Rattle.std.specs.Prelude.{IsTrue, Bool, Result, Ok, Err, OnOk}
 use Rattle.std.specs.Int.Digits.{digits_of}
@@ -14,12 +14,12 @@ use Rattle.asn1_leaves.specs.Inner.IdentifierForms.{components_of, first_compone
 use Rattle.asn1_leaves.proofs.DottedNumbers.{dotted_decimal-cons}
 use Rattle.asn1_leaves.proofs.IdentifierForms.{first_component-AreFirstTwo, second_component-AreFirstTwo}
 
--- what holds of a result where it is Ok
+-- where a result is found to be Ok, what holds of an Ok holds
 pub OnOk-is_ok : {T E P : Type 0} (r : Result T E) (b : Bool) → b ≡ is_ok r → IsTrue b → OnOk r P → P
 OnOk-is_ok (Ok x) b e said p = p
 OnOk-is_ok (Err x) b e said p = grind (arith, e, said)
 
--- the numeral of one digit
+-- the numeral of a number below 10 is one digit
 pub natural_numeral-digit : (n : ℕ) → n < 10 → (48 + n) ∷ [] ≡ natural_numeral n
 natural_numeral-digit zero low = refl
 natural_numeral-digit (suc m) low =
@@ -31,7 +31,7 @@ natural_numeral-digit (suc m) low =
     ∙ (λ i. digits_of 10 (none i) ++ (last i ∷ [])))
     )
 
--- the numeral of two digits
+-- the numeral of a number from 10 to 99 is two digits
 pub natural_numeral-two_digits : (n : ℕ) → 10 ≤ n → n < 100 → (48 + n / 10) ∷ (48 + n % 10) ∷ [] ≡ natural_numeral n
 natural_numeral-two_digits n two low =
     let none : n / 10 / 10 ≡ 0 = omega (arith, low) in
@@ -43,7 +43,7 @@ natural_numeral-two_digits n two low =
     ∙ ap (map digit) (digits_of_step 10 n (omega arith) (omega (arith, two)) ∙ ap (λ z. z ++ (n % 10) ∷ []) front)
     )
 
--- the components of contents octets, one after another
+-- the numerals of the first two components, and then of the others, are the components of contents octets in decimal
 pub dotted_decimal-pushed : (contents rest : List ℕ) (b x y : ℕ) (text one two all : List ℕ) → contents ≡ b ∷ rest →
     AreFirstTwo x y b
     → one ≡ text ++ natural_numeral x → two ≡ one ++ pointed y → all ≡ two ++ flat_map pointed (numbers_after 0 rest)

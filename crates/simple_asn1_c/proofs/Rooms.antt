@@ -1,6 +1,6 @@
--- How much room texts of numbers need at most.
+-- How much room texts of numbers need at most, for `simple_asn1_dotted`, `simple_asn1_oid` and `simple_asn1_tag`.
 use Rattle.std.proofs.Common.{◌≡◌, ℕ, zero, suc, ◌+◌, ◌*◌, ◌^◌, ◌%◌, ◌<◌, ◌≤◌, ◌++◌, Bool, List, [], ◌∷◌, length, map, refl, ap, subst, ◌∙◌, arith, length-append}
-use Rattle.std.specs.Int.Digits.{AllBelowBase, digits_of, number_from_digits}
+use Rattle.std.specs.Int.Digits.{digits_of, number_from_digits}
 use Rattle.std.specs.List.{join_with_byte}
 use Rattle.std.specs.Str.{byte}
 use Rattle.std.proofs.lemmas.Int.Digits.{length-digits_of-le, number_lt}
@@ -25,6 +25,7 @@ use Rattle.simple_asn1_c.proofs.OffsetLeaves.{HasLeafAt-leaf, UniversalAt-unique
 use Rattle.simple_asn1_c.specs.Contents.{AnswersDotted, AnswersTag, had_no_memory_for_components, had_no_memory_for_tag, mean_components, mean_no_components, no_tag_was_found, tag_was_found}
 use Rattle.simple_asn1_c.specs.Values.{AnswersIdentifier, UniversalAt, identifier_is_missing, identifier_was_found}
 use Rattle.simple_asn1_c.specs.declared.record.Outcome.{Outcome}
+use Rattle.asn1_headers.proofs.Shortest.{AllBelowBase-low_bits}
 
 -- seven bits take three digits at most
 power-three_digits : (k : ℕ) → 128 ^ k ≤ 10 ^ (3 * k)
@@ -36,12 +37,7 @@ power-three_digits (suc k) =
     let b : 10 ^ (3 * suc k) ≡ 1000 * 10 ^ (3 * k) = ap (λ z. 10 ^ z) three ∙ pow-add 10 3 (3 * k) in
     omega (arith, a, b, power-three_digits k)
 
--- the low seven bits of octets are digits to base 128
-AllBelowBase-low_bits : (s : List ℕ) → AllBelowBase 128 (map (λ b. b % 128) s)
-AllBelowBase-low_bits [] = tt
-AllBelowBase-low_bits (b ∷ s) = (omega arith, AllBelowBase-low_bits s)
-
--- a base-128 number has octets
+-- the octets of a base-128 number are not empty
 IsBase128-not_empty : (s : List ℕ) (n : ℕ) → IsBase128 s n → 0 < length s
 IsBase128-not_empty [] n h = absurd h.continued
 IsBase128-not_empty (b ∷ s) n h = omega arith
@@ -49,7 +45,7 @@ IsBase128-not_empty (b ∷ s) n h = omega arith
 length-numeral_of_zero : length (natural_numeral 0) ≡ 1
 length-numeral_of_zero = refl
 
--- the decimal text of a number that is below a power
+-- the numeral of a number below a power of 10 has at most as many digits as the exponent says
 length-numeral_le : (n k : ℕ) → 0 < k → n < 10 ^ k → length (natural_numeral n) ≤ k
 length-numeral_le zero k some small = omega (arith, some, length-numeral_of_zero)
 length-numeral_le (suc n) k some small =
@@ -82,7 +78,7 @@ length-join_numerals_le first (n ∷ ns) v (s, rest, whole, is, others) =
     length-append first (byte "." ∷ join_with_byte (byte ".") (text ∷ map natural_numeral ns)) in
     omega (arith, joined, more, own, some, ap length whole, length-append s rest)
 
--- the components of contents octets
+-- the text of components has at most four octets for each contents octet, and one
 pub length-dotted_decimal_le : (ns v : List ℕ) → AreOctets v → ObjectIdentifierContents ns v →
     length (dotted_decimal ns) ≤ 4 * length v + 1
 length-dotted_decimal_le [] v all h = absurd h
@@ -100,7 +96,7 @@ length-dotted_decimal_le (x ∷ y ∷ ns) v all (b, rest, whole, (number, low, s
     length-append first (byte "." ∷ join_with_byte (byte ".") (text ∷ map natural_numeral ns)) in
     omega (arith, joined, more, one, two, ap length whole)
 
--- of components so many octets are put, or none
+-- what is put of components is at most four octets for each contents octet, and one
 pub count-dotted_le : (v before after : List ℕ) (o : Outcome) → AreOctets v → AnswersDotted v before after o →
     o.count ≤ 4 * length v + 1
 count-dotted_le v before after o all (mean_components ns is put) =
@@ -134,7 +130,7 @@ count-identifier_le octets offset before after o all (identifier_was_found ns is
 count-identifier_le octets offset before after o all (identifier_is_missing missing place count same) tag v u =
     omega (arith, count)
 
--- the tag number of an encoding
+-- the numeral of a tag number has at most three digits for each identifier octet
 length-tag_numeral_le : (s : List ℕ) (c : ASN1Class) (k : Bool) (n : ℕ) → IsIdentifier s c k n →
     length (natural_numeral n) ≤ 3 * length s
 length-tag_numeral_le [] c k n h = absurd h

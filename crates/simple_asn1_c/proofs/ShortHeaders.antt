@@ -1,4 +1,4 @@
--- An encoding of class Universal with a header of two octets, for short_universal_at.
+-- An encoding of class Universal with a header of two octets, for `alone::short_universal_at`.
 use Rattle.std.proofs.Common.{◌≡◌, ℕ, ◌+◌, ◌-◌, ◌<◌, ◌≤◌, ◌%◌, Bool, true, false, List, [], ◌∷◌, ◌++◌, drop, get_or, length, take, refl, sym, ap, ◌∙◌, inl, inr, arith}
 use Rattle.std.proofs.lemmas.Bool.{cases_lt}
 use Rattle.std.proofs.lemmas.List.{length-take-le, take-append-drop, take_all}
@@ -11,7 +11,7 @@ pub record BeginsWithTwo (rest v : List ℕ) (b n : ℕ) : Type 0 where
   pub whole : rest ≡ b ∷ n ∷ (v ++ drop n (drop 2 rest))
   pub size : length v ≡ n
 
--- octets that were split behind two begin with these
+-- octets split behind their first two begin with them and with as many as the second says
 pub BeginsWithTwo-short : (rest v : List ℕ) → 2 ≤ length rest →
     get_or rest 1 0 ≤ length (take (length rest - 2) (drop 2 rest))
     → v ≡ take (get_or rest 1 0) (take (length rest - 2) (drop 2 rest)) →
@@ -29,7 +29,7 @@ BeginsWithTwo-short (b ∷ n ∷ more) v some within is =
 
 module _ (x : List ℕ) (offset b n : ℕ) (v behind : List ℕ) (here : drop offset x ≡ b ∷ n ∷ (v ++ behind))
     (low : b % 32 < 31) (short : n < 128) (size : length v ≡ n) where
-  -- an encoding of class Universal with a header of two octets stands there, by its leading octet
+  -- at the offset stands an encoding of class Universal with a header of two octets, by its leading octet
   UniversalAt-leading_octet : (k : Bool) → b ≡ leading_octet Universal k (b % 32) → UniversalAt x offset (b % 32) v
   UniversalAt-leading_octet k leading =
       let own : Encoding (b ∷ n ∷ v) Universal k (b % 32) v 2 = record {
@@ -60,7 +60,7 @@ module _ (x : List ℕ) (offset b n : ℕ) (v behind : List ℕ) (here : drop of
         encoding = own;
       }
 
-  -- an encoding of class Universal with a header of two octets stands there
+  -- at the offset stands an encoding of class Universal with a header of two octets
   pub UniversalAt-short : b < 64 → UniversalAt x offset (b % 32) v
   UniversalAt-short small = elim (cases_lt b 32) [
     | inl lt ↦ UniversalAt-leading_octet false (omega (arith, lt))

@@ -1,4 +1,4 @@
--- One record more is spelled.
+-- One record more is spelled before the others, for the functions of `spelling`.
 use Rattle.std.proofs.Common.{◌≡◌, ℕ, zero, suc, ◌+◌, ◌-◌, ◌<◌, ◌≤◌, ◌^◌, Bool, true, List, [], ◌∷◌, ◌++◌, drop, get_or, length, take, refl, sym, subst, ap, ◌∙◌, arith, length-append, append_assoc, Result, Ok, Err}
 use Rattle.std.specs.Prelude.{IfErr, IsTrue, nat_lt}
 use Rattle.std.specs.List.{concat}
@@ -18,7 +18,7 @@ pub length-starts_of : (xs : List (List ℕ)) → length (starts_of xs) ≡ leng
 length-starts_of [] = refl
 length-starts_of (x ∷ xs) = omega (arith, length-starts_of xs, length-append (starts_of xs) (length (concat xs) ∷ []))
 
--- where encodings without the first ones start
+-- without the first k encodings, the places of encodings are the first of the places of all, which begin with the last
 take-starts_of : (k : ℕ) (xs : List (List ℕ)) → k ≤ length xs →
     take (length xs - k) (starts_of xs) ≡ starts_of (drop k xs)
 take-starts_of zero xs h =
@@ -31,7 +31,7 @@ take-starts_of (suc k) (x ∷ xs) h =
     ap (λ z. take z (starts_of (x ∷ xs))) n ∙ take-append-le (length xs - k) (starts_of xs) (length (concat xs) ∷ []) l
     ∙ take-starts_of k xs (omega (arith, h))
 
--- where the last of the first encodings begins
+-- the place of the encoding behind k others is the length of the encodings behind it
 get_or-starts_of : (k : ℕ) (xs : List (List ℕ)) → suc k ≤ length xs →
     get_or (starts_of xs) (length xs - suc k) 0 ≡ length (concat (drop (suc k) xs))
 get_or-starts_of k [] h = absurd (omega (arith, h))
@@ -48,7 +48,7 @@ get_or-starts_of (suc k) (x ∷ xs) h =
 -- there is an encoding for each place, and each begins among the octets
 module _ (octets : List ℕ) (rs : List Block) (spelled starts : List ℕ) (was : Bool)
     (state : IsState octets rs spelled starts was) where
-  -- as many encodings start as there are
+  -- there are as many places as encodings
   pub length-starts : length starts ≡ length state.xs
   length-starts = ap length state.places ∙ length-starts_of state.xs
 

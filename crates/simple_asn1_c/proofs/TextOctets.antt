@@ -4,7 +4,7 @@ use Rattle.std.specs.Prelude.{IsAscii, IsUtf8, encode_utf8_all}
 use Rattle.std.specs.Char.{is_ascii}
 use Rattle.std.specs.List.{list_all}
 use Rattle.std.specs.Str.{chars}
-use Rattle.std.proofs.lemmas.Bool.{and_parts, and_from}
+use Rattle.std.proofs.lemmas.Bool.{and_from}
 use Rattle.std.proofs.lemmas.Bool.Decides.{nat_tests}
 use Rattle.std.proofs.lemmas.Fmt.{IsAscii-from_digits}
 use Rattle.std.proofs.lemmas.List.Elements.{All-head, All-tail}
@@ -19,6 +19,7 @@ use Rattle.asn1_leaves.specs.DottedDecimal.{IsDottedDecimal, dotted_decimal}
 use Rattle.asn1_leaves.specs.declared.contents.text.TextForm.{TextForm}
 use Rattle.asn1_leaves.specs.declared.contents.text.TextForm.TheVariants.{Utf8, Printable, Octets}
 use Rattle.simple_asn1_c.specs.Puts.{AreAllowed}
+use Rattle.asn1_leaves.proofs.Leaves.GeneralizedTime.{IsAscii-list_all}
 
 -- numerals are ASCII
 IsAscii-numeral : (n : ℕ) → IsAscii (natural_numeral n)
@@ -41,13 +42,6 @@ pub IsUtf8-dotted_decimal : (text ns : List ℕ) → IsDottedDecimal text ns →
 IsUtf8-dotted_decimal text ns dotted =
     subst IsUtf8 (sym dotted.0) (IsUtf8-from_ascii (dotted_decimal ns) (IsAscii-dotted_decimal ns))
 
--- octets that a test finds to be ASCII are
-IsAscii-all : (cs : List ℕ) → list_all is_ascii cs ≡ true → IsAscii cs
-IsAscii-all [] e = IsAscii-nil
-IsAscii-all (c ∷ cs) e =
-    let p = and_parts (is_ascii c) (list_all is_ascii cs) e in
-    IsAscii-cons c cs (grind (arith, nat_tests, p.0)) (IsAscii-all cs p.1)
-
 -- octets below 128 are found to be ASCII
 list_all-is_ascii : (cs : List ℕ) → All (λ b. b < 128) cs → list_all is_ascii cs ≡ true
 list_all-is_ascii [] all = refl
@@ -56,10 +50,10 @@ list_all-is_ascii (c ∷ cs) all =
     and_from (is_ascii c) (list_all is_ascii cs) (grind (arith, nat_tests, h))
     (list_all-is_ascii cs (All-tail (λ b. b < 128) c cs all))
 
--- a text whose characters are ASCII is
+-- a text whose characters are ASCII is ASCII
 pub IsAscii-chars : (text : List ℕ) → IsUtf8 text → list_all is_ascii (chars text) ≡ true → IsAscii text
 IsAscii-chars text u e =
-    let a = IsAscii-all (chars text) e in
+    let a = IsAscii-list_all (chars text) e in
     let same : encode_utf8_all (chars text) ≡ chars text =
     ap encode_utf8_all (sym (chars-IsAscii (chars text) a))
     ∙ encodes-chars (chars text) (IsUtf8-from_ascii (chars text) a) in

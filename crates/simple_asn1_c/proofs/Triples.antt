@@ -1,4 +1,4 @@
--- The signed triple that the entries of a document begin with.
+-- The signed triple that the entries of a document begin with, for `signed::parts_in`.
 use Rattle.std.proofs.Common.{◌≡◌, ℕ, ◌+◌, ◌<◌, ◌++◌, Bool, List, [], ◌∷◌, drop, get_or, length, refl, sym, ap, subst, ◌∙◌, arith, inl, inr, append_assoc, length-append, drop-drop}
 use Rattle.std.proofs.lemmas.List.{drop_at, get_or-drop, length-drop}
 use Rattle.asn1_headers.specs.Header.{Encoding}
@@ -55,7 +55,7 @@ HasUniversalTag-entry x n i d tag e y is s small (class, number) =
       encoding = subst (λ z. Encoding octets Universal e.constructed z h.contents e.header) t own;
     }
 
--- a tree that is encoded with the tag of a SEQUENCE is one
+-- a tree that is encoded with the tag of a SEQUENCE is a SEQUENCE
 HasUniversalTag-sequence : (x : List ℕ) (b : Tree ℕ) → HasUniversalTag x b 16 →
     (bs : Trees ℕ) × (b ≡ group (tree_offset b) Sequence bs)
 HasUniversalTag-sequence x (leaf p l) t =
@@ -149,7 +149,7 @@ IsUniversal-entry x n i d tag e y k v h is s f small =
     own.encoding f (ap (λ w. w ++ []) same) in
     (z.class, own.tag_field.0 (omega (arith, z.tag, small)) ∙ z.tag)
 
--- what follows the first part of the rest of a list
+-- from a place behind a front on, a list is what follows the front
 drop-past_front : {A : Type 0} (xs front rest : List A) (k j : ℕ) → drop k xs ≡ front ++ rest → j ≡ k + length front →
     drop j xs ≡ rest
 drop-past_front xs front rest k j e at =
@@ -178,7 +178,7 @@ module _ (x : List ℕ) (es : List Entry) (ns : Nodes) (d : IsStructure x ns)
     encoded : IsEncodedIn x (node_tree n) octets
     holds : IsNode x n
 
-  -- the node that comes next in order, and its entry
+  -- the node that comes next in order has its entry at this index
   IsNodeAndEntry-drop : (k : ℕ) (n : Node) (rest : List Node) → drop k (nodes_in_order ns) ≡ node_in_order n ++ rest →
       IsNodeAndEntry k n
   IsNodeAndEntry-drop k n rest e =
@@ -234,7 +234,7 @@ module _ (x : List ℕ) (es : List Entry) (ns : Nodes) (d : IsStructure x ns)
         items = w.items ∙ ap (λ z. node_count (node_items z)) (sym f.is);
       }
 
--- what a SEQUENCE holds
+-- a SEQUENCE holds its items
 Holds-sequence : (x : List ℕ) (b : Tree ℕ) (o : ℕ) (bs held : Trees ℕ) → b ≡ group o Sequence bs → Holds x b held →
     held ≡ bs
 Holds-sequence x b o bs held e h = subst (λ z. Holds x z held) e h
@@ -260,7 +260,7 @@ module _ (x : List ℕ) (es : List Entry) (t ab : Tree ℕ) (c i s : Node) (is r
   all = more_nodes whole rest
 
   module _ (d : IsStructure x all) (are : AreEntries x 0 (nodes_in_order all) (nodes_depths 0 all) es) where
-    -- the nodes behind the first one
+    -- behind the first node in order stand what was signed, the algorithm, the signature and the rest
     drop-whole : drop 1 (nodes_in_order all)
         ≡ node_in_order c ++ (node_in_order algorithm ++ (node_in_order s ++ ([] ++ nodes_in_order rest)))
     drop-whole =
@@ -271,18 +271,18 @@ module _ (x : List ℕ) (es : List Entry) (t ab : Tree ℕ) (c i s : Node) (is r
         append_assoc x (y ++ (z ++ [])) r ∙ ap (λ w. x ++ w) (append_assoc y (z ++ []) r)
         ∙ ap (λ w. x ++ (y ++ w)) (append_assoc z [] r)
 
-    -- the first node, and its entry
+    -- the first node has the entry at the index 0
     node-whole : IsNodeAndEntry x es all d are 0 whole
     node-whole = IsNodeAndEntry-drop x es all d are 0 whole (nodes_in_order rest) refl
 
-    -- the node of what was signed, and its entry
+    -- the node of what was signed has the entry at the index 1
     node-content : IsNodeAndEntry x es all d are 1 c
     node-content =
         IsNodeAndEntry-drop x es all d are 1 c
         (node_in_order algorithm ++ (node_in_order s ++ ([] ++ nodes_in_order rest)))
         drop-whole
 
-    -- the node of the algorithm, and its entry
+    -- the node of the algorithm has the entry behind what was signed
     node-algorithm : IsNodeAndEntry x es all d are (entry_at es 1).next algorithm
     node-algorithm =
         let after = node_in_order s ++ ([] ++ nodes_in_order rest) in
@@ -291,7 +291,7 @@ module _ (x : List ℕ) (es : List Entry) (t ab : Tree ℕ) (c i s : Node) (is r
         (entry_at es 1).next drop-whole
         node-content.entry.next)
 
-    -- the nodes behind what was signed
+    -- behind what was signed stand the algorithm, the signature and the rest
     drop-content : drop (entry_at es 1).next (nodes_in_order all)
         ≡ node_in_order algorithm ++ (node_in_order s ++ ([] ++ nodes_in_order rest))
     drop-content =
@@ -299,7 +299,7 @@ module _ (x : List ℕ) (es : List Entry) (t ab : Tree ℕ) (c i s : Node) (is r
         (node_in_order algorithm ++ (node_in_order s ++ ([] ++ nodes_in_order rest))) 1
         (entry_at es 1).next drop-whole node-content.entry.next
 
-    -- the node of the algorithm's identifier, and its entry
+    -- the node of the algorithm's identifier has the entry behind that of the algorithm
     node-identifier : IsNodeAndEntry x es all d are ((entry_at es 1).next + 1) i
     node-identifier =
         let after = node_in_order s ++ ([] ++ nodes_in_order rest) in
@@ -310,7 +310,7 @@ module _ (x : List ℕ) (es : List Entry) (t ab : Tree ℕ) (c i s : Node) (is r
         (drop-past_front (nodes_in_order all) (algorithm ∷ []) (node_in_order i ++ more) (entry_at es 1).next
         ((entry_at es 1).next + 1) front refl)
 
-    -- the node of the signature, and its entry
+    -- the node of the signature has the entry behind the algorithm and all inside it
     node-signature : IsNodeAndEntry x es all d are (entry_at es (entry_at es 1).next).next s
     node-signature =
         let after = [] ++ nodes_in_order rest in
@@ -318,7 +318,7 @@ module _ (x : List ℕ) (es : List Entry) (t ab : Tree ℕ) (c i s : Node) (is r
         (drop-past_front (nodes_in_order all) (node_in_order algorithm) (node_in_order s ++ after) (entry_at es 1).next
         (entry_at es (entry_at es 1).next).next drop-content node-algorithm.entry.next)
 
-    -- a structure whose entries have the tags of a triple is one
+    -- a document whose entries have the tags of a triple begins with a signed triple
     pub HasSignedTriple-nodes : BeginWithTriple es → HasSignedTriple x es
     HasSignedTriple-nodes begin =
         let w = node-whole in
@@ -374,7 +374,7 @@ module _ (x : List ℕ) (es : List Entry) (t ab : Tree ℕ) (c i s : Node) (is r
           signature = IsRecord-node x es all d are (entry_at es (entry_at es 1).next).next s (signature_tree p) q last;
         }
 
-    -- one has these tags
+    -- the entries of a signed triple have the tags of one
     pub BeginWithTriple-nodes : (p : SignedParts) → t ≡ signed_tree p → ab ≡ algorithm_tree p →
         node_tree i ≡ identifier_tree p →
         node_tree s ≡ signature_tree p
@@ -431,7 +431,7 @@ items-none_inside x es t ab c s rest d are =
     (entry_at es 1).next inside first.entry.next in
     (IsNodeAndEntry-drop x es ns d are (entry_at es 1).next n after behind).entry.items
 
--- the whole of a document's entries: begun with a triple
+-- all entries of a document, by whether they begin with a triple
 module _ (x : List ℕ) (es : List Entry) where
   -- a document whose first block has three items and the tags of a triple begins with one
   HasSignedTriple-items : (t : Tree ℕ) (ms rest : Nodes) → IsStructure x (more_nodes (node t ms) rest)

@@ -1,4 +1,4 @@
--- Each block of a document has two octets of its own.
+-- Each block of a document has at least two octets of its own, for `read_within` and `simple_asn1_read`.
 use Rattle.std.proofs.Common.{◌≡◌, ℕ, ◌+◌, ◌*◌, ◌++◌, ◌≤◌, List, [], drop, length, sym, ap, arith, append-nil, length-append}
 use Rattle.simple_asn1.specs.Grammar.{Encodes, EncodesAll}
 use Rattle.simple_asn1.specs.Structure.{AreNodes, IsNode, IsStructure, Node, Nodes, more_nodes, no_nodes, node, node_in_order, node_tree, nodes_in_order, nodes_trees}

@@ -1,17 +1,18 @@
--- Each encoding has two octets at least that are in no other.
+-- Each encoding has at least two octets that are in no other, for `simple_asn1_outline`.
 use Rattle.std.proofs.Common.{ℕ, suc, ◌+◌, ◌-◌, ◌*◌, ◌≤◌, List, length, arith, length-append}
 use Rattle.std.specs.List.{slice_range}
 use Rattle.simple_asn1.specs.Shapes.{AreShapes, HasItems, HasShapes, Shapes, as_it_came, entries_of, no_more, not_read, one_more, read_inside}
 use Rattle.asn1_blocks.specs.Places.{HeaderFound}
 use Rattle.asn1_blocks.specs.declared.parsed.PlacedHeader.{PlacedHeader}
 use Rattle.asn1_blocks.proofs.ReadSteps.{length-slice_range}
-use Rattle.asn1_outline.proofs.Standing.{length-contents_le}
+use Rattle.asn1_outline.proofs.Standing.{length-contents_two_less}
 
--- a header has two octets
+-- a header has at least two octets
 start-two_octets : (x : List ℕ) (p e : ℕ) (h : PlacedHeader) → e ≤ length x → HeaderFound x p e h → p + 2 ≤ h.start
 start-two_octets x p e h within f =
     let more =
-    length-contents_le (slice_range x p h.end) h.class h.constructed h.tag (slice_range x h.start h.end) (h.start - p)
+    length-contents_two_less (slice_range x p h.end) h.class h.constructed h.tag (slice_range x h.start h.end)
+    (h.start - p)
     f.encoding in
     let all =
     length-slice_range x p h.end (omega (arith, f.starts_after, f.order)) (omega (arith, f.ends_within, within)) in

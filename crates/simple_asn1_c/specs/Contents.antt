@@ -51,8 +51,8 @@ AnswersShortest contents before after o =
     (λ components. ArePut (object_identifier_contents components) before after o)
     (λ status. IsNotPut status before after o)
 
--- how many octets the component has that begins at the index: they are a base-128 number (X.690 8.19.2); none begins
--- there, as in the first octet, which is of the first two components; or it does not end
+-- how many octets the component has that begins at the index: they are a base-128 number (X.690 8.19.2); no component
+-- begins at the index, as in the first octet, which is of the first two components; or the component does not end
 pub data AnswersComponent (contents : List ℕ) (index : ℕ) (o : Outcome) : Type 0 where
   component_was_found :
       0 < index → o.status ≡ done → o.offset ≡ 0 → o.count ≤ length (drop index contents) →
@@ -70,7 +70,7 @@ IsHeaderAt octets offset r =
     (x : List ℕ) × EncodingAt octets offset x × HasHeader x r × (r.offset ≡ offset) × (r.items ≡ 0)
     × HasNoLinks r
 
--- the record of an encoding by its header alone; none stands there; or memory ran out
+-- the record of an encoding by its header alone; no encoding stands at the offset; or memory ran out
 pub data AnswersHeader (octets : List ℕ) (offset : ℕ) (before after : List Block) (o : Outcome) : Type 0 where
   header_was_found :
       (r : Block) → IsHeaderAt octets offset r → ArePut (r ∷ []) before after o →
@@ -88,7 +88,7 @@ HasTagAt octets offset tag =
     (x : List ℕ) × EncodingAt octets offset x × (class : ASN1Class) × (constructed : Bool) × (contents : List ℕ)
     × (header : ℕ) × Encoding x class constructed tag contents header
 
--- the tag number of an encoding in decimal, of any size; none stands there; or memory ran out
+-- the tag number of an encoding in decimal, of any size; no encoding stands at the offset; or memory ran out
 pub data AnswersTag (octets : List ℕ) (offset : ℕ) (before after : List ℕ) (o : Outcome) : Type 0 where
   tag_was_found :
       (tag : ℕ) → HasTagAt octets offset tag → ArePut (natural_numeral tag) before after o →
@@ -101,7 +101,7 @@ pub data AnswersTag (octets : List ℕ) (offset : ℕ) (before after : List ℕ)
       AnswersTag octets offset before after o
 
 -- how many identifier octets of an encoding follow the leading one: they have the tag number as a base-128 number
--- (X.690 8.1.2.4.2), or there are none, and the leading one has it; or no encoding stands there
+-- (X.690 8.1.2.4.2), or there are none, and the leading one has it; or no encoding stands at the offset
 pub data AnswersTagOctets (octets : List ℕ) (offset : ℕ) (o : Outcome) : Type 0 where
   tag_octets_were_found :
       o.status ≡ done → o.offset ≡ 0 → (x : List ℕ) → (at : EncodingAt octets offset x) →
@@ -125,7 +125,7 @@ fault_number overflow = 0
 fault_number out_of_memory = 0
 fault_number (not_canonical n) = 0
 
--- the text that one says: of a time that is none
+-- the text that a fault says: the contents octets of a time that are no date
 abbrev pub fault_text : DecodeFault → List ℕ
 fault_text empty_buffer = []
 fault_text (bad_boolean_length n) = []
@@ -140,7 +140,7 @@ fault_text overflow = []
 fault_text out_of_memory = []
 fault_text (not_canonical n) = []
 
--- the first fault of octets that are no document, with what it says; they are one; or memory ran out
+-- the first fault of octets that are no document, with what it says; the octets are a document; or memory ran out
 pub data AnswersFault (octets before after : List ℕ) (a : FaultAnswer) : Type 0 where
   fault_was_found :
       (fault : DecodeFault) → FirstFaultAt octets fault a.offset → a.status ≡ status_of fault →

@@ -24,7 +24,7 @@ item_from rs index end (suc step) =
 abbrev pub items_end : List Entry → ℕ → ℕ
 items_end rs index = min (entry_at rs index).next (length rs)
 
--- where one is, what is found inside it
+-- nothing where no encoding is found, and otherwise what is found inside the encoding at the index
 abbrev pub if_found : Option ℕ → (ℕ → Option ℕ) → Option ℕ
 if_found None inside = None
 if_found (Some index) inside = inside index
@@ -35,8 +35,8 @@ index_inside rs [] index = Some index
 index_inside rs (step ∷ steps) index =
     if_found (item_from rs (suc index) (items_end rs index) step) (λ inside. index_inside rs steps inside)
 
--- the index of the encoding that a path names: the first number is that of an encoding of the document, from 0; each
--- other that of an item of the one before. No numbers name none
+-- the index of the encoding that a path names: the first number is that of an encoding of the document, from 0, and
+-- each other number is that of an item of the encoding before. A path of no numbers names none
 abbrev pub index_at : List Entry → List ℕ → Option ℕ
 index_at rs [] = None
 index_at rs (step ∷ steps) = if_found (item_from rs 0 (length rs) step) (λ index. index_inside rs steps index)

@@ -50,8 +50,8 @@ AnswersPutBits octets bits before after o =
     ArePutIf (AreFewestFor bits octets) (bit_string_contents bits octets) out_of_range before after o
     ⊎ IsNotPut no_memory before after o
 
--- the contents octets of the OBJECT IDENTIFIER whose components the text has, if they can be written; the text has
--- none; or memory ran out
+-- the contents octets of the OBJECT IDENTIFIER whose components the text has, if they can be written; the text has no
+-- components; or memory ran out
 pub data AnswersPutIdentifier (text before after : List ℕ) (o : Outcome) : Type 0 where
   has_components :
       (components : List ℕ) → IsDottedDecimal text components →
@@ -69,7 +69,7 @@ AreAllowed Utf8 cs = HasCharacters Utf8 cs
 AreAllowed Printable cs = HasCharacters Printable cs
 AreAllowed Octets cs = list_all is_ascii cs ≡ true
 
--- the status that says that others are among them
+-- the status that says that characters are not allowed
 abbrev pub others_status : TextForm → ℕ
 others_status Utf8 = not_utf8
 others_status Printable = not_printable

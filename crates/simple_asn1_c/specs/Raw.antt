@@ -90,8 +90,8 @@ pub data AnswersRawMoment (tag : ℕ) (m : Moment) (before after : List ℕ) (o 
   is_no_raw_time :
       (IsMomentTag tag → ⊥) → IsNotPut no_such_value before after o → AnswersRawMoment tag m before after o
 
--- the shortest encoding of contents octets with a tag number in decimal, of any size; there is no such class or number;
--- or memory ran out
+-- the shortest encoding of contents octets with a tag number in decimal, of any size; no class or no tag number is as
+-- given; or memory ran out
 pub data AnswersEncoding (class constructed : ℕ) (numeral contents before after : List ℕ) (o : Outcome)
     : Type 0 where
   was_encoded :

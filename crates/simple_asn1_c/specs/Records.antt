@@ -60,7 +60,7 @@ pub record IsRecordAt (whole : List ℕ) (ns : Nodes) (k : ℕ) (r : Block) : Ty
   pub header : HasHeader octets r
   pub offset : r.offset ≡ tree_offset (tree_at ns k)
   pub items : r.items ≡ node_count (node_items (node_at ns k))
-  -- the index after it and all that it holds
+  -- the index after the block and all that it holds
   pub next : r.next ≡ k + length (node_in_order (node_at ns k))
   pub depth : r.depth ≡ get_or (nodes_depths 0 ns) k 0
 

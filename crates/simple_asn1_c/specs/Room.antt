@@ -7,7 +7,7 @@ use Rattle.simple_asn1_c.specs.declared.record.Outcome.{Outcome}
 abbrev pub AreFront : {A : Type 0} → List A → List A → List A → Type 0
 AreFront octets before after = after ≡ octets ++ drop (length octets) before
 
--- there is room for so many, and those behind them are as before
+-- there is room for as many as the count, and what stands behind them is as before
 abbrev pub AreKeptBehind : {A : Type 0} → ℕ → List A → List A → Type 0
 AreKeptBehind count before after = (count ≤ length before) × (drop count after ≡ drop count before)
 

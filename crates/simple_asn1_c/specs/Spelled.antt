@@ -8,16 +8,16 @@ use Rattle.simple_asn1_c.specs.Inner.InRecords.{AreCanonicalBlocks}
 use Rattle.simple_asn1_c.specs.Records.{no_record}
 use Rattle.simple_asn1_c.specs.declared.record.Block.{Block}
 
--- the contents octets that a record has of these
+-- the contents octets that a record has among the octets
 abbrev pub contents_of : List ℕ → Block → List ℕ
 contents_of octets r = slice_range octets (r.offset + r.header) (r.offset + r.header + r.contents)
 
--- what a record has for each tag number from here on, so that it names none
+-- what a record has for each tag number from this one on, so that it names no tag number
 abbrev pub greatest_tag : ℕ
 greatest_tag = 2 ^ 64 - 1
 
--- one encoding for each record that no other holds, in order. A record without items has its contents octets of these
--- octets; one with items holds the encodings that follow it. The tag of each is that of one number alone
+-- one encoding for each record that no other holds, in order. A record without items has its contents octets among the
+-- octets; one with items holds the encodings behind it. The tag of each is that of one number alone
 pub data Spells (octets : List ℕ) : List Block → List (List ℕ) → Type 0 where
   spells_none : Spells octets [] []
   spells_contents :
@@ -40,7 +40,7 @@ pub data IsUnspellable (octets : List ℕ) (xs : List (List ℕ)) (r : Block) : 
   -- the contents octets of the record are not within these octets
   has_no_contents : r.items ≡ 0 → length octets < r.offset + r.header + r.contents → IsUnspellable octets xs r
 
--- the records after that place are spelled, and the one that stands there can't be
+-- the records after the place are spelled, and the record at the place can't be
 abbrev pub IsBadAt : List ℕ → List Block → ℕ → Type 0
 IsBadAt octets records place =
     (place < length records) × (xs : List (List ℕ)) × Spells octets (drop (place + 1) records) xs

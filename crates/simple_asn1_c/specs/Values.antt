@@ -41,7 +41,7 @@ IsTextAt octets offset utf8 = (kind : StringKind) × IsLeafAt octets offset (tex
 abbrev pub IsIdentifierAt : List ℕ → ℕ → List ℕ → Type 0
 IsIdentifierAt octets offset components = IsLeafAt octets offset (object_identifier components)
 
--- the tag numbers of these kinds
+-- the tag numbers of the kinds of values
 abbrev pub IsIntegerTag : ℕ → Type 0
 IsIntegerTag tag = tag ≡ INTEGER
 

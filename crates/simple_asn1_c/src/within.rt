@@ -4,10 +4,9 @@ ghost use Rattle.std.specs.Prelude.{◌≡◌, ◌+◌, ◌<◌, ◌≤◌, ◌^
 ghost use Rattle.asn1_headers.specs.Reading.{OutOfMemoryOrAt};
 ghost use Rattle.asn1_headers.specs.declared.error.ASN1DecodeErr.TheVariants.{OutOfMemory};
 ghost use Rattle.asn1_blocks.specs.Grammar.{FirstFaultAt, IsDocument};
-ghost use Rattle.asn1_blocks.specs.Places.{HeaderFound};
 ghost use Rattle.asn1_blocks.specs.Tree.{Trees};
 ghost use Rattle.asn1_outline.specs.Entries.{AreEntriesOf};
-ghost use Rattle.asn1_outline.specs.Listing.{IsBegun, with_items_at};
+ghost use Rattle.asn1_outline.specs.Listing.{with_items_at};
 ghost use Rattle.asn1_outline.specs.declared.entry.Entry.{Entry};
 ghost use Rattle.simple_asn1_c.specs.Inner.Fronts.{IsFound, IsFront, holds_front};
 
@@ -18,7 +17,7 @@ use asn1_blocks::read_loop::{Builder, Extent, out_of_memory, read_into};
 use asn1_headers::error::{ASN1DecodeErr, LocatedErr};
 use asn1_headers::header::HeaderCount;
 use asn1_outline::entry::Entry;
-use asn1_outline::listing::{EntryItems, header_entry};
+use asn1_outline::listing::{EntryItems, encoding_entry};
 use std::alloc::{AllocError, Global};
 
 // Of so many octets at most it is guessed how many blocks they hold: one for 8, which few certificates have more than.
@@ -255,21 +254,4 @@ impl FrontBuilder {
             self.beyond = entry - kept + 1;
         }
     }
-}
-
-// The entry of an encoding, which holds no blocks so far.
-#[inline(always)]
-fn encoding_entry(
-    _octets: &[u8],
-    header: &PlacedHeader,
-    offset: usize,
-    entry: usize,
-    depth: usize,
-) -> Entry
-    requires found { (limit : ℕ) × (HeaderFound _octets.now offset limit header.now)
-        × (limit ≤ length _octets.now) }
-    requires next { suc entry < 2 ^ 64 }
-    ensures { IsBegun _octets.now offset entry depth result }
-{
-    header_entry(header, offset, entry, depth)
 }

@@ -1,4 +1,4 @@
--- Frames that are read further, and where they are.
+-- Frames that are read further, and where they are, for `read_loop`.
 use Rattle.std.proofs.Common.{◌≡◌, ℕ, ◌+◌, ◌-◌, ◌<◌, ◌≤◌, List, [], ◌∷◌, ◌++◌, length, refl, sym, ap, subst, arith}
 use Rattle.std.specs.List.{slice_range}
 use Rattle.asn1_blocks.specs.Tree.{Tree, trees_of, more_trees}
@@ -49,7 +49,7 @@ IsReadTo-follows octets f p q n m t r w =
       begun = subst (λ z. HeadersBegun z (n + m)) (sym whole) j;
     }
 
--- one tree more in the innermost frame
+-- open frames are read further by the tree that follows in the innermost one
 pub AreOpen-follows : (octets : List ℕ) (f : Frame) (gs : List Frame) (p q n m : ℕ) (t : Tree ℕ) →
     AreOpen octets f gs p n →
     Follows octets f p q t m
@@ -84,7 +84,7 @@ pub AreOpen-places : (octets : List ℕ) (f : Frame) (gs : List Frame) (p n : �
 AreOpen-places octets f [] p n o = record { from = o.read.from; to = o.read.to; within = o.read.within }
 AreOpen-places octets f (g ∷ gs) p n o = record { from = o.read.from; to = o.read.to; within = o.read.within }
 
--- at most one header an octet
+-- a frame has begun at most one header an octet
 IsReadTo-headers_le : (octets : List ℕ) (f : Frame) (p n : ℕ) → IsReadTo octets f p n → n + f.extent.start ≤ p
 IsReadTo-headers_le octets f p n r =
     let l = length-slice_range octets f.extent.start p r.from (omega (arith, r.to, r.within)) in

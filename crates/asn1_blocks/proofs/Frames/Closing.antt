@@ -1,4 +1,5 @@
--- A frame has ended: it is a block of the frame around it, or the document.
+-- A frame has ended: it is a block of the frame around it, or the document, for `read_loop::close` and
+-- `read_loop::take_step`.
 use Rattle.std.proofs.Common.{◌≡◌, ◌≢◌, ℕ, suc, ◌+◌, ◌-◌, true, List, [], ◌∷◌, inl, inr, length, refl, sym, ap, ◌∙◌, subst, arith}
 use Rattle.std.specs.List.{slice_range}
 use Rattle.asn1_blocks.specs.declared.block.GroupKind.{GroupKind}
@@ -19,7 +20,7 @@ use Rattle.asn1_blocks.proofs.Leaves.{is_group_tag-group_tag}
 use Rattle.asn1_blocks.proofs.OneReading.{AreBlocks-encodes, Encodes-single}
 use Rattle.asn1_blocks.proofs.BlockLists.{tree_count}
 
--- the document has ended
+-- the octets were read as a document, with n headers
 pub record IsDocumentRead (octets : List ℕ) (f : Frame) (n : ℕ) : Type 0 where
   pub encoded : EncodesAll 0 octets (trees_of f.trees)
   pub begun : HeadersBegun octets n
@@ -35,7 +36,7 @@ IsDocumentRead-end octets f n o =
       begun = subst (λ z. HeadersBegun z n) d o.read.begun;
     }
 
--- a group
+-- a frame of a group that was read to its end is closed
 pub IsClosed-group : (octets : List ℕ) (f g : Frame) (gs : List Frame) (n : ℕ) (y : GroupKind) → f.extent.kind ≡ Group y
     → AreOpen octets f (g ∷ gs) f.extent.end n →
     IsClosed octets g gs f.extent.end (group f.extent.offset y (trees_of f.trees)) n
@@ -72,7 +73,7 @@ Means a contents ts t =
     EncodesAll (a.offset + h) contents (trees_of ts)
     → Encodes a.offset all t
 
--- an attempt
+-- a frame of an attempt that was read to its end is closed
 pub IsClosed-attempt : (octets : List ℕ) (f g : Frame) (gs : List Frame) (n : ℕ) (a : declared.Attempt) (t : Tree ℕ) →
     a.offset ≡ f.extent.offset
     → IsAttemptAt octets a f.extent.start f.extent.end →
@@ -101,7 +102,7 @@ IsClosed-attempt octets f g gs n a t here H means o =
       total = o.total;
     }
 
--- the encoding around one tree, and around any other number
+-- the encoding of an attempt around one tree encodes the explicit tree around it
 Means-one : (a : declared.Attempt) (contents : List ℕ) (t : Tree ℕ) → Means a contents (t ∷ []) (around a t)
 Means-one a contents t all h ne F s =
     (refl, ne, contents, h, F, Encodes-single (a.offset + h) contents t s)
@@ -126,7 +127,7 @@ Means-attempt_tree octets a s e [] = Means-not_one octets a s e [] (λ z. absurd
 Means-attempt_tree octets a s e (t ∷ []) = Means-one a (slice_range octets s e) t
 Means-attempt_tree octets a s e (t ∷ u ∷ ts) = Means-not_one octets a s e (t ∷ u ∷ ts) (λ z. absurd (omega (arith, z)))
 
--- the tree of a frame that is not the document
+-- a frame that is not the document ends as some tree
 pub IsEnded-exists : (octets : List ℕ) (kind : FrameKind) (o s e : ℕ) (ts : List (Tree ℕ)) →
     IsHeaded octets kind o s e →
     (t : Tree ℕ) × IsEnded octets kind o s e ts t

@@ -1,4 +1,5 @@
--- A header in a frame, and what it leads: a frame inside, or a leaf.
+-- A header in a frame, and what it leads: a frame inside, or a leaf, for `read_loop`, `read::attempt_at` and
+-- `faithful::is_block`.
 use Rattle.std.proofs.Common.{◌≡◌, ℕ, ◌+◌, ◌-◌, ◌<◌, ◌≤◌, ◌^◌, true, List, [], ◌∷◌, inl, inr, length, refl, sym, ap, ◌∙◌, subst, append-nil, arith}
 use Rattle.std.specs.List.{slice_range}
 use Rattle.asn1_headers.specs.declared.error.ASN1DecodeErr.{ASN1DecodeErr}
@@ -27,7 +28,7 @@ use Rattle.asn1_blocks.proofs.OneReading.{IsBlock-encodes}
 use Rattle.asn1_headers.proofs.Prefixes.{Encoding-unique}
 use Rattle.asn1_blocks.proofs.ReadSteps.{length-slice_range, slice_range-append}
 
--- the frame of contents octets that are read as blocks
+-- a header that was found stands before the contents octets of a frame of its kind
 pub IsHeaded-by_header : (octets : List ℕ) (kind : FrameKind) (reached limit : ℕ) (h : PlacedHeader) → IsKindOf kind h →
     HeaderFound octets reached limit h
     → IsHeaded octets kind reached h.start h.end
@@ -57,7 +58,7 @@ HeaderFound-same_attempt octets o e h found b start here at =
     ap (λ c. attempt_with c o h.tag) z.class
     ∙ (ap (λ i. attempt_with b.class i h.tag) (sym here) ∙ ap (attempt_with b.class b.offset) z.tag)
 
--- a frame is opened
+-- a frame that is opened inside the innermost one is open, with one header more
 pub AreOpen-open : (octets : List ℕ) (f h : Frame) (gs : List Frame) (p n : ℕ) → h.trees ≡ []
     → IsHeaded octets h.extent.kind h.extent.offset h.extent.start h.extent.end → h.extent.offset ≡ p
     → p < h.extent.start → h.extent.start ≤ h.extent.end → h.extent.end ≤ f.extent.end → AreOpen octets f gs p n
@@ -65,7 +66,7 @@ pub AreOpen-open : (octets : List ℕ) (f h : Frame) (gs : List Frame) (p n : �
 AreOpen-open octets f h gs p n e H at lt le fits o =
     let w = AreOpen-places octets f gs p n o in
     let s = h.extent.start in
-    let none_yet = slice_range-empty octets s in
+    let none_yet = slice_range-empty octets s s refl in
     record {
       before = n;
       own = 0;
@@ -83,7 +84,7 @@ AreOpen-open octets f h gs p n e H at lt le fits o =
       total = omega arith;
     }
 
--- the header is at fault
+-- where the next header of a frame is at fault, reading stops there
 pub IsStopping-header : (octets : List ℕ) (f : Frame) (gs : List Frame) (p n : ℕ) (e : DecodeFault) →
     length octets < 2 ^ 64 → p < f.extent.end
     → AreOpen octets f gs p n → HeaderFault (p - f.extent.start) (slice_range octets p f.extent.end) e →
@@ -112,7 +113,7 @@ IsStopping-header octets f gs p n e small here o u =
       total = refl;
     }
 
--- the contents octets of a leaf are at fault
+-- where the contents octets of a leaf are at fault, reading stops there
 pub IsStopping-leaf : (octets : List ℕ) (f : Frame) (gs : List Frame) (p n : ℕ) (h : PlacedHeader) (e : DecodeFault) →
     length octets < 2 ^ 64
     → HeaderFound octets p f.extent.end h → AreOpen octets f gs p n → (IsReadInside h.class h.constructed h.tag → ⊥) →
@@ -153,7 +154,7 @@ IsStopping-leaf octets f gs p n h e small found o shut u w =
       total = refl;
     }
 
--- a leaf is read
+-- a leaf that is read follows in the frame, with one header
 pub Follows-leaf : (octets : List ℕ) (f : Frame) (p : ℕ) (h : PlacedHeader) (t : Tree ℕ) →
     HeaderFound octets p f.extent.end h
     → (IsReadInside h.class h.constructed h.tag → ⊥) → Encodes p (slice_range octets p h.end) t →
@@ -169,7 +170,7 @@ Follows-leaf octets f p h t found shut w =
           (IsBlock-encodes p all t w);
     }
 
--- a fault that is not that memory ran out
+-- where memory did not run out, the fault is one of these
 pub OutOfMemoryOr-fault : (P : DecodeFault → Type 0) (e : ASN1DecodeErr) → OutOfMemoryOr P e → (e ≡ OutOfMemory → ⊥) →
     P (fault_of e)
 OutOfMemoryOr-fault P e (inl m) other = absurd (other m)

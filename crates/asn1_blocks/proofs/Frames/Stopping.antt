@@ -1,4 +1,5 @@
--- A fault goes outward through frames: out of groups, to the innermost attempt or to the document.
+-- A fault goes outward through frames: out of groups, to the innermost attempt or to the document, for
+-- `read_loop::refuse` and `read_loop::close`.
 use Rattle.std.proofs.Common.{◌≡◌, ℕ, ◌+◌, ◌-◌, ◌<◌, ◌≤◌, ◌^◌, true, List, [], ◌∷◌, ◌++◌, inl, inr, length, refl, sym, ap, ◌∙◌, subst, arith}
 use Rattle.std.specs.List.{slice_range}
 use Rattle.asn1_blocks.specs.declared.block.GroupKind.{GroupKind}
@@ -50,7 +51,7 @@ HasFaultyContents-read octets f p e offset a b r s =
       begun = subst (λ z. HeadersBegun z (a + b)) (sym whole) (HeadersBegun-append front rest a b k r.begun s.begun);
     }
 
--- a group whose contents octets are at fault
+-- where the contents octets of a group are at fault, reading stops in the frame around it, at the group
 pub StopsAt-group : (octets : List ℕ) (g : Frame) (o s e : ℕ) (y : GroupKind) (fault : DecodeFault) (offset a : ℕ)
     → length octets < 2 ^ 64 → g.extent.start ≤ o
     → o < s → s ≤ e → e ≤ g.extent.end → g.extent.end ≤ length octets → IsGroupAt octets y o s e
@@ -75,7 +76,7 @@ StopsAt-group octets g o s e y fault offset a small low lt le fits within G r =
       begun = begun_some (omega (arith, len)) a 0 inside no_block (omega arith);
     }
 
--- a fault leaves a group
+-- a fault goes out of a group to the frame around it
 IsStopping-leave_group : (octets : List ℕ) (f g : Frame) (gs : List Frame) (e : DecodeFault) (offset n : ℕ)
     (y : GroupKind) →
     length octets < 2 ^ 64
@@ -98,7 +99,7 @@ IsStopping-leave_group octets f g gs e offset n y small k w =
       total = omega (arith, w.total, o.total);
     }
 
--- a fault goes on to the frame around it
+-- a fault goes out of a frame that is no attempt to the frame around it
 pub IsStopping-leave_frame : (octets : List ℕ) (f g : Frame) (gs : List Frame) (e : DecodeFault) (offset n : ℕ) →
     length octets < 2 ^ 64
     → (f.extent.kind ≡ Attempt → ⊥) → IsStopping octets f (g ∷ gs) e offset n → IsStopping octets g gs e offset n
@@ -169,7 +170,7 @@ pub slice_range-document : (octets : List ℕ) (f : Frame) → f.extent.start �
 slice_range-document octets f s e =
     ap (λ z. slice_range octets z f.extent.end) s ∙ (ap (slice_range octets 0) e ∙ slice_range-all octets)
 
--- a fault in no attempt
+-- a fault in the outermost frame is that of the document
 pub IsFaultyDocument-stopping : (octets : List ℕ) (f : Frame) (e : DecodeFault) (offset n : ℕ) →
     IsStopping octets f [] e offset n
     → IsFaultyDocument octets e offset n
@@ -185,7 +186,7 @@ IsFaultyDocument-stopping octets f e offset n w =
           subst (λ z. HeadersBegun octets z) (sym w.total) begun;
     }
 
--- where a fault is
+-- where a frame lies in which reading stops, and how many headers were begun at most
 pub record StoppingPlaces (octets : List ℕ) (f : Frame) (n : ℕ) : Type 0 where
   pub order : f.extent.start ≤ f.extent.end
   pub within : f.extent.end ≤ length octets

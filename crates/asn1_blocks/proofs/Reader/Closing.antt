@@ -1,4 +1,5 @@
--- Frames that end: what the reader goes on with, and the whole document.
+-- Frames that end: what the reader goes on with, and the whole document, for `read_loop::close` and
+-- `read_loop::take_step`.
 use Rattle.std.proofs.Common.{◌≡◌, ℕ, suc, ◌<◌, ◌++◌, List, [], ◌∷◌, Global, Vec, length, reverse, refl, sym, subst, arith}
 use Rattle.std.proofs.lemmas.List.{length-reverse}
 use Rattle.asn1_headers.specs.declared.error.ASN1DecodeErr.{ASN1DecodeErr}
@@ -120,7 +121,7 @@ module _ {B I : Type 0} (Holds : Holding B I) (octets : List ℕ) where
         GoesOn-follows h.extent j outer k.extent.end c fault enclosing.next enclosing.others t n most near
         enclosing.count after closed
 
-  -- the document ended
+  -- where the outermost frame was read to its end, the document has ended
   pub HasEnded-document : (r : Reader B I) (n : ℕ) → Reads Holds octets r.builder r.inner [] r.inner.extent.end n →
       HasEnded Holds octets r n
   HasEnded-document r n w = go w.outer w.matched w.holds w.opened

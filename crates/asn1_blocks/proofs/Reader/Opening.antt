@@ -1,4 +1,5 @@
--- The reader at a header: where it is, and what a frame inside, a leaf or a fault there leads to.
+-- The reader at a header: where it is, and what a frame inside, a leaf or a fault there leads to, for
+-- `read_loop::read_next`, `read_loop::take_step` and `read_loop::read_into`.
 use Rattle.std.proofs.Common.{◌≡◌, ◌≢◌, ℕ, ◌+◌, ◌-◌, ◌<◌, ◌≤◌, ◌^◌, List, [], ◌∷◌, length, reverse, refl, sym, ap, ◌∙◌, subst, arith, length-append}
 use Rattle.std.specs.List.{slice_range}
 use Rattle.std.proofs.lemmas.List.{length-reverse, reverse-append}
@@ -32,7 +33,7 @@ module _ {B I : Type 0} (Holds : Holding B I) (octets : List ℕ) where
       let v = AreOpen-places octets f gs r.index n w.opened in
       record { from = v.from; to = v.to; within = v.within; bound = AreOpen-headers_le octets f gs r.index n w.opened }
 
-  -- a frame was opened at the header
+  -- where a frame was opened at the header, reading goes on inside it
   pub GoesOn-open :
       (a r : Reader B I) (h : PlacedHeader) (n depth : ℕ) (kind : FrameKind) (items : I) (b : B) →
       depth ≡ length a.outer.items → IsKindOf kind h →
@@ -73,7 +74,7 @@ module _ {B I : Type 0} (Holds : Holding B I) (octets : List ℕ) where
         nearer = omega (arith, u.index, l, found.starts_after, found.order, found.ends_within, v.within);
       }
 
-  -- a leaf stands at the header
+  -- where a leaf stands at the header, reading goes on behind it
   pub GoesOn-leaf :
       (a : Reader B I) (h : PlacedHeader) (n depth : ℕ) (b : B) (j : I) → depth ≡ length a.outer.items →
       HeaderFound octets a.index a.inner.extent.end h →
@@ -107,7 +108,7 @@ module _ {B I : Type 0} (Holds : Holding B I) (octets : List ℕ) where
         total = refl;
       })
 
-  -- the reader as it was, where a fault is
+  -- a reader whose frames stop at its index is at fault there
   IsFaulty-still : (a : Reader B I) (e : DecodeFault) (n m : ℕ) (w : IsReading Holds octets a n)
       → IsStopping octets (frame a.inner w.trees) (frames (reverse a.outer.items) w.outer) e a.index m
       → IsFaulty Holds octets a e m (work_left (length octets) a.index a.outer.items)
@@ -127,7 +128,7 @@ module _ {B I : Type 0} (Holds : Holding B I) (octets : List ℕ) where
         nearer = omega (arith, v.to);
       }
 
-  -- the header is at fault
+  -- where the next header is at fault, the reader is at fault
   pub IsFaulty-header : (a : Reader B I) (e : DecodeFault) (n : ℕ) → length octets < 2 ^ 64
       → a.index ≢ a.inner.extent.end → IsReading Holds octets a n
       → HeaderFault (a.index - a.inner.extent.start) (slice_range octets a.index a.inner.extent.end) e
@@ -139,7 +140,7 @@ module _ {B I : Type 0} (Holds : Holding B I) (octets : List ℕ) where
       (IsStopping-header octets (frame a.inner w.trees) (frames (reverse a.outer.items) w.outer) a.index n e small here
       w.opened u)
 
-  -- the contents octets of a leaf are
+  -- where the contents octets of a leaf are at fault, the reader is at fault
   pub IsFaulty-leaf : (a : Reader B I) (h : PlacedHeader) (e : DecodeFault) (n : ℕ) (b : B) (j : I) →
       length octets < 2 ^ 64
       → HeaderFound octets a.index a.inner.extent.end h → (IsReadInside h.class h.constructed h.tag → ⊥)

@@ -1,4 +1,5 @@
--- What taking the frame around out of the list does to the frames from the innermost out.
+-- What taking the last frame out of a list does to the frames from the innermost out, for `read_loop` and for crates
+-- that keep open encodings in a list.
 use Rattle.std.proofs.Common.{◌≡◌, List, [], ◌∷◌, ◌++◌, length, reverse, refl, ap, ◌∙◌, arith}
 use Rattle.std.proofs.lemmas.List.{reverse-append}
 

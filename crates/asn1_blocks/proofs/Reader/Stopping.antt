@@ -1,4 +1,4 @@
--- A fault goes outward through the frames of the reader.
+-- A fault goes outward through the frames of the reader, for `read_loop::refuse`.
 use Rattle.std.proofs.Common.{◌≡◌, ℕ, ◌<◌, ◌≤◌, ◌^◌, List, [], ◌∷◌, ◌++◌, Global, Vec, length, reverse, true, refl, sym, ap, ◌∙◌, subst, arith, append_assoc, length-append}
 use Rattle.std.proofs.lemmas.Bool.{false≢true}
 use Rattle.std.proofs.lemmas.List.{length-reverse}
@@ -42,7 +42,7 @@ work_left-taken_lt {I} size f k g before after own is =
     omega (arith, e, ap length is, length-append after (g ∷ []))
 
 module _ {B I : Type 0} (Holds : Holding B I) (octets : List ℕ) (b : B) where
-  -- the frame around was taken out of the list
+  -- where the frame around was taken out of the list, the fault is in the innermost frame as before
   pub IsRefused-taken : (f k g h : OpenFrame I) (before after : List (OpenFrame I)) (e : DecodeFault) (offset n : ℕ) →
       k ≡ f → h ≡ g
       → before ≡ after ++ g ∷ [] → IsRefused Holds octets b f (reverse before) e offset n →
@@ -110,7 +110,7 @@ module _ {B I : Type 0} (Holds : Holding B I) (octets : List ℕ) (b : B) where
               IsStopping-enclosing;
         }
 
-    -- which attempt it is, if it is one
+    -- which attempt the frame is, if it is one
     pub HasAttempt-inside : is_attempt k.extent.kind ≡ true → HasAttempt octets k.extent
     HasAttempt-inside tries = HasAttempt-headed octets k.extent tries IsStopping-enclosing.opened.headed
 

@@ -1,4 +1,4 @@
--- The first step, and what each kind of step says.
+-- The first step, and what each kind of step says, for `read_loop::read_into`.
 use Rattle.std.proofs.Common.{◌≡◌, ℕ, Bool, true, false, List, [], Option, Some, None, Result, Ok, Err, length, reverse, refl, sym, subst, arith}
 use Rattle.asn1_headers.specs.declared.error.ASN1DecodeErr.{ASN1DecodeErr}
 use Rattle.asn1_headers.specs.Fault.{OutOfMemoryOr}
@@ -10,7 +10,7 @@ use Rattle.asn1_blocks.specs.Inner.ReaderSteps.{GoesOn, HasEnded, HasRecovered, 
 use Rattle.asn1_blocks.proofs.Frames.Slices.{slice_range-empty}
 
 module _ {B I : Type 0} (Holds : Holding B I) (octets : List ℕ) where
-  -- nothing is read yet
+  -- at first nothing is read, and the frame of the document is open
   pub Reads-first : (b : B) (items : I) (outer : List (OpenFrame I)) → outer ≡ [] → StartsEmpty Holds octets b items
       → Reads Holds octets b
       (record { extent = record { kind = Whole; offset = 0; start = 0; end = length octets }; items = items })
@@ -18,7 +18,7 @@ module _ {B I : Type 0} (Holds : Holding B I) (octets : List ℕ) where
   Reads-first b items outer none h =
       let f : OpenFrame I =
       record { extent = record { kind = Whole; offset = 0; start = 0; end = length octets }; items = items } in
-      let z = slice_range-empty octets 0 in
+      let z = slice_range-empty octets 0 0 refl in
       let first : Reads Holds octets b f [] 0 0 = record {
         trees = [];
         outer = [];
@@ -38,7 +38,7 @@ module _ {B I : Type 0} (Holds : Holding B I) (octets : List ℕ) where
       } in
       subst (λ x. Reads Holds octets b f (reverse x) 0 0) (sym none) first
 
-  -- no step is left
+  -- where no step is left, the whole document was read
   pub IsStepped-ended : (s : Option (Result (Unit {0}) ASN1DecodeErr)) (r : Reader B I) (n most : ℕ) → s ≡ None →
       IsStepped Holds octets s r n most
       → HasEnded Holds octets r n

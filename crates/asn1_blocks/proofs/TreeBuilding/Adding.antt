@@ -1,4 +1,4 @@
--- One tree more in the innermost frame, as a block or a postponed one.
+-- One tree more in the innermost frame, as a block or a postponed one, for `read::TreeBuilderBuilder`.
 use Rattle.std.proofs.Common.{◌≡◌, ℕ, List, [], ◌∷◌, ◌++◌, inl, inr, length, map, take, drop, refl, sym, ap, ◌∙◌, subst, append_assoc}
 use Rattle.std.proofs.lemmas.List.{take-append-drop}
 use Rattle.asn1_blocks.specs.declared.block.ASN1Block.{ASN1Block}
@@ -36,7 +36,7 @@ AddsTree-as_it_came octets es a from to =
           from to h;
     }
 
--- the postponed blocks before a place, those behind it, and one more
+-- postponed blocks and one more are those before a place, those behind it, and the one more
 append-take_drop : (es : List Postponed) (n : ℕ) (e : Postponed) → es ++ e ∷ [] ≡ take n es ++ (drop n es ++ e ∷ [])
 append-take_drop es n e =
     ap (λ z. z ++ e ∷ []) (sym (take-append-drop n es)) ∙ append_assoc (take n es) (drop n es) (e ∷ [])
@@ -86,7 +86,7 @@ module _ (octets : List ℕ) (a r : TreeBuilder) (i j : FrameBlocks) (e : Extent
       subst (λ z. AllHold octets z (in_frame e j) gs (ts ++ t ∷ []) rest) (sym u.postponed)
       (AllHold-postpone octets es all (in_frame e i) (in_frame e j) gs ts rest t owing h)
 
-  -- a block was added
+  -- a block was added, and its tree is held
   pub AllHold-add_block : (b : ASN1Block) → IsAdded a i b r j
       → AllHold octets a.postponed.items (in_frame e i) gs ts rest →
       AllHold octets r.postponed.items (in_frame e j) gs (ts ++ view b ∷ []) rest
@@ -99,14 +99,14 @@ module _ (octets : List ℕ) (a r : TreeBuilder) (i j : FrameBlocks) (e : Extent
       AllHold-add_postponed a.postponed.items (PostponedAs.Ready b) (view b) u
       (AddsTree-ready octets a.postponed.items b) h
 
-  -- a block with this tree
+  -- a block, whose tree is t, was added
   pub AllHold-add_tree : (b : ASN1Block) (t : Tree ℕ) → view b ≡ t → IsAdded a i b r j
       → AllHold octets a.postponed.items (in_frame e i) gs ts rest →
       AllHold octets r.postponed.items (in_frame e j) gs (ts ++ t ∷ []) rest
   AllHold-add_tree b t is u h =
       subst (λ z. AllHold octets r.postponed.items (in_frame e j) gs (ts ++ z ∷ []) rest) is (AllHold-add_block b u h)
 
-  -- an encoding stays as it came
+  -- an encoding that stays as it came was added, and its tree is held
   pub AllHold-add_as_it_came : (k : Attempt) (start end : ℕ) → IsAddedAsItCame octets a i k start end r j →
       AllHold octets a.postponed.items (in_frame e i) gs ts rest
       → AllHold octets r.postponed.items (in_frame e j) gs (ts ++ as_it_came octets k start end ∷ []) rest

@@ -1,4 +1,5 @@
--- A frame of trees ends: its blocks are one of the frame around it.
+-- A frame of trees ends: its blocks are one of the frame around it, for `read::TreeBuilderBuilder` and
+-- `read::read_blocks`.
 use Rattle.std.proofs.Common.{◌≡◌, ℕ, ◌+◌, List, [], ◌∷◌, ◌++◌, Global, Vec, length, map, take, drop, refl, sym, ap, ◌∙◌, subst, arith, append_assoc, append-nil, length-append}
 use Rattle.std.proofs.lemmas.List.{length-map, take-append-drop, take-append-le, nil_from_length}
 use Rattle.asn1_blocks.specs.declared.block.ASN1Block.{ASN1Block}
@@ -22,7 +23,7 @@ use Rattle.asn1_blocks.specs.View.{view, views}
 use Rattle.asn1_blocks.proofs.TreeBuilding.Adding.{AddsTree-explicit, AddsTree-group, AllHold-add_as_it_came, AllHold-add_postponed, AllHold-add_tree}
 use Rattle.asn1_blocks.proofs.TreeBuilding.Holding.{AddsTree, AllHold-open, HasNothingPostponed-ended}
 
--- a list of one tree
+-- a list whose length is 1 is a list of one tree
 length-one : (ts : List (Tree ℕ)) → 1 ≡ length ts → (t : Tree ℕ) × (ts ≡ t ∷ [])
 length-one [] e = absurd (omega (arith, e))
 length-one (t ∷ []) e = (t, refl)
@@ -35,7 +36,7 @@ attempt_tree-not_one octets a s e [] many = refl
 attempt_tree-not_one octets a s e (t ∷ []) many = absurd (many refl)
 attempt_tree-not_one octets a s e (t ∷ u ∷ ts) many = refl
 
--- what the frame is, where its kind is known
+-- what a frame ended as, where its kind is known
 pub IsEnded-same_kind : (octets : List ℕ) (kind other : FrameKind) (o s e : ℕ) (ts : List (Tree ℕ)) (t : Tree ℕ) →
     kind ≡ other →
     IsEnded octets kind o s e ts t
@@ -72,7 +73,7 @@ module _ (octets : List ℕ) (es : List Postponed) (f : OpenFrame FrameBlocks) (
       h.count,
     )
 
--- another number of trees stays as it came
+-- an attempt with any number of trees but one stays as it came
 pub as_it_came-not_one : (octets : List ℕ) (a : declared.Attempt) (s e : ℕ) (ts : List (Tree ℕ)) (t : Tree ℕ) (m : ℕ) →
     length ts ≡ m → (m ≡ 1 → ⊥)
     → t ≡ attempt_tree octets a s e ts → as_it_came octets a s e ≡ t
@@ -141,7 +142,7 @@ AllHold-around_attempt octets es inside f g gs lost ts us rest m a =
     let front : take n es ≡ take n w.front = ap (take n) w.whole ∙ take-append-le n w.front w.more w.holds.0.before in
     subst (λ z. AllHold octets z g gs us rest) (sym front) w.holds.1
 
--- at first nothing is held
+-- at first a builder holds no trees in the frame of the document
 pub AllHold-empty : (octets : List ℕ) (e : Extent) (b : TreeBuilder) (i : FrameBlocks) → b.postponed.items ≡ [] →
     i.postponed_before ≡ 0 → i.postponed_count ≡ 0 → i.first ≡ []
     → AllHold octets b.postponed.items (record { extent = e; items = i }) [] [] []

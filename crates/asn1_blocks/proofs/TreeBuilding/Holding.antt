@@ -1,4 +1,4 @@
--- How frames of trees hold what they read, as blocks and as postponed blocks.
+-- How frames of trees hold what they read, as blocks and as postponed blocks, for `read::TreeBuilderBuilder`.
 use Rattle.std.proofs.Common.{◌≡◌, ℕ, ◌+◌, ◌≤◌, List, [], ◌∷◌, ◌++◌, length, map, take, drop, sym, ap, ◌∙◌, subst, arith, length-append, append_assoc, append-nil}
 use Rattle.std.proofs.Math.Seq.{take-length, drop-length}
 use Rattle.std.proofs.lemmas.List.{map-append, take-append-drop, take-append-le, drop-append-le, nil_from_length}
@@ -19,7 +19,7 @@ pub record AddsTree (octets : List ℕ) (es fs : List Postponed) (t : Tree ℕ) 
   pub leads : (ds : List Postponed) (us : List (Tree ℕ)) → Builds octets ds us →
       Builds octets (ds ++ more) (us ++ t ∷ [])
 
--- one tree more, which is postponed
+-- a frame has one tree more, which is postponed
 pub record PostponesTree (octets : List ℕ) (es fs : List Postponed) (f g : OpenFrame FrameBlocks)
     (t : Tree ℕ) : Type 0 where
   pub before : g.items.postponed_before ≡ f.items.postponed_before
@@ -27,7 +27,7 @@ pub record PostponesTree (octets : List ℕ) (es fs : List Postponed) (f g : Ope
   pub count : g.items.postponed_count ≡ f.items.postponed_count + 1
   pub grown : AddsTree octets es fs t
 
--- one block more, where nothing is postponed
+-- a frame has one block more, and nothing is postponed
 pub record PushesBlock (f g : OpenFrame FrameBlocks) (b : ASN1Block) : Type 0 where
   pub before : g.items.postponed_before ≡ f.items.postponed_before
   pub first : g.items.first ≡ f.items.first ++ b ∷ []
@@ -83,7 +83,7 @@ AllHold-take_append : (octets : List ℕ) (es more : List Postponed) (n : ℕ) (
 AllHold-take_append octets es more n g gs us rest h a =
     subst (λ z. AllHold octets z g gs us rest) (sym (take-append-le n es more h)) a
 
--- one tree more in the innermost frame, which is postponed
+-- the frames hold one tree more when a block is postponed
 pub AllHold-postpone : (octets : List ℕ) (es fs : List Postponed) (f g : OpenFrame FrameBlocks)
     (hs : List (OpenFrame FrameBlocks))
     (ts : List (Tree ℕ))

@@ -69,7 +69,7 @@ pub record CanEnd {B I : Type 0} (Holds : Holding B I) (octets : List ℕ) (f : 
   pub trees : List (List (Tree ℕ))
   pub holds : Holds octets a (f ∷ in_frame extent i ∷ outer) trees
 
--- contents octets that were read to their end, where these trees stand, are those of this one
+-- contents octets that were read to their end, and encode these trees, are those of this tree
 pub record EndsAs (octets : List ℕ) (e : Extent) (ts : List (Tree ℕ)) (t : Tree ℕ) : Type 0 where
   pub tree : IsEnded octets e.kind e.offset e.start e.end ts t
   pub headed : IsHeaded octets e.kind e.offset e.start e.end

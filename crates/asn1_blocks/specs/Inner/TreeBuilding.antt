@@ -56,7 +56,7 @@ pub record IsPostponed (a : TreeBuilder) (i : FrameBlocks) (e : Postponed) (r : 
   pub first : j.first ≡ i.first
   pub postponed : r.postponed.items ≡ a.postponed.items ++ e ∷ []
 
--- a block was added, in one way or the other
+-- a block was added, as one that is ready or as a postponed one
 abbrev pub IsAdded : TreeBuilder → FrameBlocks → ASN1Block → TreeBuilder → FrameBlocks → Type 0
 IsAdded a i b r j = IsPushed a i b r j ⊎ IsPostponed a i (Ready b) r j
 

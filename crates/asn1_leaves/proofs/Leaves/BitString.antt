@@ -1,11 +1,12 @@
--- What is known of the contents octets of a BIT STRING.
-use Rattle.std.proofs.Common.{◌≡◌, ◌==◌, ℕ, zero, suc, ◌+◌, ◌-◌, ◌*◌, ◌<◌, ◌≤◌, ◌^◌, ◌⊎◌, false, List, [], ◌∷◌, None, length, inl, inr, refl, sym, ap, ◌∙◌, subst, arith}
+-- What is known of the contents octets of a BIT STRING, for `asn1_blocks`.
+use Rattle.std.proofs.Common.{◌≡◌, ℕ, zero, suc, ◌+◌, ◌-◌, ◌*◌, ◌<◌, ◌≤◌, ◌^◌, ◌⊎◌, List, [], ◌∷◌, None, length, inl, inr, refl, sym, ap, ◌∙◌, subst, arith}
 use Rattle.std.specs.Prelude.{pos, ◌-ℤ◌, All, if◌then◌else◌}
-use Rattle.std.proofs.lemmas.Bool.{cases_Bool, cases_lt, eqb-true}
+use Rattle.std.proofs.lemmas.Bool.{cases_lt}
 use Rattle.std.proofs.lemmas.Grind.{common_steps}
 use Rattle.std.proofs.lemmas.List.Elements.{All-head}
 use Rattle.asn1_headers.specs.Fault.{DecodeFault, IsOfReading, length_too_large, invalid_bit_string_length}
 use Rattle.asn1_leaves.specs.Contents.BitString.{BitStringContents, BitStringFault, IsFaithfulBitString, bit_string_contents, bit_string_write_fault, written_bits}
+use Rattle.std.proofs.Math.Dec.{eqb-suc-zero}
 
 -- contents octets mean one number of bits, and one list of octets
 pub BitStringContents-unique : (m n : ℕ) (v w contents : List ℕ) → BitStringContents m v contents →
@@ -15,7 +16,7 @@ BitStringContents-unique m n v w (u ∷ contents) p q =
     let f : v ≡ w = p.0 ∙ sym q.0 in
     (omega (arith, p.1, q.1, ap length f), f)
 
--- contents octets have one fault
+-- contents octets have at most one fault
 pub BitStringFault-unique : (contents : List ℕ) (e d : DecodeFault) → BitStringFault contents e →
     BitStringFault contents d → e ≡ d
 BitStringFault-unique [] e d p q = absurd p
@@ -43,7 +44,7 @@ BitStringContents-or_fault (u ∷ v) = elim (cases_lt (8 * length v) (2 ^ 64)) [
   ]
 ]
 
--- the fault is one of reading
+-- the fault of contents octets that mean no bits is one of reading
 pub BitStringFault-of_reading : (contents : List ℕ) (e : DecodeFault) → BitStringFault contents e → IsOfReading e
 BitStringFault-of_reading [] e f = absurd f
 BitStringFault-of_reading (u ∷ v) e (inl f) = subst IsOfReading (sym f.1) tt
@@ -58,12 +59,8 @@ bit_string_write_fault-read n v (u ∷ contents) all p =
     let h : u < 256 = All-head (λ b. b < 256) u contents all in
     grind (arith, common_steps, h, p.1)
 
--- some bits are not none
-eqb-suc-zero : (n : ℕ) → (suc n == 0) ≡ false
-eqb-suc-zero n = elim (cases_Bool (suc n == 0)) [ inl e ↦ absurd (omega (arith, eqb-true (suc n) 0 e)) | inr e ↦ e ]
-
--- what is written of a bit string that has some, and what is left of it
-bit_string_contents-suc : (n : ℕ) (v : List ℕ) → bit_string_contents (suc n) v ≡ (8 * length v - suc n) ∷ v
+-- what is written of a bit string that has bits, and what is left of it
+pub bit_string_contents-suc : (n : ℕ) (v : List ℕ) → bit_string_contents (suc n) v ≡ (8 * length v - suc n) ∷ v
 bit_string_contents-suc n v = ap (λ z. if z then [] else ((8 * length v - suc n) ∷ v)) (eqb-suc-zero n)
 
 written_bits-suc : (n : ℕ) (v : List ℕ) → written_bits (suc n) v ≡ v
@@ -107,7 +104,7 @@ IsFaithfulBitString-read (suc n) v (u ∷ contents) all (same, bits, near) =
     subst (IsFaithfulBitString (suc n)) (sym (written_bits-suc n v))
     (inr (omega arith, omega (arith, bits, ap length same), few, fits))
 
--- what is not left is not written
+-- octets of a bit string that are not left are not written
 pub bit_string_contents-written_bits : (n : ℕ) (v : List ℕ) →
     bit_string_contents n (written_bits n v) ≡ bit_string_contents n v
 bit_string_contents-written_bits zero v = refl

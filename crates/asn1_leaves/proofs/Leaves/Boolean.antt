@@ -1,4 +1,4 @@
--- What is known of the contents octets of a BOOLEAN.
+-- What is known of the contents octets of a BOOLEAN, for `contents::boolean::are_meant` and `asn1_blocks`.
 use Rattle.std.proofs.Common.{◌≡◌, ℕ, ◌==◌, ◌⊎◌, Bool, true, false, not, List, [], ◌∷◌, length, inl, inr, refl, sym, ap, ◌∙◌, subst, arith}
 use Rattle.asn1_headers.specs.Fault.{DecodeFault, IsOfReading, bad_boolean_length}
 use Rattle.asn1_leaves.specs.Contents.Boolean.{BooleanContents, BooleanFault, boolean_contents}
@@ -11,7 +11,7 @@ BooleanContents-unique a b contents (x, p, r) (y, q, s) =
     let g : x ≡ y = cc in
     r ∙ (ap (λ z. not (z == 0)) g ∙ sym s)
 
--- contents octets have one fault
+-- contents octets have at most one fault
 pub BooleanFault-unique : (contents : List ℕ) (e d : DecodeFault) → BooleanFault contents e → BooleanFault contents d →
     e ≡ d
 BooleanFault-unique contents e d p q = p.1 ∙ sym q.1
@@ -29,11 +29,11 @@ BooleanContents-or_fault (x ∷ []) = inl (not (x == 0), (x, refl, refl))
 BooleanContents-or_fault (x ∷ y ∷ rest) =
     inr (bad_boolean_length (length (x ∷ y ∷ rest)), ((λ e. omega (arith, e)), refl))
 
--- the fault is one of reading
+-- the fault of contents octets that mean no value is one of reading
 pub BooleanFault-of_reading : (contents : List ℕ) (e : DecodeFault) → BooleanFault contents e → IsOfReading e
 BooleanFault-of_reading contents e f = subst IsOfReading (sym f.1) tt
 
--- what is written means the value
+-- what is written of a value means it
 pub BooleanContents-written : (b : Bool) → BooleanContents b (boolean_contents b)
 BooleanContents-written true = (255, refl, refl)
 BooleanContents-written false = (0, refl, refl)

@@ -1,4 +1,5 @@
--- Two digits, fields of two digits, and the digits of a fraction.
+-- Two digits, fields of two digits, and the digits of a fraction, for `contents::generalized_time`,
+-- `contents::utc_time` and `contents::moment`.
 use Rattle.std.proofs.Common.{◌≡◌, ℕ, zero, suc, ◌+◌, ◌-◌, ◌*◌, ◌/◌, ◌%◌, ◌^◌, ◌<◌, ◌≤◌, ◌==◌, ◌++◌, true, inl, inr, List, [], ◌∷◌, length, refl, sym, ap, ◌∙◌, subst, arith, length-append}
 use Rattle.std.specs.Int.{IsInRange}
 use Rattle.std.specs.Prelude.{ℤ, pos, negsuc, ◌≤ℤ◌, unsigned_abs, slice_index, Option, Some, None, IfNone}
@@ -17,7 +18,7 @@ use Rattle.asn1_leaves.specs.Contents.Moment.{Moment, IsValid, moment_write_faul
 use Rattle.asn1_leaves.specs.Contents.GeneralizedTime.{IsEnd, fraction_number, fraction_digits}
 use Rattle.asn1_leaves.proofs.Leaves.Known.{Known, Known-within, Known-lt, Known-IsInRange}
 
--- what follows where there is no value
+-- what holds where there is no value can be replaced by what follows from it
 pub IfNone-map : {X P Q : Type 0} (r : Option X) → IfNone r P → (P → Q) → IfNone r Q
 IfNone-map None p f = f p
 IfNone-map (Some x) p f = p
@@ -91,7 +92,7 @@ digits_begin_with_no_point f r a e =
     let w = subst (λ z. list_all is_ascii_digit z ≡ true) e a in
     false≢true w
 
--- the digits before Z are those after the point, if there is one
+-- the digits before Z are those after the point, if there is a point
 pub IsEnd-digits : (end front digits f : List ℕ) → end ≡ front ++ 90 ∷ [] → FollowsPoint front digits → IsEnd f end →
     digits ≡ f
 IsEnd-digits end front digits f e (inl p) (a, inl q) =
@@ -104,16 +105,16 @@ IsEnd-digits end front digits f e (inr p) (a, inl q) = p.0 ∙ append_cancel_rig
 IsEnd-digits end front digits f e (inr p) (a, inr q) =
     absurd (p.1 f (append_cancel_right front (46 ∷ f) (90 ∷ []) (sym e ∙ q)))
 
--- the digits of a fraction are determined
+-- the end of a time has one list of digits
 pub IsEnd-unique : (end f g : List ℕ) → IsEnd f end → IsEnd g end → f ≡ g
 IsEnd-unique end f g (a, inl p) t = IsEnd-digits end f f g p (inr (refl, λ r e. digits_begin_with_no_point f r a e)) t
 IsEnd-unique end f g (a, inr p) t = IsEnd-digits end (46 ∷ f) f g p (inl refl) t
 
-pow-positive : (k : ℕ) → 0 < 10 ^ k
+pub pow-positive : (k : ℕ) → 0 < 10 ^ k
 pow-positive zero = omega arith
 pow-positive (suc k) = omega (arith, pow-positive k, pow-succ' 10 k)
 
--- the leading digit is one
+-- the leading digit of a number below ten units is at most 9
 pub div-unit-le : (n unit : ℕ) → 0 < unit → n < 10 * unit → n / unit ≤ 9
 div-unit-le n unit p h = omega (arith, (div-lt_iff_lt-mul {k = unit} {x = n} {y = 10} p).1 h)
 
@@ -144,7 +145,7 @@ fraction_number-fraction_digits (suc k) unit (suc n) e h =
       ap (λ z. z + fraction_number (unit / 10) rest) w ∙ (ap (λ z. m / unit * unit + z) i.1 ∙ div-add-mod' m unit),
     )
 
--- one digit and then the others
+-- the digits of a number are its leading digit, and those of what is left over
 pub fraction_digits-step :
     (places unit n : ℕ) → 0 < places → 0 < n
     → fraction_digits places unit n ≡ (48 + n / unit) ∷ fraction_digits (places - 1) (unit / 10) (n % unit)
@@ -153,12 +154,12 @@ fraction_digits-step (suc k) unit zero h l = absurd (omega (arith, l))
 fraction_digits-step (suc k) unit (suc n) h l =
     ap (λ z. (48 + suc n / unit) ∷ fraction_digits z (unit / 10) (suc n % unit)) {x = k} {y = suc k - 1} (omega arith)
 
--- none where nothing is left
+-- there are no digits where nothing is left
 pub fraction_digits-zero : (places unit : ℕ) → fraction_digits places unit 0 ≡ []
 fraction_digits-zero zero unit = refl
 fraction_digits-zero (suc k) unit = refl
 
--- what the digit at so many places from the end counts
+-- the digit at so many places from the end counts a power of 10, and the next digit a tenth of it
 pub unit_of_next_place :
     (places unit : ℕ) → 0 < places → unit * 10 ≡ 10 ^ places
     → (unit ≡ 10 ^ (places - 1)) × (0 < unit) × (0 < places - 1 → unit / 10 * 10 ≡ 10 ^ (places - 1))
@@ -218,14 +219,14 @@ data Last (xs : List ℕ) : Type 0 where
   empty : xs ≡ [] → Last xs
   ends_in : (front : List ℕ) (z : ℕ) → xs ≡ front ++ z ∷ [] → Last xs
 
-list_with_last : (xs : List ℕ) → Last xs
-list_with_last [] = empty refl
-list_with_last (x ∷ xs) = elim (list_with_last xs) [
+Last-total : (xs : List ℕ) → Last xs
+Last-total [] = empty refl
+Last-total (x ∷ xs) = elim (Last-total xs) [
   | empty e ↦ ends_in [] x (ap (λ z. x ∷ z) e)
   | ends_in front z e ↦ ends_in (x ∷ front) z (ap (λ y. x ∷ y) e)
 ]
 
--- the digits after the point, if there is one
+-- what follows the point that octets begin with, or the octets if they begin with none
 FollowsPoint-some : (front : List ℕ) → (digits : List ℕ) × FollowsPoint front digits
 FollowsPoint-some [] = ([], inr (refl, λ r e. cc))
 FollowsPoint-some (c ∷ r) = elim (cases_Bool (c == 46)) [
@@ -233,14 +234,14 @@ FollowsPoint-some (c ∷ r) = elim (cases_Bool (c == 46)) [
   | inr e ↦ (c ∷ r, inr (refl, λ s f. let h : c ≡ 46 = cc in false≢true (sym e ∙ ap (λ z. z == 46) h)))
 ]
 
--- the last elements of one list are one
+-- a list has one last element
 append_last-same : (f g : List ℕ) (y z : ℕ) → f ++ y ∷ [] ≡ g ++ z ∷ [] → y ≡ z
 append_last-same [] [] y z e = cc
 append_last-same [] (b ∷ g) y z e = absurd (omega (arith, ap length e, length-append g (z ∷ [])))
 append_last-same (a ∷ f) [] y z e = absurd (omega (arith, ap length e, length-append f (y ∷ [])))
 append_last-same (a ∷ f) (b ∷ g) y z e = let t : f ++ y ∷ [] ≡ g ++ z ∷ [] = cc in append_last-same f g y z t
 
--- no end without Z
+-- octets that do not end in Z are no end of a time
 IsEnd-not_nil : (f : List ℕ) → IsEnd f [] → ⊥
 IsEnd-not_nil f (a, inl q) = omega (arith, ap length q, length-append f (90 ∷ []))
 IsEnd-not_nil f (a, inr q) = omega (arith, ap length q)
@@ -256,7 +257,7 @@ IsEnd-after_point end front digits a e (inr p) = (a, inl (e ∙ ap (λ z. z ++ 9
 
 -- octets are known to be the end of a time or not
 pub IsEnd-known : (end : List ℕ) → Known ((digits : List ℕ) × IsEnd digits end)
-IsEnd-known end = elim (list_with_last end) [
+IsEnd-known end = elim (Last-total end) [
   | empty e ↦ inr (λ d. IsEnd-not_nil d.0 (subst (IsEnd d.0) e d.1))
   | ends_in front z e ↦ elim (cases_Bool (z == 90)) [
     | inr n ↦ inr (λ d. IsEnd-ends_in_Z front d.0 z (λ h. false≢true (sym n ∙ ap (λ y. y == 90) h))

@@ -1,4 +1,5 @@
--- Contents octets of a GeneralizedTime.
+-- What is known of the contents octets of a GeneralizedTime, for `contents::generalized_time`, `asn1_blocks` and
+-- `asn1_laws`.
 use Rattle.std.proofs.Common.{◌≡◌, ℕ, zero, suc, ◌+◌, ◌-◌, ◌*◌, ◌/◌, ◌%◌, ◌<◌, ◌≤◌, ◌==◌, ◌++◌, ◌⊎◌, true, false, inl, inr, None, List, [], ◌∷◌, length, take, drop, replicate, refl, sym, ap, ◌∙◌, subst, arith}
 use Rattle.std.specs.Prelude.{if◌then◌else◌, pos, decimal, unsigned_abs, IsAscii, IsUtf8}
 use Rattle.std.specs.Char.{is_ascii}
@@ -61,7 +62,7 @@ IsSpelled-to_second second high low n m v f e hi lo =
     })
 
 -- ASCII stays ASCII in the longer form, and so it is UTF-8
-IsAscii-list_all : (cs : List ℕ) → list_all is_ascii cs ≡ true → IsAscii cs
+pub IsAscii-list_all : (cs : List ℕ) → list_all is_ascii cs ≡ true → IsAscii cs
 IsAscii-list_all [] e = IsAscii-nil
 IsAscii-list_all (c ∷ cs) e =
     let p = and_parts (is_ascii c) (list_all is_ascii cs) e in
@@ -91,7 +92,7 @@ IsUtf8-longer_form text e =
     IsUtf8-from_ascii (with_zeros (with_point text))
     (IsAscii-with_zeros (with_point text) (IsAscii-with_point text (IsAscii-list_all text e)))
 
--- the faults of at least 15 octets
+-- the faults of at least 15 octets: no UTF-8, no ASCII, or no moment
 pub utf8_fault-not_utf8 : (contents : List ℕ) → 15 ≤ length contents → (IsUtf8 contents → ⊥) →
     utf8_fault contents ≡ generalized_time_fault contents
 utf8_fault-not_utf8 contents h f = elim (cases_Bool (is_utf8 contents)) [
@@ -165,7 +166,7 @@ GeneralizedTimeContents-unique m n contents p q =
     let d = IsEnd-contents m contents p in
     second_moment-contents m contents p.digits p d ∙ sym (second_moment-contents n contents p.digits q d)
 
--- the fault is one
+-- contents octets have at most one fault
 pub GeneralizedTimeFault-unique : (contents : List ℕ) (e d : DecodeFault) → GeneralizedTimeFault contents e →
     GeneralizedTimeFault contents d → e ≡ d
 GeneralizedTimeFault-unique contents e d p q = p.1 ∙ sym q.1
@@ -176,7 +177,7 @@ pub GeneralizedTimeContents-no_fault : (m : Moment) (contents : List ℕ) (e : D
     → GeneralizedTimeFault contents e → ⊥
 GeneralizedTimeContents-no_fault m contents e p f = f.0 m p
 
--- the fault is one that octets can have
+-- the fault of contents octets that mean no moment is one of reading
 IsOfReading-generalized_time_fault : (contents : List ℕ) → IsOfReading (generalized_time_fault contents)
 IsOfReading-generalized_time_fault contents = elim (cases_lt (length contents) 15) [
   | inl l ↦
@@ -230,7 +231,7 @@ GeneralizedTimeContents-or_fault contents = elim (IsEnd-known (drop 14 contents)
       ]
 ]
 
--- what was read can be written
+-- a moment that was read can be written
 pub moment_write_fault-generalized_time_read : (m : Moment) (contents : List ℕ) → GeneralizedTimeContents m contents →
     moment_write_fault m ≡ None
 moment_write_fault-generalized_time_read m contents p = moment_write_fault-valid m p.valid
@@ -272,7 +273,7 @@ pub IsFaithfulGeneralizedTime-written : (m : Moment) → moment_write_fault m �
     → IsFaithfulGeneralizedTime m
 IsFaithfulGeneralizedTime-written m w p = p.valid
 
--- what was read is faithful
+-- a moment that was read is faithful
 pub IsFaithfulGeneralizedTime-read : (m : Moment) (contents : List ℕ) → GeneralizedTimeContents m contents →
     IsFaithfulGeneralizedTime m
 IsFaithfulGeneralizedTime-read m contents p = p.valid

@@ -1,4 +1,4 @@
--- What is known of the contents octets of an INTEGER.
+-- What is known of the contents octets of an INTEGER, for `asn1_blocks`.
 use Rattle.std.proofs.Common.{◌≡◌, ℕ, List, sym, ◌∙◌}
 use Rattle.std.specs.Prelude.{ℤ}
 use Rattle.asn1_leaves.specs.Contents.Integer.{IntegerContents}

@@ -1,4 +1,4 @@
--- Facts that are known to hold or known to fail.
+-- Facts that are known to hold or known to fail, for the contents octets of times and for `simple_asn1`.
 use Rattle.std.proofs.Common.{◌≡◌, ℕ, ◌<◌, ◌⊎◌, inl, inr, List, sym, ◌∙◌, arith}
 use Rattle.std.specs.Int.{IsInRange}
 use Rattle.std.proofs.lemmas.Bool.{false≢true, cases_Bool, cases_lt}

@@ -1,4 +1,5 @@
--- What is known of the contents octets of an OBJECT IDENTIFIER.
+-- What is known of the contents octets of an OBJECT IDENTIFIER, for `contents::object_identifier`, `oid` and
+-- `asn1_blocks`.
 use Rattle.std.proofs.Common.{◌≡◌, ℕ, ◌+◌, ◌*◌, ◌-◌, ◌<◌, ◌≤◌, ◌⊎◌, List, [], ◌∷◌, length, get_or, None, inl, inr, refl, sym, ◌∙◌, subst, arith}
 use Rattle.std.specs.Prelude.{All}
 use Rattle.std.specs.List.{flat_map}
@@ -9,7 +10,7 @@ use Rattle.asn1_leaves.specs.Contents.ObjectIdentifier.{AreFirstTwo, IsFaithfulO
 use Rattle.asn1_headers.specs.Fault.{DecodeFault, IsOfReading, incomplete}
 use Rattle.asn1_leaves.proofs.Subidentifiers.{Subidentifiers-unique, Subidentifiers-ended, Subidentifiers-shortest, Subidentifiers-unended}
 
--- the first two components of a number
+-- a number is that of one pair of first components
 AreFirstTwo-unique : (v w x y n : ℕ) → AreFirstTwo v w n → AreFirstTwo x y n → (v ≡ x) × (w ≡ y)
 AreFirstTwo-unique v w x y n (e, p, inl q) (f, r, inl s) = (omega (arith, e, f, q, s), omega (arith, e, f, q, s))
 AreFirstTwo-unique v w x y n (e, p, inl q) (f, r, inr s) = (omega (arith, e, f, p, q, s), omega (arith, e, f, p, q, s))
@@ -33,7 +34,7 @@ ObjectIdentifierContents-unique (v ∷ w ∷ ms) (x ∷ y ∷ ns) contents (b, o
     let second_is : w ≡ y = first.1 in
     cc
 
--- contents octets have one fault
+-- contents octets have at most one fault
 pub ObjectIdentifierFault-unique : (contents : List ℕ) (e d : DecodeFault) → ObjectIdentifierFault contents e
     → ObjectIdentifierFault contents d → e ≡ d
 ObjectIdentifierFault-unique contents e d p q = p.0 ∙ sym q.0
@@ -43,7 +44,7 @@ pub ObjectIdentifierContents-no_fault : (ns contents : List ℕ) (e : DecodeFaul
     → ObjectIdentifierFault contents e → ⊥
 ObjectIdentifierContents-no_fault ns contents e p f = f.1 ns p
 
--- the first two components of any number
+-- each number is that of a pair of first components
 pub AreFirstTwo-some : (b : ℕ) → (x : ℕ) × (y : ℕ) × AreFirstTwo x y b
 AreFirstTwo-some b = elim (cases_lt b 40) [
   | inl low ↦ (0, b, (omega arith, omega arith, inl low))
@@ -67,7 +68,7 @@ ObjectIdentifierContents-not_nil [] p = p
 ObjectIdentifierContents-not_nil (x ∷ []) p = p
 ObjectIdentifierContents-not_nil (x ∷ y ∷ ns) (c, rest, e, f, s) = cc
 
--- one octet, and after it the last ends a subidentifier
+-- an octet, and octets behind it of which the last ends a subidentifier, mean components
 pub ObjectIdentifierContents-ended : (b : ℕ) (octets : List ℕ) → get_or octets (length octets - 1) 0 < 128
     → (ns : List ℕ) × ObjectIdentifierContents ns (b ∷ octets)
 ObjectIdentifierContents-ended b octets low =
@@ -90,7 +91,7 @@ ObjectIdentifierContents-or_fault (b ∷ octets) = elim (cases_lt (get_or octets
   | inr high ↦ inr (incomplete, (refl, ObjectIdentifierContents-unended b octets high))
 ]
 
--- the fault is one of reading
+-- the fault of contents octets that mean no components is one of reading
 pub ObjectIdentifierFault-of_reading : (contents : List ℕ) (e : DecodeFault) → ObjectIdentifierFault contents e →
     IsOfReading e
 ObjectIdentifierFault-of_reading contents e f = subst IsOfReading (sym f.0) tt
@@ -110,7 +111,7 @@ object_identifier_write_fault-read (x ∷ y ∷ ns) contents all (b, rest, e, f,
     object_identifier_write_fault-first_two x y b ns (All-head (λ b. b < 256) b rest (subst (All (λ b. b < 256)) e all))
     f
 
--- components that can be written are the first two of their octet
+-- the first two of components that can be written are those of their octet
 AreFirstTwo-writable : (x y : ℕ) (ns : List ℕ) → object_identifier_write_fault (x ∷ y ∷ ns) ≡ None →
     AreFirstTwo x y (40 * x + y)
 AreFirstTwo-writable x y ns fits = (refl, grind (arith, fits), grind (arith, fits))

@@ -1,4 +1,4 @@
--- What is known of the contents octets of a string of characters, in each of their forms.
+-- What is known of the contents octets of a string of characters, in each of their forms, for `asn1_blocks`.
 use Rattle.std.proofs.Common.{◌≡◌, ℕ, ◌<◌, ◌⊎◌, List, None, inl, inr, refl, sym, ap, ◌∙◌, subst}
 use Rattle.std.specs.Prelude.{All}
 use Rattle.std.specs.List.{list_all}
@@ -18,7 +18,7 @@ TextContents-unique Utf8 cs ds contents p q = encodes_same cs ds (p.1 ∙ sym q.
 TextContents-unique Printable cs ds contents p q = p.1 ∙ sym q.1
 TextContents-unique Octets cs ds contents p q = p ∙ sym q
 
--- contents octets have one fault
+-- contents octets have at most one fault
 pub TextFault-unique : (form : TextForm) (contents : List ℕ) (e d : DecodeFault) → TextFault form contents e →
     TextFault form contents d → e ≡ d
 TextFault-unique Utf8 contents e d p q = p.1 ∙ sym q.1
@@ -45,7 +45,7 @@ TextContents-or_fault Printable contents = elim (cases_Bool (list_all is_printab
 ]
 TextContents-or_fault Octets contents = inl (contents, refl)
 
--- the fault is one of reading
+-- the fault of contents octets that mean no characters is one of reading
 pub TextFault-of_reading : (form : TextForm) (contents : List ℕ) (e : DecodeFault) → TextFault form contents e →
     IsOfReading e
 TextFault-of_reading Utf8 contents e f = subst IsOfReading (sym f.1) tt
@@ -74,7 +74,7 @@ text_write_fault-characters Utf8 cs f = refl
 text_write_fault-characters Printable cs f = octet_write_fault-printable cs f
 text_write_fault-characters Octets cs f = rw f refl
 
--- characters that can be written are such where what is written means them
+-- characters that can be written are those that the form has, where what is written means them
 pub HasCharacters-written : (form : TextForm) (cs : List ℕ) → text_write_fault form cs ≡ None →
     TextContents form cs (text_contents form cs)
     → HasCharacters form cs
@@ -82,7 +82,7 @@ HasCharacters-written Utf8 cs w p = p.0
 HasCharacters-written Printable cs w p = p.0
 HasCharacters-written Octets cs w p = list_all-writable cs w
 
--- characters that were read are such
+-- characters that were read are those that the form has
 pub HasCharacters-read : (form : TextForm) (cs contents : List ℕ) → All (λ b. b < 256) contents →
     TextContents form cs contents →
     HasCharacters form cs

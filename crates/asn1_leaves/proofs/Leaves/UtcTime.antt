@@ -1,4 +1,4 @@
--- Contents octets of a UTCTime.
+-- What is known of the contents octets of a UTCTime, for `contents::utc_time` and `asn1_blocks`.
 use Rattle.std.proofs.Common.{◌≡◌, ℕ, ◌+◌, ◌-◌, ◌*◌, ◌/◌, ◌%◌, ◌<◌, ◌≤◌, ◌⊎◌, inl, inr, List, [], ◌∷◌, None, length, refl, sym, ap, ◌∙◌, subst, arith}
 use Rattle.std.specs.Prelude.{if◌then◌else◌, nat_lt, pos, ◌≤ℤ◌, unsigned_abs, slice_index}
 use Rattle.std.specs.List.{slice_range}
@@ -12,7 +12,7 @@ use Rattle.asn1_headers.specs.Fault.{DecodeFault, IsOfReading}
 use Rattle.asn1_leaves.proofs.Leaves.Known.{Known, Known-within, Known-lt, Known-octets}
 use Rattle.asn1_leaves.proofs.Leaves.Digits.{Moment-same_fields, number_at, mul-add-two_digits, IsValid-known, moment_write_fault-valid}
 
--- octets by place are those that are written
+-- octets that spell a moment by their places are those that are written of it
 pub utc_time_contents-spelled :
     (contents : List ℕ) (year short : ℕ) (m : Moment) → length contents ≡ 13 → slice_index contents 12 ≡ 90 →
     PairAt contents 0 short
@@ -106,7 +106,7 @@ pub UtcTimeContents-unique : (m n : Moment) (contents : List ℕ) → UtcTimeCon
     m ≡ n
 UtcTimeContents-unique m n contents p q = utc_moment-contents m contents p ∙ sym (utc_moment-contents n contents q)
 
--- the fault is one
+-- contents octets have at most one fault
 pub UtcTimeFault-unique : (contents : List ℕ) (e d : DecodeFault) → UtcTimeFault contents e → UtcTimeFault contents d →
     e ≡ d
 UtcTimeFault-unique contents e d p q = p.1 ∙ sym q.1
@@ -116,7 +116,7 @@ pub UtcTimeContents-no_fault : (m : Moment) (contents : List ℕ) (e : DecodeFau
     UtcTimeFault contents e → ⊥
 UtcTimeContents-no_fault m contents e p f = f.0 m p
 
--- the fault is one that octets can have
+-- the fault of contents octets that mean no moment is one of reading
 pub UtcTimeFault-of_reading : (contents : List ℕ) (e : DecodeFault) → UtcTimeFault contents e → IsOfReading e
 UtcTimeFault-of_reading contents e f = subst IsOfReading (sym f.1) tt
 
@@ -145,7 +145,7 @@ UtcTimeContents-or_fault contents =
           [ inl e ↦ inl (m, (f, e)) | inr no_e ↦ inr (UtcTimeFault-no_moment contents (λ p. no_e p.1)) ]
     ]
 
--- what was read can be written
+-- a moment that was read can be written
 pub moment_write_fault-utc_time_read : (m : Moment) (contents : List ℕ) → UtcTimeContents m contents →
     moment_write_fault m ≡ None
 moment_write_fault-utc_time_read m contents p = moment_write_fault-valid m p.0.valid
@@ -163,6 +163,6 @@ pub IsFaithfulUtcTime-written : (m : Moment) → moment_write_fault m ≡ None �
     IsFaithfulUtcTime m
 IsFaithfulUtcTime-written m w p = p.0
 
--- what was read is faithful
+-- a moment that was read is faithful
 pub IsFaithfulUtcTime-read : (m : Moment) (contents : List ℕ) → UtcTimeContents m contents → IsFaithfulUtcTime m
 IsFaithfulUtcTime-read m contents p = p.0

@@ -4,8 +4,8 @@ use Rattle.asn1_headers.specs.declared.error.ASN1EncodeErr.{ASN1EncodeErr}
 use Rattle.asn1_headers.specs.declared.error.ASN1EncodeErr.TheVariants.{BitStringLength}
 use Rattle.asn1_headers.specs.Fault.{DecodeFault, length_too_large, invalid_bit_string_length}
 
--- none, or the number of unused bits at the end and the octets of the bits, which a usize can count. X.690 has at least
--- one octet (8.6.2.3), and at most 7 unused bits (8.6.2.2)
+-- no octets, or the number of unused bits at the end and the octets of the bits, which a usize can count. X.690 has at
+-- least one octet (8.6.2.3), and at most 7 unused bits (8.6.2.2)
 abbrev pub BitStringContents : ℕ → List ℕ → List ℕ → Type 0
 BitStringContents n v [] = (n ≡ 0) × (v ≡ [])
 BitStringContents n v (u ∷ contents) =
@@ -23,7 +23,7 @@ BitStringFault (u ∷ v) fault =
 abbrev pub bit_string_contents : ℕ → List ℕ → List ℕ
 bit_string_contents n v = if n == 0 then [] else (8 * length v - n) ∷ v
 
--- why there are none: more bits than the octets have, or more unused bits than an octet can count
+-- why a bit string can't be written: more bits than the octets have, or more unused bits than an octet can count
 abbrev pub bit_string_write_fault : ℕ → List ℕ → Option ASN1EncodeErr
 bit_string_write_fault n v =
     if n == 0 then None

@@ -1,4 +1,4 @@
--- Contents octets of an INTEGER (X.690 8.3). All mean one, and all are written.
+-- Contents octets of an INTEGER (X.690 8.3). All octets mean a number, and all numbers can be written.
 use Rattle.std.specs.Prelude.{◌≡◌, ℕ, ℤ, List}
 use Rattle.asn1_numbers.specs.TwosComplement.{signed_number, shortest_octets}
 

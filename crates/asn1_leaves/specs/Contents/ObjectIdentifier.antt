@@ -41,7 +41,7 @@ object_identifier_contents (x ∷ y ∷ ns) = (40 * x + y) ∷ flat_map shortest
 abbrev pub greatest_second : ℕ → ℕ
 greatest_second x = if x == 2 then 175 else 39
 
--- why there are none
+-- why components can't be written
 abbrev pub object_identifier_write_fault : List ℕ → Option ASN1EncodeErr
 object_identifier_write_fault [] = Some ObjectIdentHasTooFewFields
 object_identifier_write_fault (x ∷ []) = Some ObjectIdentHasTooFewFields

@@ -43,7 +43,7 @@ text_contents Utf8 cs = encode_utf8_all cs
 text_contents Printable cs = cs
 text_contents Octets cs = cs
 
--- why there are none: a character of one octet is past 255
+-- why characters of one octet each can't be written: one of them is past 255
 abbrev pub octet_write_fault : List ℕ → Option ASN1EncodeErr
 octet_write_fault cs = if list_all (λ c. nat_lt c 256) cs then None else Some CharacterTooLarge
 

@@ -1,7 +1,8 @@
 -- Octets that are compared with those that are pushed.
 use Rattle.std.specs.Prelude.{◌≡◌, ◌↔◌, ℕ, ◌+◌, ◌≤◌, ◌++◌, ◌∷◌, List, [], length, IsTrue}
-use Rattle.std.proofs.Common.{refl, sym, ap, ◌∙◌, arith, append_assoc, length-append}
+use Rattle.std.proofs.Common.{refl, sym, ap, ◌∙◌, arith, append_assoc, length-append, append-nil}
 use Rattle.asn1_numbers.specs.declared.sink.Comparison.{Comparison}
+use Rattle.std.proofs.lemmas.List.{nil_from_length}
 
 abbrev pub left : Comparison → ℕ
 left a = length a.rest.now
@@ -11,7 +12,7 @@ compared a xs b =
     (front : List ℕ) × (a.rest.now ≡ front ++ b.rest.now) × (length front ≡ length xs)
     × (IsTrue b.same ↔ (IsTrue a.same × (front ≡ xs)))
 
--- two splits of one list at one place are one
+-- two splits of one list at one place are the same
 same_split : (s t x y : List ℕ) → length s ≡ length t → s ++ x ≡ t ++ y → (s ≡ t) × (x ≡ y)
 same_split [] [] x y l e = (refl, e)
 same_split [] (b ∷ t) x y l e = absurd (omega (arith, l))
@@ -40,6 +41,16 @@ compared_more a b c xs ys (first, starts, size, (equal, meant)) (second, goes_on
         meant' (meant (same_before, firsts), seconds),
   ),
 )
+
+-- where as many octets were compared as there are, they are the same exactly if all were
+pub compared_all :
+    (a c : Comparison) (xs : List ℕ) → compared a xs c → IsTrue a.same → length a.rest.now ≡ length xs →
+    IsTrue c.same ↔ (a.rest.now ≡ xs)
+compared_all a c xs (first, starts, length_is, (equal, meant)) same size =
+    let none : c.rest.now ≡ [] =
+    nil_from_length c.rest.now (omega (arith, ap length starts, length-append first c.rest.now, length_is, size)) in
+    let all : a.rest.now ≡ first = starts ∙ (ap (λ z. first ++ z) none ∙ append-nil first) in
+    (λ t. all ∙ (equal t).1, λ e. meant (same, sym all ∙ e))
 
 pub left_after : (a b : Comparison) (xs : List ℕ) → compared a xs b → left a ≤ left b + length xs
 left_after a b xs p = omega (arith, ap length p.1, p.2, length-append p.0 b.rest.now)

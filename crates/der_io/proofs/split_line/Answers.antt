@@ -18,7 +18,7 @@ lines_of-ended (b ∷ input) (suc n) l h e =
     rw (ne_eqb b 10 (h 0 (omega arith)))
     (ap (onto_first_line b) (lines_of-ended input n (omega arith) (λ i lt. h (suc i) (omega arith)) e))
 
--- where there is none, all is one line
+-- where no byte 0A stands, all is one line
 lines_of-unended : (input : List ℕ) → 0 < length input → ((i : ℕ) → i < length input → slice_index input i ≢ 10) →
     lines_of input ≡ input ∷ []
 lines_of-unended [] l h = absurd (omega (arith, l))
@@ -32,7 +32,7 @@ take-drop_suc n xs =
     let e : n + 1 ≡ suc n = omega arith in
     take_all (length xs - (n + 1)) (drop (n + 1) xs) (omega (arith, length-drop (n + 1) xs)) ∙ ap (λ m. drop m xs) e
 
--- where a byte is not found, it does not stand
+-- where no byte 0A is found, none stands
 slice_index-no_line_feed :
     (input : List ℕ) (n : ℕ) → Nowhere (Passes (is_byte 10) input) 0 n → (i : ℕ) → i < n → slice_index input i ≢ 10
 slice_index-no_line_feed input n nowhere i lt e = nowhere i (omega arith) lt (eq-eqb (slice_index input i) 10 e)

@@ -21,7 +21,7 @@ pub record IsCanonicalEncoding (octets : List ℕ) (class : ASN1Class) (construc
       class ≡ Universal → (l : Leaf) → tag ≡ leaf_tag l → LeafContents l contents →
       contents ≡ leaf_contents l
 
--- whatever encoding stands at the front of the octets is such a one
+-- whatever encoding stands at the front of the octets is a canonical encoding
 abbrev pub BeginsCanonical : List ℕ → Type 0
 BeginsCanonical octets = (own rest : List ℕ) (class : ASN1Class) (constructed : Bool) (tag : ℕ)
     (contents : List ℕ) (header : ℕ) → octets ≡ own ++ rest → Encoding own class constructed tag contents header →
@@ -32,7 +32,7 @@ abbrev pub IsOfOneForm : ℕ → Type 0
 IsOfOneForm leading = (leading ≡ 48) ⊎ (leading ≡ 49) ⊎ (leading ≡ 4) ⊎ (leading ≡ 12)
     ⊎ (leading ≡ 19) ⊎ (leading ≡ 22) ⊎ (leading ≡ 23)
 
--- at the offset in the document stands such an encoding
+-- at the offset in the document stands a canonical encoding
 pub record HasCanonicalAt (document : List ℕ) (offset : ℕ) : Type 0 where
   pub octets : List ℕ
   pub at_offset : EncodingAt document offset octets

@@ -38,7 +38,7 @@ IsOfGroup header =
     (header.class ≡ Universal) × (header.constructed ≡ true)
     × ((header.tag ≡ group_tag Sequence) ⊎ (header.tag ≡ group_tag Set))
 
--- the octets are canonical if these inside and these after are, which are fewer
+-- the octets are canonical if the octets within and the octets after are, which are fewer by two or more
 pub record LeavesBoth (octets within after : List ℕ) : Type 0 where
   pub canonical : AreCanonical within → AreCanonical after → AreCanonical octets
   pub fewer : length within + length after + 2 ≤ length octets

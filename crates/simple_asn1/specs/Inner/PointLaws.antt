@@ -5,7 +5,7 @@ use Rattle.simple_asn1.specs.declared.convert.point.Point.{Point}
 use Rattle.asn1_blocks.specs.Tree.{Trees, no_trees, more_trees, shape, shapes}
 use Rattle.simple_asn1.specs.PointTrees.{point_tree, point_trees, BeginsWithPoint}
 
--- one tree, one point
+-- points of the same tree are equal
 pub point_tree-injective : (p q : Point) → point_tree p ≡ point_tree q → p ≡ q
 point_tree-injective p q e =
     let x : p.x ≡ q.x = cc in

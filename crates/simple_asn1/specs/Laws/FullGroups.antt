@@ -28,7 +28,7 @@ mutual
         (g : GroupKind) → n ≡ group_tag g → 0 < length contents → AreFullBlocks contents →
         IsFullBlock octets
 
-  -- the octets are such blocks one after another, also none
+  -- the octets are blocks without empty groups, one after another, or there are none
   pub data AreFullBlocks : List ℕ → Type 0 where
     no_full_blocks : AreFullBlocks []
     more_full_blocks :

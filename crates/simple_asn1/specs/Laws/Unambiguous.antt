@@ -45,9 +45,9 @@ pub record Unambiguous : Type 0 where
   -- a reader begins one number of headers
   pub one_number :
       (octets : List ℕ) (m n : ℕ) → HeadersBegun octets m → HeadersBegun octets n → m ≡ n
-  -- at most one header for each octet
+  -- at most one header is begun for each octet
   pub at_most : (octets : List ℕ) (n : ℕ) → HeadersBegun octets n → n ≤ length octets
-  -- at least one header for each block of a document, at all depths
+  -- at least one header is begun for each block of a document, at all depths
   pub at_least :
       (octets : List ℕ) (bs : Trees ℕ) (n : ℕ) →
       IsDocument octets bs → HeadersBegun octets n → all_blocks_in bs ≤ n

@@ -8,7 +8,7 @@ use Rattle.asn1_blocks.specs.Tree.{Tree, explicit, group, leaf, unknown}
 use Rattle.asn1_blocks.specs.View.{view}
 use Rattle.asn1_blocks.proofs.contents.check_by_reading.Goals as goal
 
--- a leaf that was read is meant
+-- contents octets of which a leaf was read mean it
 IsNoLeafOrMeant-read : (tag : ℕ) (contents : List ℕ) (b : Tree ℕ) → IsLeafOf 0 tag contents b →
     IsNoLeafOrMeant tag contents
 IsNoLeafOrMeant-read tag contents (leaf o l) m = inr (l, m.1, m.2)
@@ -16,7 +16,7 @@ IsNoLeafOrMeant-read tag contents (group o g bs) m = absurd m
 IsNoLeafOrMeant-read tag contents (explicit c o n b) m = absurd m
 IsNoLeafOrMeant-read tag contents (unknown c k o n v) m = absurd m
 
--- contents octets of which a leaf or none was read
+-- contents octets of which a leaf was read mean it, and those of which none was read have the tag of no leaf
 IsNoLeafOrMeant-found : (tag : ℕ) (contents : List ℕ) (found : Option ASN1Block)
     → MatchOption found (is_leaf_tag tag ≡ false) (λ b. IsLeafOf 0 tag contents (view b)) → IsNoLeafOrMeant tag contents
 IsNoLeafOrMeant-found tag contents None none = inl none

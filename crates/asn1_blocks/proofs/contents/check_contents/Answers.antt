@@ -11,7 +11,7 @@ use Rattle.asn1_blocks.specs.Tree.{leaf, unknown}
 use Rattle.asn1_blocks.proofs.Leaves.{unknown_tag, group_tag_of, leaf_tag_of, TagKind-total, is_group_tag-group_tag}
 use Rattle.asn1_blocks.proofs.contents.check_contents.Goals as goal
 
--- a leaf, or contents octets that have no rule
+-- an encoding of class Universal that is a leaf, or whose tag has no rule, is of a tree that holds no others
 IsSingleAt-universal : (k : Bool) (n : ℕ) (contents : List ℕ) → (IsReadInside Universal k n → ⊥) →
     IsNoLeafOrMeant n contents
     → (offset : ℕ) (octets : List ℕ) (h : ℕ) → Encoding octets Universal k n contents h → IsSingleAt offset octets

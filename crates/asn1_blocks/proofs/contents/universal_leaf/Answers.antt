@@ -9,7 +9,7 @@ use Rattle.asn1_blocks.specs.Contents.{string_tag, LeafFault, of_text}
 use Rattle.asn1_leaves.specs.Contents.Text.{text_form, TextFault}
 use Rattle.asn1_blocks.proofs.contents.universal_leaf.Goals as goal
 
--- the fault of a string of characters goes on
+-- the fault of a string of characters is a fault of contents octets with its tag
 IfErr-text_fault : (kind : StringKind) (tag : ℕ) (contents : List ℕ) (d : ASN1DecodeErr)
     (r : Result (Option ASN1Block) ASN1DecodeErr)
     → IsErr r × IsErrAnd r (λ e. e ≡ d)

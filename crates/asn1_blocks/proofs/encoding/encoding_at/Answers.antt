@@ -16,7 +16,7 @@ returns-in_default-clause-block c octets t =
     let p = EncodingAt-tree c.args.document.now c.args.offset octets t in
     c.in_default.ensures.none octets p.rest (c.split_at.ensures.back ∙ p.at_offset) p.encoding
 
--- the front of what stands at the offset, as long as its header says
+-- the octets from an offset on, as far as they are an encoding, stand at the offset
 EncodingAt-front : (document : List ℕ) (o n : ℕ) (rest front : List ℕ) → rest ≡ drop o document → front ≡ take n rest →
     IsEncoding (take n rest)
     → EncodingAt document o front

@@ -5,7 +5,7 @@ use Rattle.asn1_blocks.specs.View.{views}
 use Rattle.asn1_blocks.proofs.FaithfulWalk.{IsDecidedBy}
 use Rattle.asn1_blocks.proofs.faithful.are_faithful.Given as goal
 
--- what is ahead decides of all
+-- all blocks are faithful exactly if those ahead are
 abbrev pub invariant-loop-walk : goal.invariant-loop-walk
 invariant-loop-walk l = IsDecidedBy l.fn.blocks (ahead l.walk)
 

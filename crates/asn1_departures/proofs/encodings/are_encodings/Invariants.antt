@@ -3,7 +3,7 @@ use Rattle.std.proofs.Common.{length}
 use Rattle.asn1_departures.specs.Steps.{IsLeft}
 use Rattle.asn1_departures.proofs.encodings.are_encodings.Given as goal
 
--- what is left decides
+-- the octets are encodings one after another exactly if those that are left are
 abbrev pub invariant-encodings : goal.invariant-encodings
 invariant-encodings l = IsLeft l.octets l.unended l.rest
 

@@ -1,6 +1,6 @@
 -- For `encodings::behind_next`: what it returns is right (`more`, `none`).
 use Rattle.std.proofs.Common.{◌∙◌, ap, drop, sym}
-use Rattle.asn1_der.proofs.Orders.{EncodingAt-append}
+use Rattle.asn1_blocks.proofs.EncodingSizes.{EncodingAt-append}
 use Rattle.asn1_departures.proofs.Fronts.{IsStep-end, IsStep-next, AreEncodings-some_here}
 use Rattle.asn1_departures.proofs.encodings.behind_next.Goals as goal
 

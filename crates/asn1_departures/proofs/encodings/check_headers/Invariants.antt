@@ -3,7 +3,7 @@ use Rattle.std.proofs.Common.{◌-◌, length}
 use Rattle.asn1_departures.specs.Steps.{IsReached}
 use Rattle.asn1_departures.proofs.encodings.check_headers.Given as goal
 
--- a fault behind the place is one of all
+-- a fault behind the place that was reached is a fault of all octets
 abbrev pub invariant-headers : goal.invariant-headers
 invariant-headers l = IsReached l.octets l.at
 

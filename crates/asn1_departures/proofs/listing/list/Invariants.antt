@@ -1,7 +1,7 @@
 -- For `listing::list`: what each turn of its loop keeps and what grows less, so that it ends.
 use Rattle.std.specs.Prelude.{List}
 use Rattle.asn1_departures.specs.Departures.{Lists}
-use Rattle.asn1_departures.specs.Steps.{IsPlaced, ListsAll, left}
+use Rattle.asn1_departures.specs.Steps.{IsPlaced, ListsAll, work_left}
 use Rattle.asn1_departures.specs.declared.rule.Departure.{Departure}
 use Rattle.asn1_departures.proofs.listing.list.Given as goal
 
@@ -13,4 +13,4 @@ invariant-turns l = record {
 }
 
 abbrev pub decreases-turns : goal.decreases-turns
-decreases-turns l = left l.octets l.place
+decreases-turns l = work_left l.octets l.place

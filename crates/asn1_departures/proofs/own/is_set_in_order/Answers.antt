@@ -8,7 +8,7 @@ use Rattle.asn1_der.specs.Der.{AreDerEncodings, IsDer, IsInOrder, IsRightAlone, 
 use Rattle.asn1_der.proofs.Encodings.{AreDerEncodings-unique}
 use Rattle.asn1_departures.proofs.own.is_set_in_order.Goals as goal
 
--- where the items are in neither order, what decides is whether they are DER
+-- a SET whose items are in neither order is right exactly if its contents octets are not DER
 IsRightAlone-set_out_of_order :
     (der order : Bool) (x : List ℕ) → length x < 2 ^ 64 → IsTrue der ↔ IsDer x →
     ((items : List (List ℕ)) → AreDerEncodings x items → IsTrue order ↔ IsInOrder items) → order ≡ false →

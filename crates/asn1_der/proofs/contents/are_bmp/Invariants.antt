@@ -3,7 +3,7 @@ use Rattle.std.proofs.Common.{◌≡◌, length}
 use Rattle.asn1_der.specs.Contents.{are_bmp}
 use Rattle.asn1_der.proofs.contents.are_bmp.Given as goal
 
--- what is left decides of all
+-- the octets are those of a BMPString exactly if those that are left are
 abbrev pub invariant-loop-rest : goal.invariant-loop-rest
 invariant-loop-rest l = are_bmp l.contents ≡ are_bmp l.rest
 

@@ -3,7 +3,7 @@ use Rattle.std.proofs.Common.{◌≡◌, length}
 use Rattle.asn1_der.specs.Contents.{are_universal}
 use Rattle.asn1_der.proofs.contents.are_universal.Given as goal
 
--- what is left decides of all
+-- the octets are those of a UniversalString exactly if those that are left are
 abbrev pub invariant-loop-rest : goal.invariant-loop-rest
 invariant-loop-rest l = are_universal l.contents ≡ are_universal l.rest
 

@@ -3,7 +3,7 @@ use Rattle.std.proofs.Common.{◌≡◌, ◌-◌, ◌++◌, arith, length, lengt
 use Rattle.asn1_numbers.specs.Inner.Comparisons.{compared_more}
 use Rattle.asn1_numbers.specs.declared.sink.Comparison.{Comparison}
 use Rattle.asn1_headers.specs.Header.{shortest_identifier, shortest_length}
-use Rattle.asn1_der.proofs.Shortest.{compared-all}
+use Rattle.asn1_numbers.specs.Inner.Comparisons.{compared_all}
 use Rattle.asn1_der.proofs.header_rules.is_written.Goals as goal
 
 pub returns : goal.returns
@@ -21,6 +21,6 @@ returns c =
       c.length_size-length.ensures.size,
     ) in
     let a : Comparison = record { rest = c.args.front; same = true } in
-    compared-all a c.push_length.new.out (id ++ len)
+    compared_all a c.push_length.new.out (id ++ len)
     (compared_more a c.push_identifier.new.out c.push_length.new.out id len c.push_identifier.ensures
     c.push_length.ensures) refl size

@@ -1,7 +1,8 @@
 -- For `order::ascend`: its loop keeps its invariant and what it returns is right.
 use Rattle.std.proofs.Common.{◌≡◌, ap, drop, refl, ◌∙◌, false}
 use Rattle.std.specs.Prelude.{option_map}
-use Rattle.asn1_der.proofs.Orders.{All-behind, EncodingAt-append, IsLeft-next, Ascend-not_may_follow, Ascend-none_left}
+use Rattle.asn1_der.proofs.Orders.{All-behind, IsLeft-next, Ascend-not_may_follow, Ascend-none_left}
+use Rattle.asn1_blocks.proofs.EncodingSizes.{EncodingAt-append}
 use Rattle.asn1_der.proofs.order.ascend.Goals as goal
 
 pub loop-encoding-preserved : goal.loop-encoding-preserved

@@ -3,7 +3,7 @@ use Rattle.std.proofs.Common.{◌≡◌, ◌+◌, drop}
 use Rattle.asn1_der.specs.Real.{digit_count}
 use Rattle.asn1_der.proofs.real.digit_count.Given as goal
 
--- For `real::digit_count`: the digits that were passed are counted, and those that are left come to them.
+-- the digits that were passed are counted, and those that are left come in addition
 abbrev pub invariant-loop-c : goal.invariant-loop-c
 invariant-loop-c l = record {
   passed : l.count ≡ l.c-index;

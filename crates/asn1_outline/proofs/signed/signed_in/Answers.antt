@@ -7,11 +7,11 @@ use Rattle.asn1_outline.specs.TripleHeaders.{IsUniversalAt}
 use Rattle.asn1_outline.proofs.SignedHeaders.{HasTripleHeaders-algorithm, HasTripleHeaders-content, HasTripleHeaders-signature, HasTripleHeaders-whole}
 use Rattle.asn1_outline.proofs.signed.signed_in.Goals as goal
 
--- no header stands there
+-- no header is found from the offset to the limit
 abbrev NoneAt : List ℕ → ℕ → ℕ → Type 0
 NoneAt x offset limit = (h : PlacedHeader) → HeaderFound x offset limit h → ⊥
 
--- no header of class Universal with the tag number stands there
+-- no header of class Universal with the tag number is found from the offset to the limit
 abbrev NoUniversalAt : List ℕ → ℕ → ℕ → ℕ → Type 0
 NoUniversalAt x offset limit tag = (h : PlacedHeader) → IsUniversalAt x offset limit tag h → ⊥
 

@@ -1,16 +1,11 @@
 -- For `kind::has_fields`: its loop keeps its invariant, and what it returns is right.
-use Rattle.std.proofs.Common.{◌≡◌, ◌∙◌, ◌∷◌, [], List, false, true, ap, arith, is_some, length, refl, subst, sym}
+use Rattle.std.proofs.Common.{◌≡◌, ◌∙◌, ◌∷◌, [], false, true, ap, is_some, refl, subst, sym}
 use Rattle.der_account.specs.Kinds.{are_of, sequence, validity_fields}
 use Rattle.der_account.specs.Places.{fields_of, element_type}
-use Rattle.der_account.specs.declared.kind.Field.{Field}
 use Rattle.der_account.specs.declared.kind.Field.TheVariants.{NoMore, One, Optional, Validity}
 use Rattle.der_account.proofs.Taking.{IsReached, IsReached-one, IsReached-optional, one-missing}
+use Rattle.std.proofs.lemmas.List.{nil_from_length}
 use Rattle.der_account.proofs.kind.has_fields.Goals as goal
-
--- a table of no fields has none
-none-left : (left : List Field) → length left ≡ 0 → left ≡ []
-none-left [] none = refl
-none-left (field ∷ others) none = absurd (omega (arith, none))
 
 pub loop-field-init : goal.loop-field-init
 loop-field-init c offset header items rest s = (items, c.of-items.ensures offset header items rest s, refl)
@@ -80,7 +75,7 @@ loop-field-preserved c offset header items rest s =
 
 pub returns : goal.returns
 returns c offset header items rest s =
-    let left : c.loop-field.left.now ≡ [] = none-left c.loop-field.left.now c.in_default.ensures.cases in
+    let left : c.loop-field.left.now ≡ [] = nil_from_length c.loop-field.left.now c.in_default.ensures.cases in
     let (now, are_left, is) : IsReached c.loop-field.items (are_of (fields_of c.args.fields.now) items) (fields_of []) =
     subst (λ z. IsReached c.loop-field.items (are_of (fields_of c.args.fields.now) items) (fields_of z)) left
     (c.loop-field.invariant offset header items rest s) in

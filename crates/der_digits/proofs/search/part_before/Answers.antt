@@ -11,12 +11,12 @@ append-one_octet part [] n l h = absurd (omega (arith, l))
 append-one_octet part (b ∷ text) zero l h = rw h refl
 append-one_octet part (b ∷ text) (suc n) l h = ap (λ rest. b ∷ rest) (append-one_octet part text n (omega arith) h)
 
--- where they stand, nothing does before them
+-- a text that begins with the part has nothing before the part
 up_to-begins : (part text : List ℕ) → begins part text ≡ true → up_to part text ≡ []
 up_to-begins part [] h = refl
 up_to-begins part (b ∷ text) h = rw h refl
 
--- what the rest of the text has from the place on
+-- whether the text begins with the part, from the place on
 begins-drop : (part text : List ℕ) (n : ℕ) (answer : Bool) → n < length text
     → answer ≡ begins part (take (length text - n) (drop n text)) → begins part (drop n text) ≡ answer
 begins-drop part text n answer l e =

@@ -6,7 +6,7 @@ use Rattle.der_elements.specs.Steps.{to_go}
 use Rattle.der_elements.proofs.JoinedSegments.{AreLeft}
 use Rattle.der_elements.proofs.segments.joined_segments.Given as goal
 
--- with those that are left, those that were joined are all
+-- the segments that were joined, with those that are left, are all
 abbrev pub invariant-loop-left : goal.invariant-loop-left
 invariant-loop-left l =
     (after : List ℕ) → AreLeft l.tag l.cursor l.joined.items after ↔ AreSegmentsOf l.tag l.contents l.is_indefinite

@@ -1,16 +1,13 @@
 -- For `escape::escaped`: what it returns is right.
-use Rattle.std.proofs.Common.{◌≡◌, Bool, true, false, List, ℕ, refl, subst, ◌∙◌, string_bytes}
+use Rattle.std.proofs.Common.{◌≡◌, true, false, List, ℕ, refl, subst, ◌∙◌, string_bytes}
 use Rattle.std.proofs.lemmas.Str.{IsUtf8-from_is_utf8, is_utf8-from_IsUtf8}
 use Rattle.std.specs.Prelude.{IfOk, Result, Ok, Err}
 use Rattle.std.specs.Str.{chars, is_utf8}
 use Rattle.der_io.specs.Escaped.{all_escaped, escape_of, escape_of_octet, escaped}
+use Rattle.std.proofs.lemmas.Bool.{false_from_ne_true}
 use Rattle.der_io.proofs.escape.escaped.Goals as goal
 
-false-not_true : (b : Bool) → (b ≡ true → ⊥) → b ≡ false
-false-not_true true h = absurd (h refl)
-false-not_true false h = refl
-
--- text in UTF-8
+-- text in UTF-8 is escaped by its characters
 all_escaped-text : (octets : List ℕ) → is_utf8 octets ≡ true → all_escaped escape_of (chars octets) ≡ escaped octets
 all_escaped-text octets h = rw h refl
 
@@ -36,6 +33,6 @@ pub returns-in-Err : goal.returns-in-Err
 returns-in-Err c =
     let octets = c.args.octets.now in
     IfOk-equal string_bytes c.escaped_octets.result _ _
-    (all_escaped-no_text octets (false-not_true (is_utf8 octets)
+    (all_escaped-no_text octets (false_from_ne_true (is_utf8 octets)
     (λ h. c.in-Err.ensures.cases.0 (IsUtf8-from_is_utf8 octets h))))
     c.escaped_octets.ensures

@@ -11,13 +11,13 @@ use Rattle.der_json.proofs.rows.push_marks.Goals as goal
 pub loop-rule-init : goal.loop-rule-init
 loop-rule-init c = sym (append-nil (departures_of c.args.marks.now.items))
 
--- one more was kept, of those at an index
-kept_at :
+-- where the rule at an index was kept, the rules up to this rule were kept
+departures_of-kept :
     (rules : List BrokenRule) (i : ℕ) (d : BrokenRule) (offset : ℕ) (first old new : List Departure) (one : Departure) →
     i < length rules → departed_of one ≡ record { offset = offset; rule = breach_of (get_or rules i d) } →
     new ≡ old ++ one ∷ [] → departures_of old ≡ departures_of first ++ marks_at offset (map breach_of (take i rules)) →
     departures_of new ≡ departures_of first ++ marks_at offset (map breach_of (take (i + 1) rules))
-kept_at rules i d offset first old new one within is e before =
+departures_of-kept rules i d offset first old new one within is e before =
     let rule = get_or rules i d in
     let marks = marks_at offset (map breach_of (take i rules)) in
     let more : marks_at offset (map breach_of (take (i + 1) rules)) ≡ marks ++ marks_at offset (breach_of rule ∷ []) =
@@ -32,7 +32,8 @@ kept_at rules i d offset first old new one within is e before =
 
 pub loop-rule-preserved : goal.loop-rule-preserved
 loop-rule-preserved c =
-    kept_at c.args.rules.now c.loop-rule.rule-index _ c.args.offset c.args.marks.now.items c.loop-rule.marks.items _ _
+    departures_of-kept c.args.rules.now c.loop-rule.rule-index _ c.args.offset c.args.marks.now.items
+    c.loop-rule.marks.items _ _
     c.loop-rule-test.true refl c.in_ok-push.ensures.items c.loop-rule.invariant
 
 pub returns : goal.returns

@@ -5,7 +5,7 @@ use Rattle.der_tool.specs.Answers.{AreLineAnswers}
 use Rattle.der_tool.specs.declared.answers.Reading.{Reading}
 use Rattle.der_tool.proofs.answers.answers.Goals as goal
 
--- no output answers no input
+-- the empty output answers the empty input
 AreLineAnswers-empty :
     (reading : Reading) (input : List ℕ) → length input ≡ 0 → AreLineAnswers reading (lines_of input) []
 AreLineAnswers-empty reading [] e = refl

@@ -3,6 +3,6 @@ use Rattle.std.proofs.Common.{◌≡◌, ◌++◌, drop, map, take}
 use Rattle.simple_asn1_c.specs.Departures.{departure_record}
 use Rattle.simple_asn1_c.proofs.departures.put_departures.Given as goal
 
--- the records of so many are put
+-- the records of the first k departures are put
 abbrev pub invariant-loop-k : goal.invariant-loop-k
 invariant-loop-k l = l.room ≡ map departure_record (take l.k l.found) ++ drop l.k l.initial.room

@@ -4,7 +4,7 @@ use Rattle.std.specs.List.{flat_map}
 use Rattle.asn1_leaves.specs.Inner.IdentifierForms.{numbers_after, pointed}
 use Rattle.simple_asn1_c.proofs.dotted.push_subidentifiers.Given as goal
 
--- what is pushed, and what is left, are the numbers of all
+-- the text so far, with the numbers of the octets that are left, is that of all octets
 abbrev pub invariant-loop-octet : goal.invariant-loop-octet
 invariant-loop-octet l =
     l.text.items ++ flat_map pointed (numbers_after l.number (drop l.octet-index l.octets))

@@ -41,13 +41,13 @@ unsigned_abs-year_lt : (y : ℤ) → pos 0 ≤ℤ y → y ≤ℤ pos 9999 → un
 unsigned_abs-year_lt (pos n) low high = omega (arith, ints, high)
 unsigned_abs-year_lt (negsuc n) low high = omega (arith, ints, low)
 
--- a year passes through both widths
+-- a year of four digits is the same after it passed through 32 and 16 bits
 to_z-same_year : (y : ℤ) → pos 0 ≤ℤ y → y ≤ℤ pos 9999 → to_z w16 (of_z w16 (to_z w32 (of_z w32 y))) ≡ y
 to_z-same_year y low high =
     let small = unsigned_abs-year_lt y low high in
     ap (λ z. to_z w16 (of_z w16 z)) (back_small w32 y (omega (arith, small))) ∙ back_small w16 y (omega (arith, small))
 
--- where a call that succeeds exactly if P gives nothing, not Q, from which P follows
+-- where a call that succeeds exactly if P returns nothing, Q fails, if P follows from Q
 IfNone-not_ok : {T E : Type 0} (r : Result T E) (o : Option T) (P Q : Type 0) → o ≡ result_ok r → (IsOk r ↔ P) →
     (Q → P) →
     IfNone o (Q → ⊥)

@@ -3,7 +3,7 @@ use Rattle.std.proofs.Common.{◌≡◌, ◌<◌, drop, length}
 use Rattle.simple_asn1_c.specs.Paths.{index_inside}
 use Rattle.simple_asn1_c.proofs.paths.index_at.Given as goal
 
--- what is found inside this one by the steps that are left is what was sought
+-- the steps that are left lead from this entry to where all steps lead from the first
 abbrev pub invariant-loop-step : goal.invariant-loop-step
 invariant-loop-step l = record {
   same : index_inside l.entries (drop l.step-index l.rest) l.index ≡ index_inside l.entries l.rest l.initial.index;

@@ -3,7 +3,7 @@ use Rattle.std.proofs.Common.{◌≡◌}
 use Rattle.simple_asn1_c.specs.Paths.{item_from}
 use Rattle.simple_asn1_c.proofs.paths.item_from.Given as goal
 
--- what is found from here is what is found from the start
+-- the item at this many steps from this entry is the one at all steps from the first
 abbrev pub invariant-loop-left : goal.invariant-loop-left
 invariant-loop-left l = item_from l.entries l.at l.end l.left ≡ item_from l.entries l.index l.end l.step
 

@@ -8,7 +8,7 @@ use Rattle.asn1_blocks.proofs.CopySteps.{tree_count-inside_le, IsTaken-held}
 use Rattle.asn1_blocks.proofs.TreeOrders.{BeginsAtPlace-drop, IsInTreeOrder-drop}
 use Rattle.asn1_blocks.proofs.block.copy.copy.Goals as goal
 
--- the block at a place is that of the list of the blocks themselves
+-- the block that is lent at a place is the one at this place of the list of the blocks themselves
 get_or-map_now : (order : List (Bor ASN1Block)) (j : ℕ) (x : Bor ASN1Block) → j < length order → x ≡ get_or order j x
     → x.now ≡ get_or (map (λ b. b.now) order) j x.now
 get_or-map_now order j x h e =

@@ -3,6 +3,6 @@ use Rattle.asn1_blocks.specs.HeadersBegun.{blocks_in}
 use Rattle.asn1_blocks.specs.View.{view}
 use Rattle.asn1_blocks.proofs.block.discard.discard_one.Given as goal
 
--- the block is taken apart
+-- the number of blocks in the block that is taken apart
 abbrev pub decreases-loop-block : goal.decreases-loop-block
 decreases-loop-block l = blocks_in (view l.block)

@@ -10,6 +10,6 @@ invariant-loop-block l =
     blocks_in (view l.block) + all_blocks_in (views l.rest.items) ≤ blocks_in (view l.initial.block) + all_blocks_in
     (views l.initial.rest.items)
 
--- the block is taken apart
+-- the number of blocks in the block that is taken apart
 abbrev pub decreases-loop-block : goal.decreases-loop-block
 decreases-loop-block l = blocks_in (view l.block)

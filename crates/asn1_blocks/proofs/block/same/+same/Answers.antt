@@ -94,7 +94,7 @@ same_each-same_all-requires t c =
     blocks_in-get_or_le c.args.a.now c.loop-i.i c.index-a-i.result (grind (arith, common_steps)) c.index-a-i.is in
     (grind (arith, common_steps, n, ap (λ z. all_blocks_in (views z)) c.from_ref.ensures.value), tt)
 
--- a list of one block
+-- two lists of one block each are the same exactly if these blocks have the same shape
 AreSame-single : (xs ys : List ASN1Block) (x y : ASN1Block) → xs ≡ x ∷ [] → ys ≡ y ∷ [] →
     AreSame xs ys ↔ (shape (view x) ≡ shape (view y))
 AreSame-single xs ys x y e f =

@@ -11,7 +11,7 @@ decreases-same_all l = 2 * all_blocks_in (views l.a.now)
 abbrev pub decreases-same_each : goal.decreases-same_each
 decreases-same_each l = 2 * all_blocks_in (views l.a.now) + 1
 
--- the lists are the same as the whole ones, and hold no more blocks
+-- the lists that are left are the same exactly if the whole ones are, and hold no more blocks
 abbrev pub invariant-same_all-loop-x : goal.invariant-same_all-loop-x
 invariant-same_all-loop-x l = record {
   same : AreSame l.v l.w ↔ AreSame l.fn.a l.fn.b;

@@ -2,6 +2,6 @@
 use Rattle.std.proofs.Common.{ℕ, ◌<◌, ◌≢◌, get_or}
 use Rattle.asn1_leaves.proofs.contents.object_identifier.are_shortest.Given as goal
 
--- none is 80 so far
+-- none of the octets so far is 80
 abbrev pub invariant-loop-octet : goal.invariant-loop-octet
 invariant-loop-octet l = (k : ℕ) → k < l.octet-index → get_or l.rest k 0 ≢ 128

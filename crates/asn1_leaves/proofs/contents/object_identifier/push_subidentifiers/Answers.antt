@@ -5,8 +5,8 @@ use Rattle.std.specs.List.{slice_range}
 use Rattle.std.proofs.Math.Seq.{take-add}
 use Rattle.std.proofs.lemmas.Result.{err_from_is_err_and}
 use Rattle.asn1_leaves.specs.Contents.ObjectIdentifier.{Subidentifiers}
-use Rattle.asn1_leaves.proofs.SliceSplit.{drop-slice_range}
 use Rattle.asn1_leaves.proofs.Subidentifiers.{Subidentifiers-incomplete, Subidentifiers-none_after, Subidentifiers-push}
+use Rattle.std.proofs.lemmas.List.Folds.{drop_split}
 use Rattle.asn1_leaves.proofs.contents.object_identifier.push_subidentifiers.Goals as goal
 
 pub returns-in_err-n-clause-refused : goal.returns-in_err-n-clause-refused
@@ -42,5 +42,5 @@ loop-index-preserved c =
       (ns ++ n ∷ [], items, subst (Subidentifiers (ns ++ n ∷ [])) (sym front) more),
       λ h. c.loop-index.invariant.2
           (Subidentifiers-none_after (slice_range octets i j) (drop j octets) n found h (drop i octets)
-          (drop-slice_range octets i j moved.0)),
+          (drop_split octets i j moved.0)),
     )

@@ -4,7 +4,8 @@ use Rattle.std.proofs.Common.{◌≡◌, ◌++◌, ◌≤◌, ◌-◌, List, ℕ
 use Rattle.asn1_leaves.specs.Contents.ObjectIdentifier.{Subidentifiers}
 use Rattle.asn1_leaves.proofs.contents.object_identifier.push_subidentifiers.Given as goal
 
--- what refuses the rest refuses the whole
+-- the numbers of the octets before the index were pushed; where the octets that are left are no subidentifiers, neither
+-- are all octets
 abbrev pub invariant-loop-index : goal.invariant-loop-index
 invariant-loop-index l =
     (l.index ≤ length l.octets)

@@ -4,7 +4,7 @@ use Rattle.std.specs.Str.{chars}
 use Rattle.asn1_leaves.specs.Contents.Text.{octet_write_fault}
 use Rattle.asn1_leaves.proofs.contents.text.character_count.Given as goal
 
--- the characters that are left settle the answer
+-- the characters so far were counted, and those that are left have the fault of all
 abbrev pub invariant-loop-c : goal.invariant-loop-c
 invariant-loop-c l = record {
   count : l.count ≡ length l.yielded;

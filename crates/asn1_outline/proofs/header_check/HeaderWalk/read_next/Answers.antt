@@ -3,7 +3,7 @@ use Rattle.std.proofs.Common.{◌≡◌, ◌++◌, [], ◌∷◌, refl, reverse,
 use Rattle.std.proofs.lemmas.Grind.{common_steps}
 use Rattle.std.proofs.lemmas.Result.{err_from_is_err_and}
 use Rattle.asn1_blocks.specs.HeadersBegun.{IsReadInside}
-use Rattle.asn1_outline.proofs.Checks.{GoesOn-behind, GoesOn-inside, IsFaulty-header, IsWalkedTo-innermost}
+use Rattle.asn1_outline.proofs.Checks.{WalksOn-behind, WalksOn-inside, WalkIsFaulty-header, IsWalkedTo-innermost}
 use Rattle.asn1_outline.proofs.header_check.HeaderWalk.read_next.Goals as goal
 
 pub header_within-requires-clause-from : goal.header_within-requires-clause-from
@@ -28,7 +28,7 @@ returns-in_err-header c =
     rw (p.1, p.2) (elim c.in_err-header.ensures.refused [
       | inl memory ↦ (inl memory, omega arith)
       | inr fault ↦ (
-        inr (IsFaulty-header c.args.octets.now c.args.self.now c.requires.walked _ c.requires.more fault),
+        inr (WalkIsFaulty-header c.args.octets.now c.args.self.now c.requires.walked _ c.requires.more fault),
         omega arith,
       )
     ])
@@ -37,7 +37,7 @@ pub returns-then-not-is_read_inside : goal.returns-then-not-is_read_inside
 returns-then-not-is_read_inside c =
     let h = c.in_ok-header.header in
     let leaf : IsReadInside h.class h.constructed h.tag → ⊥ = grind (arith, common_steps) in
-    GoesOn-behind c.args.octets.now c.args.self.now c.requires.walked h c.in_ok-header.ensures.found leaf
+    WalksOn-behind c.args.octets.now c.args.self.now c.requires.walked h c.in_ok-header.ensures.found leaf
 
 pub returns : goal.returns
 returns c =
@@ -45,6 +45,6 @@ returns c =
     let w = c.args.self.now in
     let inside : IsReadInside h.class h.constructed h.tag = c.if-not-is_read_inside.ensures.0 refl in
     let pushed : c.push.new.self.items ≡ w.outer.items ++ w.inner ∷ [] = c.in_ok-push.ensures.items in
-    GoesOn-inside c.args.octets.now w c.requires.walked h c.is_attempt.result c.push.new.self
+    WalksOn-inside c.args.octets.now w c.requires.walked h c.is_attempt.result c.push.new.self
     c.in_ok-header.ensures.found
     inside c.is_attempt.ensures pushed

@@ -2,7 +2,7 @@
 -- `bounded`) and its result keeps the invariant of its type.
 use Rattle.std.proofs.Common.{◌<◌, ◌^◌, Err, length, arith}
 use Rattle.asn1_blocks.proofs.Readings.{IsDocument-accepted_located, FirstFaultAt-refused}
-use Rattle.asn1_outline.proofs.Answered.{AreOfDocument-no_fault, AreEntriesOf-any_trees}
+use Rattle.asn1_outline.proofs.Answered.{IsOutline-no_fault, AreEntriesOf-any_trees}
 use Rattle.std.proofs.lemmas.Grind.{merely}
 use Rattle.asn1_outline.proofs.outline.Outline.from_der_counted.Goals as goal
 
@@ -13,7 +13,7 @@ returns-in-Ok-clause-accepts c bs d =
 pub returns-in-Ok-clause-refuses : goal.returns-in-Ok-clause-refuses
 returns-in-Ok-clause-refuses c fault o p =
     let small : length c.args.octets.now < 2 ^ 64 = omega arith in
-    AreOfDocument-no_fault c.args.octets.now c.in-Ok.entries.items fault o small c.in-Ok.ensures.document p
+    IsOutline-no_fault c.args.octets.now c.in-Ok.entries.items fault o small c.in-Ok.ensures.document p
 
 pub returns-in-Err-clause-accepts : goal.returns-in-Err-clause-accepts
 returns-in-Err-clause-accepts c =

@@ -9,7 +9,7 @@ use Rattle.der_io.specs.Lines.{lines_of}
 use Rattle.der_io.specs.Output.{IsWritten}
 use Rattle.der_inputs.proofs.show.Show.push_objects.Given as goal
 
--- the texts of some findings are written, and these and those that the lines have that are left are all
+-- the texts of some findings are written, and these, with the findings in the lines that are left, are all
 abbrev pub invariant-loop-object : goal.invariant-loop-object
 invariant-loop-object g l =
     (done : List Finding)

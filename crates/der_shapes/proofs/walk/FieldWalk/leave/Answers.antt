@@ -1,12 +1,13 @@
 -- For `walk::FieldWalk::leave`: those that stay open stand one inside the next.
-use Rattle.der_shapes.proofs.Paths.{path_left}
+use Rattle.der_shapes.proofs.Paths.{IsPath-left}
 use Rattle.der_shapes.proofs.walk.FieldWalk.leave.Goals as goal
 
 pub invariant_of-self : goal.invariant_of-self
 invariant_of-self c =
     let walk = c.loop-self.self in
     record {
-      path = path_left walk.shapes.now walk.all walk.frames.items c.pop.new.self.items c.pop.result c.pop.ensures.items
+      path = IsPath-left walk.shapes.now walk.all walk.frames.items c.pop.new.self.items c.pop.result
+          c.pop.ensures.items
           walk.path;
     }
 
@@ -14,6 +15,7 @@ pub invariant_of-self-in-loop-self : goal.invariant_of-self-in-loop-self
 invariant_of-self-in-loop-self c =
     let walk = c.loop-self.self in
     record {
-      path = path_left walk.shapes.now walk.all walk.frames.items c.pop.new.self.items c.pop.result c.pop.ensures.items
+      path = IsPath-left walk.shapes.now walk.all walk.frames.items c.pop.new.self.items c.pop.result
+          c.pop.ensures.items
           walk.path;
     }

@@ -12,7 +12,7 @@ use Rattle.simple_asn1.proofs.write.in_place.are_canonical_in_place.Goals as goa
 abbrev Waits : Bor (List ℕ) → Type 0
 Waits x = AreCanonical x.now
 
--- what all that wait are, those before the last and the last are
+-- where all octets that wait are canonical, those before the last are, and the last are
 All-append_last : (xs ys : List (Bor (List ℕ))) (x : Bor (List ℕ)) → ys ≡ xs ++ x ∷ [] → All Waits ys →
     All Waits xs × Waits x
 All-append_last xs ys x e all = All-pop Waits ys xs (Some x) e all

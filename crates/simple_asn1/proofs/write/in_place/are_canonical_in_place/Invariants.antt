@@ -5,11 +5,11 @@ use Rattle.std.specs.List.{sum_by}
 use Rattle.simple_asn1.specs.Inner.InPlace.{AreCanonical}
 use Rattle.simple_asn1.proofs.write.in_place.are_canonical_in_place.Given as goal
 
--- what is left decides of all
+-- the octets are canonical if those that are left are: the rest, and all that wait
 abbrev pub invariant-headers : goal.invariant-headers
 invariant-headers l = AreCanonical l.rest → All (λ (x : Bor (List ℕ)). AreCanonical x.now) l.outer.items →
     AreCanonical l.i
 
--- octets that wait count one more than they are, for the turn that takes them up
+-- how many octets are left, with one more for each slice that waits, for the turn that takes it up
 abbrev pub decreases-headers : goal.decreases-headers
 decreases-headers l = length l.rest + sum_by (λ (x : Bor (List ℕ)). 1 + length x.now) l.outer.items

@@ -5,7 +5,7 @@ use Rattle.asn1_numbers.specs.declared.sink.Comparison.{Comparison}
 use Rattle.asn1_blocks.specs.View.{views}
 use Rattle.simple_asn1.specs.Inner.WriteWalk.{all_own_octets, first_own_fault, measured_blocks}
 use Rattle.simple_asn1.proofs.WriteSteps.{first_own_fault-in_order, all_own_octets-in_order}
-use Rattle.simple_asn1.proofs.Strict.{compared-whole}
+use Rattle.asn1_numbers.specs.Inner.Comparisons.{compared_all}
 use Rattle.simple_asn1.proofs.write.strict.are_canonical.Goals as goal
 
 pub push_all-requires-clause-room : goal.push_all-requires-clause-room
@@ -26,6 +26,6 @@ returns-clause-are c =
     ap (λ z. all_own_octets (measured_blocks z)) c.deref.ensures.value ∙
     all_own_octets-in_order (measured_blocks c.in-Ok.measured.0.items) c.args.blocks.now c.in-Ok.ensures.ordered in
     let whole : Comparison = record { rest = c.args.octets; same = true } in
-    let w = compared-whole whole c.push_all.new.out _ c.push_all.ensures
-    (omega (arith, ap length e, c.in-Ok.ensures.size, c.if-size-octets.false)) refl in
+    let w = compared_all whole c.push_all.new.out _ c.push_all.ensures refl
+    (omega (arith, ap length e, c.in-Ok.ensures.size, c.if-size-octets.false)) in
     (λ h. w.0 h ∙ e, λ h. w.1 (h ∙ sym e))

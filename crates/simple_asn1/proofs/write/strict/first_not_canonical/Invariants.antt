@@ -6,7 +6,7 @@ use Rattle.simple_asn1.specs.Strict.{FirstNotCanonical}
 use Rattle.asn1_blocks.specs.View.{views}
 use Rattle.simple_asn1.proofs.write.strict.first_not_canonical.Given as goal
 
--- the blocks that are left are in the octets from the start on, and decide of all
+-- the octets from the start on encode the blocks that are left, which decide whether all are canonical
 abbrev pub invariant-loop-k : goal.invariant-loop-k
 invariant-loop-k l = record {
   within : l.start ≤ length l.i;
