@@ -9,8 +9,6 @@
 #![tactic(auto)]
 
 mod run;
-#[cfg(test)]
-mod tests;
 
 use crate::run::{RunFault, fault_text, run, status};
 use clap::Command;
