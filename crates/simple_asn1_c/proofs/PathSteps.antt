@@ -1,12 +1,9 @@
 -- Steps from one entry to the next, values one after another, and numbers that fit, for `paths`, `number::int64_of` and
 -- `putting::put_records`.
-use Rattle.std.proofs.Common.{◌≡◌, ℕ, zero, suc, ◌-◌, ◌<◌, ◌≤◌, ◌^◌, ◌++◌, inl, inr, List, [], ◌∷◌, ℤ, pos, negsuc, None, Some, Bool, true, false, drop, get_or, length, map, set, take, refl, sym, ap, ◌∙◌, arith, FitsSigned}
-use Rattle.std.specs.Prelude.{◌↔◌, IsTrue}
-use Rattle.std.specs.Int.{w64}
-use Rattle.std.specs.Int.Digits.{number_from_digits}
-use Rattle.std.proofs.lemmas.Bool.{cases_lt, cond_above, cond_below, le-leb, lt-leb}
-use Rattle.asn1_numbers.specs.TwosComplement.{signed_number}
-use Rattle.asn1_numbers.proofs.SignedNumbers.{magnitude_digits, magnitude_of, signed_number-negative, signed_number-not_negative}
+use Rattle.std.proofs.Common.{◌≡◌, ℕ, zero, suc, ◌-◌, ◌<◌, ◌≤◌, ◌^◌, ◌++◌, inl, inr, List, [], ◌∷◌, ℤ, pos, negsuc, None, Some, drop, get_or, length, map, set, take, refl, sym, ap, ◌∙◌, arith, FitsSigned, OkIff, Result, Ok, Err}
+use Rattle.std.specs.Int.{w64, w128}
+use Rattle.std.specs.Result.{result_ok}
+use Rattle.std.proofs.lemmas.Bool.{cases_lt, cond_above, cond_below}
 use Rattle.asn1_outline.specs.Triple.{entry_at}
 use Rattle.simple_asn1_c.specs.Paths.{fitting, item_from}
 use Rattle.asn1_outline.specs.declared.entry.Entry.{Entry}
@@ -35,34 +32,27 @@ set-next_value f (x ∷ xs) (r ∷ room) zero d h l = refl
 set-next_value f (x ∷ xs) (r ∷ room) (suc k) d h l =
     ap (λ z. f x ∷ z) (set-next_value f xs room k d (omega (arith, h)) (omega (arith, l)))
 
--- the digits of the magnitude, by whether the first bit is set, make the magnitude
-pub number_from_digits-magnitude : (octets : List ℕ) (negative : Bool) → (IsTrue negative ↔ (128 ≤ get_or octets 0 0))
-    → number_from_digits 256 (magnitude_digits negative octets) ≡ magnitude_of octets
-number_from_digits-magnitude octets true is =
-    ap (λ t. number_from_digits 256 (magnitude_digits t octets)) (sym (le-leb 128 (get_or octets 0 0) (is.0 refl)))
-number_from_digits-magnitude octets false is = elim (cases_lt (get_or octets 0 0) 128) [
-  | inl below ↦ ap (λ t. number_from_digits 256 (magnitude_digits t octets))
-      (sym (lt-leb 128 (get_or octets 0 0) below))
-  | inr above ↦ let no : false ≡ true = is.1 above in cc
+-- a number that does not fit is none that fits
+pub fitting-none : (z : ℤ) → (FitsSigned w64 z → ⊥) → None ≡ fitting z
+fitting-none (pos n) not = elim (cases_lt n (2 ^ 63)) [
+  | inl below ↦ absurd (not (record { sfits = below }))
+  | inr above ↦ cond_above n (2 ^ 63) (Some (pos n)) None None above refl
+]
+fitting-none (negsuc n) not = elim (cases_lt n (2 ^ 63)) [
+  | inl below ↦ absurd (not (record { sfits = below }))
+  | inr above ↦ cond_above n (2 ^ 63) (Some (negsuc n)) None None above refl
 ]
 
--- a number whose magnitude is too great does not fit
-pub fitting-none : (octets : List ℕ) → 2 ^ 63 ≤ magnitude_of octets → None ≡ fitting (signed_number octets)
-fitting-none octets large = elim (cases_lt (get_or octets 0 0) 128) [
-  | inl below ↦
-      cond_above (magnitude_of octets) (2 ^ 63) (Some (pos (magnitude_of octets))) None None large refl
-      ∙ ap fitting (sym (signed_number-not_negative octets below))
-  | inr above ↦
-      cond_above (magnitude_of octets) (2 ^ 63) (Some (negsuc (magnitude_of octets))) None None large refl
-      ∙ ap fitting (sym (signed_number-negative octets above))
-]
+-- what a conversion gives of a number is the number, if it fits
+pub fitting-converted : {E : Type 0} (r : Result ℤ E) (z : ℤ) → OkIff r (FitsSigned w64 z) z → result_ok r ≡ fitting z
+fitting-converted (Ok v) (pos n) (fits, is) = ap Some is ∙ cond_below n (2 ^ 63) (Some (pos n)) None fits.sfits
+fitting-converted (Ok v) (negsuc n) (fits, is) = ap Some is ∙ cond_below n (2 ^ 63) (Some (negsuc n)) None fits.sfits
+fitting-converted (Err e) z not = fitting-none z not
 
--- a natural number below 2^63 fits
-pub fitting-natural : (octets : List ℕ) → get_or octets 0 0 < 128 → magnitude_of octets < 2 ^ 63
-    → Some (pos (magnitude_of octets)) ≡ fitting (signed_number octets)
-fitting-natural octets below small =
-    cond_below (magnitude_of octets) (2 ^ 63) (Some (pos (magnitude_of octets))) None small
-    ∙ ap fitting (sym (signed_number-not_negative octets below))
+-- a number that fits into 64 bits fits into 128
+pub FitsSigned-wider : (z : ℤ) → FitsSigned w64 z → FitsSigned w128 z
+FitsSigned-wider (pos n) fits = record { sfits = omega (arith, fits.sfits) }
+FitsSigned-wider (negsuc n) fits = record { sfits = omega (arith, fits.sfits) }
 
 Some-injective : {A : Type 0} {x y : A} → Some x ≡ Some y → x ≡ y
 Some-injective e = cc
