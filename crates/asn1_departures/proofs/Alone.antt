@@ -10,7 +10,8 @@ use Rattle.asn1_headers.proofs.Prefixes.{Encoding-unique, Encoding-not_empty, Is
 use Rattle.asn1_blocks.proofs.Faults.{HeaderFault-not_encoding}
 use Rattle.asn1_blocks.proofs.FaultsAlone.{HeaderFault-unique}
 use Rattle.asn1_der.specs.Der.{IsDer, IsRightAlone}
-use Rattle.asn1_departures.specs.Departures.{AreEncodings, Found, HeaderFaultBehind, IsNext, LengthFound, Lists, ListsInside, NoEncodingsFault, OwnRules, TypeFound, at_front, behind, behind_end_of_contents, broken, encoding_listed, encodings_inside, end_listed, end_of_contents, is_indefinite, is_looked_into, kept, listed, next, no_encodings_inside, no_more, none_left, nothing_inside, own_departures, unended_at_end, unended_behind}
+use Rattle.asn1_departures.specs.Departures.{AreEncodings, Found, HeaderFaultBehind, IsNext, LengthFound, Lists, ListsInside, NoEncodingsFault, OwnRules, TypeFound, at_front, behind, behind_end_of_contents, broken, encoding_listed, encodings_inside, end_listed, end_of_contents, is_looked_into, kept, listed, next, no_encodings_inside, no_more, none_left, nothing_inside, own_departures, unended_at_end, unended_behind}
+use Rattle.asn1_headers.specs.Indefinite.{is_indefinite}
 use Rattle.asn1_departures.specs.Rules.{identifier_rule, type_rule}
 use Rattle.asn1_departures.specs.declared.rule.Departure.{Departure}
 use Rattle.asn1_departures.specs.declared.rule.Rule.{Rule}

@@ -1,20 +1,21 @@
 -- What encodings one after another begin with, an encoding or end-of-contents octets, for `encodings`, `listing` and
 -- `laws::law_departures`.
-use Rattle.std.proofs.Common.{◌≡◌, ℕ, ◌+◌, ◌-◌, ◌<◌, ◌≤◌, ◌^◌, Bool, true, false, List, [], ◌∷◌, ◌++◌, drop, take, inl, inr, length, refl, sym, ap, ◌∙◌, subst, arith, append_assoc, length-append}
+use Rattle.std.proofs.Common.{◌≡◌, ℕ, ◌+◌, ◌-◌, ◌<◌, ◌≤◌, ◌^◌, Bool, true, false, List, [], ◌∷◌, ◌++◌, drop, inl, inr, length, refl, sym, ap, ◌∙◌, subst, arith, append_assoc, length-append}
 use Rattle.std.proofs.lemmas.Bool.{cases_lt, cond_below}
-use Rattle.std.proofs.lemmas.List.{take-append-drop}
 use Rattle.std.specs.Prelude.{◌&&◌, nat_lt, suc, if◌then◌else◌}
 use Rattle.std.specs.Int.Digits.{digits_of}
 use Rattle.std.proofs.lemmas.Int.Digits.{length-digits_of_step}
-use Rattle.asn1_headers.specs.Header.{Encoding, IsLength, IsSomeIdentifier, shortest_length}
+use Rattle.asn1_headers.specs.Header.{Encoding, IsLength, shortest_length}
 use Rattle.asn1_headers.specs.declared.header.ASN1Class.{ASN1Class}
 use Rattle.asn1_headers.specs.declared.header.ASN1Class.TheVariants.{Universal}
 use Rattle.asn1_headers.proofs.Prefixes.{Encoding-unique, Encoding-not_empty, IsIdentifier-unique, IsLength-unique}
+use Rattle.asn1_headers.proofs.IndefiniteForms.{begins_with_end-cons}
 use Rattle.asn1_der.specs.Der.{AreDerEncodings, more_encodings, no_encodings}
 use Rattle.asn1_der.proofs.Encodings.{IsLengthShortest-der}
 use Rattle.asn1_blocks.specs.Places.{HasNoEncodingAt, IsEncoding}
-use Rattle.asn1_departures.specs.Steps.{IsStep, begins_with_end, is_at_end}
-use Rattle.asn1_departures.specs.Departures.{AreEncodings, IsNext, end_of_contents, is_indefinite, is_open, next, no_more, unended_behind}
+use Rattle.asn1_departures.specs.Steps.{IsStep, is_at_end}
+use Rattle.asn1_departures.specs.Departures.{AreEncodings, IsNext, end_of_contents, is_open, next, no_more, unended_behind}
+use Rattle.asn1_headers.specs.Indefinite.{begins_with_end, is_indefinite}
 
 -- whether length octets are of the indefinite form does not depend on what is behind them
 pub is_indefinite-append : (len v : List ℕ) (n : ℕ) → IsLength len n → is_indefinite (len ++ v) ≡ is_indefinite len
@@ -153,25 +154,6 @@ AreDerEncodings-are_encodings x items small (more_encodings {first = f} {rest = 
     (sym (unended_behind-definite 0 s.found.constructed s.found.encoding.len definite))
     (AreDerEncodings-are_encodings r is (omega (arith, small, size)) ds))
 
--- identifier octets that are found at the front of octets are those that the octets begin with
-pub IsSomeIdentifier-front :
-    (octets identifier behind : List ℕ) (tag number size : ℕ) → IsSomeIdentifier identifier tag →
-    octets ≡ identifier ++ behind →
-    IsSomeIdentifier (take size octets) number → (take size octets ≡ identifier) × (drop size octets ≡ behind)
-IsSomeIdentifier-front octets identifier behind tag number size (c, k, is) whole (d, j, found) =
-    let same = IsIdentifier-unique (take size octets) identifier (drop size octets) behind d c j k number tag found is
-    (take-append-drop size octets ∙ whole) in
-    (same.octets, same.rest)
-
--- octets that begin with end-of-contents octets are these and what is behind them
-pub begins_with_end-octets : (x : List ℕ) → begins_with_end x ≡ true → x ≡ 0 ∷ 0 ∷ drop 2 x
-begins_with_end-octets [] t = absurd cc
-begins_with_end-octets (a ∷ []) t = absurd cc
-begins_with_end-octets (a ∷ b ∷ rest) t =
-    let first : a ≡ 0 = grind (arith, t) in
-    let second : b ≡ 0 = grind (arith, t) in
-    ap (λ z. z ∷ b ∷ rest) first ∙ ap (λ z. 0 ∷ z ∷ rest) second
-
 pub is_at_end-parts : (u : ℕ) (x : List ℕ) → is_at_end u x ≡ true → (0 < u) × (begins_with_end x ≡ true)
 is_at_end-parts u x t = (grind (arith, t), second (nat_lt 0 u) (begins_with_end x) t)
   where
@@ -196,7 +178,7 @@ is_at_end-none_in_front u x first rest w t some is =
 pub IsStep-end : (u : ℕ) (x behind : List ℕ) → is_at_end u x ≡ true → behind ≡ drop 2 x → IsStep u x (u - 1) behind
 IsStep-end u x behind t is =
     let (some, front) = is_at_end-parts u x t in
-    let whole : x ≡ 0 ∷ 0 ∷ behind = begins_with_end-octets x front ∙ ap (λ z. 0 ∷ 0 ∷ z) (sym is) in
+    let whole : x ≡ 0 ∷ 0 ∷ behind = begins_with_end-cons x front ∙ ap (λ z. 0 ∷ 0 ∷ z) (sym is) in
     record {
       same = (
         λ a. AreEncodings-behind_end u (u - 1) x behind (omega (arith, some)) whole a,

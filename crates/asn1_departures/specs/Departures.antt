@@ -1,6 +1,6 @@
 -- Which departures from DER octets have. Encodings are those of BER (X.690 8.1.1.1): of the definite form, or of the
 -- indefinite one (8.1.3.6), whose contents octets are followed to their end-of-contents octets 00 00 (8.1.5).
-use Rattle.std.specs.Prelude.{◌≡◌, ◌≢◌, ◌==◌, ◌&&◌, ◌⊎◌, ◌++◌, ℕ, suc, ◌+◌, ◌<◌, Bool, true, false, not, if◌then◌else◌, MatchBool}
+use Rattle.std.specs.Prelude.{◌≡◌, ◌≢◌, ◌&&◌, ◌⊎◌, ◌++◌, ℕ, suc, ◌+◌, ◌<◌, Bool, true, false, not, if◌then◌else◌, MatchBool}
 use Rattle.std.specs.Prelude.{Option, None, Some, List, [], ◌∷◌, length}
 use Rattle.std.specs.Option.{option_to_list}
 use Rattle.asn1_headers.specs.declared.header.ASN1Class.{ASN1Class}
@@ -8,16 +8,12 @@ use Rattle.asn1_headers.specs.declared.header.ASN1Class.TheVariants.{Universal}
 use Rattle.asn1_headers.specs.Fault.{DecodeFault, empty_buffer, incomplete}
 use Rattle.asn1_headers.specs.Header.{Encoding, shortest_identifier, shortest_length}
 use Rattle.asn1_headers.specs.HeaderFault.{HeaderFault}
+use Rattle.asn1_headers.specs.Indefinite.{is_indefinite}
 use Rattle.asn1_der.specs.Der.{IsRightAlone}
 use Rattle.asn1_departures.specs.Rules.{form_rule, identifier_rule, type_rule}
 use Rattle.asn1_departures.specs.declared.rule.Departure.{Departure}
 use Rattle.asn1_departures.specs.declared.rule.Rule.{Rule}
 use Rattle.asn1_departures.specs.declared.rule.Rule.TheVariants.{IndefiniteLength, LongLength, NotEncodings}
-
--- length octets of the indefinite form: the octet 80
-abbrev pub is_indefinite : List ℕ → Bool
-is_indefinite [] = false
-is_indefinite (first ∷ more) = first == 128
 
 -- an encoding that is open behind its header, up to its end-of-contents octets: a constructed one of the indefinite
 -- form. A primitive one has to be definite (8.1.3.2); nothing tells where it ends, and it has no contents octets here

@@ -1,29 +1,19 @@
 // Encodings one after another by their headers.
-ghost use Rattle.std.specs.Prelude.{◌≡◌, ◌↔◌, false, ◌++◌, ◌-◌, ◌≤◌, ◌<◌, ◌+◌, ◌^◌, Bool, List, ℕ, suc, if◌then◌else◌, IfErr, IfOk, IfNone, IfSome, IsTrue, length};
+ghost use Rattle.std.specs.Prelude.{◌≡◌, ◌↔◌, false, ◌-◌, ◌≤◌, ◌<◌, ◌+◌, ◌^◌, Bool, ℕ, suc, if◌then◌else◌, IfErr, IfOk, IfNone, IfSome, IsTrue, length};
 ghost use Rattle.asn1_headers.specs.Fault.{OutOfMemoryOr};
-ghost use Rattle.asn1_headers.specs.Header.{IsIdentifier, IsSomeIdentifier};
+ghost use Rattle.asn1_headers.specs.Header.{IsIdentifier};
 ghost use Rattle.asn1_headers.specs.declared.header.ASN1Class.{ASN1Class};
 ghost use Rattle.asn1_blocks.specs.Places.{HeaderFound, IsEncoding};
 ghost use Rattle.asn1_der.specs.Steps.{IsHeaderOf};
-ghost use Rattle.asn1_departures.specs.Departures.{AreEncodings, HeaderFaultBehind, NoEncodingsFault, is_indefinite as is_indefinite_is, is_open as is_open_is};
-ghost use Rattle.asn1_departures.specs.Steps.{IsParted, IsPassed, IsStep, begins_with_end as begins_with_end_is, is_at_end as is_at_end_is, rest_of};
+ghost use Rattle.asn1_departures.specs.Departures.{AreEncodings, HeaderFaultBehind, NoEncodingsFault, is_open as is_open_is};
+ghost use Rattle.asn1_departures.specs.Steps.{IsParted, IsPassed, IsStep, is_at_end as is_at_end_is, rest_of};
 
 use asn1_blocks::encoding::encoding_at;
 use asn1_blocks::parsed::{PlacedHeader, header_within};
 use asn1_headers::error::{ASN1DecodeErr, LocatedErr};
-use asn1_headers::header::{HeaderCount, identifier_at};
+use asn1_headers::header::{HeaderCount, split_identifier};
+use asn1_headers::indefinite::{begins_with_end, is_indefinite};
 use std::alloc::Global;
-
-// Identifier octets at the front, and what is behind them; nothing where there are none.
-pub fn split_identifier(octets: &[u8]) -> (&[u8], &[u8])
-    ensures { (identifier behind : List ℕ) (tag : ℕ) → IsSomeIdentifier identifier tag →
-        octets.now ≡ identifier ++ behind → (result.0.now ≡ identifier) × (result.1.now ≡ behind) }
-{
-    match identifier_at(octets) {
-        Some(size) => octets.split_at(size),
-        None => (&[], &[]),
-    }
-}
 
 // Identifier octets and length octets that are a header.
 pub fn split_header<'a>(front: &'a [u8], header: &PlacedHeader) -> (&'a [u8], &'a [u8])
@@ -34,20 +24,6 @@ pub fn split_header<'a>(front: &'a [u8], header: &PlacedHeader) -> (&'a [u8], &'
         (header.now.end - header.now.start) }
 {
     split_identifier(front)
-}
-
-// Whether the first length octet is that of the indefinite form.
-pub fn is_indefinite(len: &[u8]) -> bool
-    ensures { result ≡ is_indefinite_is len.now }
-{
-    matches!(len, [0x80, ..])
-}
-
-// Whether end-of-contents octets stand at the front.
-fn begins_with_end(octets: &[u8]) -> bool
-    ensures { result ≡ begins_with_end_is octets.now }
-{
-    matches!(octets, [0, 0, ..])
 }
 
 // Whether end-of-contents octets of an encoding that is open stand at the front.

@@ -1,5 +1,5 @@
 // What one encoding breaks by itself.
-ghost use Rattle.std.specs.Prelude.{◌≡◌, ◌↔◌, ◌++◌, ◌-◌, true, false, IfOk, IsTrue, nat_lt};
+ghost use Rattle.std.specs.Prelude.{◌≡◌, ◌↔◌, ◌++◌, true, false, IfOk, IsTrue, nat_lt};
 ghost use Rattle.asn1_headers.specs.declared.header.ASN1Class.TheVariants.{Universal};
 ghost use Rattle.asn1_headers.specs.Header.{shortest_identifier, shortest_length};
 ghost use Rattle.asn1_der.specs.Der.{IsRightAlone};
@@ -8,7 +8,6 @@ ghost use Rattle.asn1_departures.specs.Rules.{bits_rule as bits_rule_is, content
 ghost use Rattle.asn1_departures.specs.Rules.{form_rule as form_rule_is, identifier_rule, is_string as is_string_is};
 ghost use Rattle.asn1_departures.specs.Rules.{real_rule as real_rule_is, type_rule as type_rule_is};
 
-use crate::encodings::is_indefinite;
 use crate::rule::{Departure, Rule};
 use asn1_blocks::parsed::PlacedHeader;
 use asn1_der::contents::has_der_contents;
@@ -16,6 +15,7 @@ use asn1_der::header_rules::{is_constructed_type, is_reserved};
 use asn1_der::is_der;
 use asn1_der::order::is_in_order;
 use asn1_headers::header::{ASN1Class, identifier_size, length_size, push_identifier, push_length};
+use asn1_headers::indefinite::is_indefinite;
 use asn1_headers::tags::{
     BIT_STRING, BMP_STRING, BOOLEAN, DATE, DURATION, ENUMERATED, GENERALIZED_TIME, INTEGER, NULL,
     NUMERIC_STRING, OBJECT_DESCRIPTOR, OBJECT_IDENTIFIER, OCTET_STRING, OID_IRI, REAL,

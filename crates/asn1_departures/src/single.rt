@@ -6,10 +6,12 @@ ghost use Rattle.asn1_departures.specs.Departures.{AreBroken, AreEncodings, Foun
 ghost use Rattle.asn1_departures.specs.Departures.{is_looked_into as is_looked_into_is};
 ghost use Rattle.asn1_departures.specs.declared.rule.Rule.TheVariants.{NotEncodings};
 
-use crate::encodings::{are_encodings, is_indefinite, split_identifier};
+use crate::encodings::are_encodings;
 use crate::own::{identifier_found, length_found, type_found};
 use crate::rule::Rule;
 use asn1_blocks::parsed::PlacedHeader;
+use asn1_headers::header::split_identifier;
+use asn1_headers::indefinite::is_indefinite;
 use asn1_headers::whole_header::Header;
 use std::alloc::{AllocError, Global};
 

@@ -4,8 +4,8 @@ use Rattle.std.specs.Int.Digits.{number_from_digits}
 use Rattle.asn1_headers.specs.declared.header.ASN1Class.{ASN1Class}
 use Rattle.asn1_headers.specs.declared.header.ASN1Class.TheVariants.{Universal, Application, ContextSpecific, Private}
 use Rattle.asn1_numbers.specs.Base128.{IsBase128, IsContinued, low_bits_number}
-use Rattle.asn1_headers.specs.Header.{IsIdentifier, IsLength, Encoding, class_number, constructed_bit, leading_octet}
-use Rattle.std.proofs.lemmas.List.{drop_at, take_at}
+use Rattle.asn1_headers.specs.Header.{IsIdentifier, IsLength, IsSomeIdentifier, Encoding, class_number, constructed_bit, leading_octet}
+use Rattle.std.proofs.lemmas.List.{drop_at, take-append-drop, take_at}
 
 -- identifier octets are not empty
 pub IsIdentifier-not_empty : (s : List ℕ) (c : ASN1Class) (k : Bool) (n : ℕ) → IsIdentifier s c k n → 0 < length s
@@ -210,3 +210,13 @@ Encoding-unique xs ys c d j k m n v w g h r q F G e =
   where
     regroup : (a b c d : List ℕ) → (a ++ (b ++ c)) ++ d ≡ a ++ (b ++ (c ++ d))
     regroup a b c d = simp append_assoc
+
+-- identifier octets that are found at the front of octets are those that the octets begin with
+pub IsSomeIdentifier-front :
+    (octets identifier behind : List ℕ) (tag number size : ℕ) → IsSomeIdentifier identifier tag →
+    octets ≡ identifier ++ behind →
+    IsSomeIdentifier (take size octets) number → (take size octets ≡ identifier) × (drop size octets ≡ behind)
+IsSomeIdentifier-front octets identifier behind tag number size (c, k, is) whole (d, j, found) =
+    let same = IsIdentifier-unique (take size octets) identifier (drop size octets) behind d c j k number tag found is
+    (take-append-drop size octets ∙ whole) in
+    (same.octets, same.rest)

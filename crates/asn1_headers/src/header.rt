@@ -1,7 +1,7 @@
 // Identifier and length octets, each way.
 //
 // Each decoder is a function from a slice to the value and how many octets it took, with a wrapper that moves an index.
-ghost use Rattle.std.specs.Prelude.{◌≡◌, ℕ, ◌+◌, ◌*◌, ◌/◌, ◌<◌, ◌≤◌, ◌^◌, length, drop, take, IfOk, OnOk, OnErr, slice_index, slice_range, IsOk, IfErr, IfSome, IfNone};
+ghost use Rattle.std.specs.Prelude.{◌≡◌, ℕ, ◌+◌, ◌*◌, ◌/◌, ◌<◌, ◌≤◌, ◌^◌, ◌++◌, List, length, drop, take, IfOk, OnOk, OnErr, slice_index, slice_range, IsOk, IfErr, IfSome, IfNone};
 ghost use Rattle.std.specs.Int.Digits.{number_from_digits, digits_of};
 ghost use Rattle.asn1_numbers.specs.Base128.{IsBase128, shortest_base128};
 ghost use Rattle.asn1_headers.specs.Fault.{OutOfMemoryOr, fault_of};
@@ -322,6 +322,17 @@ pub fn identifier_at(octets: &[u8]) -> Option<usize>
         return None;
     };
     Some(last + 2)
+}
+
+// Identifier octets at the front, and what stands behind them; nothing where there are none.
+pub fn split_identifier(octets: &[u8]) -> (&[u8], &[u8])
+    ensures { (identifier behind : List ℕ) (tag : ℕ) → IsSomeIdentifier identifier tag →
+        octets.now ≡ identifier ++ behind → (result.0.now ≡ identifier) × (result.1.now ≡ behind) }
+{
+    match identifier_at(octets) {
+        Some(size) => octets.split_at(size),
+        None => (&[], &[]),
+    }
 }
 
 // The class of a leading octet.

@@ -3,6 +3,7 @@
 //!
 //! - [`header`]: identifier octets and length octets, read, sized and pushed; the classes; the count of headers;
 //! - [`whole_header`]: the whole header at the front of octets, in one value;
+//! - [`indefinite`]: the indefinite form of BER: its length octet and its end-of-contents octets;
 //! - [`tags`]: the numbers of the tags of class Universal;
 //! - [`types`]: the names of types;
 //! - [`error`]: why octets were not read, why a block was not written.
@@ -15,6 +16,7 @@
 
 pub mod error;
 pub mod header;
+pub mod indefinite;
 pub mod tags;
 pub mod types;
 pub mod whole_header;

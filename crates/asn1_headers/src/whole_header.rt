@@ -7,6 +7,7 @@ ghost use Rattle.asn1_headers.specs.HeaderFault.{HeaderFault};
 
 use crate::error::ASN1DecodeErr;
 use crate::header::{ASN1Class, HeaderCount, decode_tag, length_at};
+use crate::indefinite::is_indefinite;
 use asn1_numbers::number::big_uint::BigUint;
 use std::alloc::Global;
 
@@ -97,12 +98,6 @@ fn header_at(alloc: Global, octets: &[u8], count: &mut HeaderCount) -> Result<He
         tag,
         size: identifier + length,
         announced,
-        is_indefinite: constructed && begins_with_80(behind),
+        is_indefinite: constructed && is_indefinite(behind),
     })
-}
-
-fn begins_with_80(octets: &[u8]) -> bool
-    ensures { IsTrue result ↔ ((rest : List ℕ) × (octets.now ≡ 128 ∷ rest)) }
-{
-    matches!(octets, [0x80, ..])
 }

@@ -1,32 +1,20 @@
 -- Elements of the definite and of the indefinite form, for `element`.
 use Rattle.std.proofs.Common.{◌≡◌, ℕ, zero, suc, ◌+◌, ◌-◌, ◌<◌, ◌≤◌, min, Bool, Bor, true, false, List, [], ◌∷◌, ◌++◌, inr}
-use Rattle.std.proofs.Common.{drop, length, take, refl, sym, ap, ◌∙◌, subst, append_assoc, length-append, eqb-true, arith}
-use Rattle.std.proofs.lemmas.Bool.{and_parts}
+use Rattle.std.proofs.Common.{drop, length, take, refl, sym, ap, ◌∙◌, subst, append_assoc, length-append, arith}
 use Rattle.std.proofs.lemmas.List.{take-append-drop}
-use Rattle.std.specs.Prelude.{◌↔◌, ◌==◌, not, IfNone, IfSome, MatchOption, None, Option, Some}
+use Rattle.std.specs.Prelude.{◌↔◌, not, IfNone, IfSome, MatchOption, None, Option, Some}
+use Rattle.asn1_headers.proofs.IndefiniteForms.{begins_with_end-cons}
 use Rattle.asn1_headers.proofs.Prefixes.{Encoding-unique, IsIdentifier-unique, IsIdentifier-not_empty, IsLength-unique}
 use Rattle.asn1_headers.specs.Front.{BeginsWithHeader, HasIndefiniteForm, HasNoHeader}
 use Rattle.asn1_headers.specs.Header.{IsLength}
 use Rattle.asn1_headers.specs.declared.header.ASN1Class.{ASN1Class}
 use Rattle.asn1_blocks.specs.Places.{EncodingAt, HasNoEncodingAt, IsEncoding}
-use Rattle.der_elements.specs.Ends.{begins_with_end}
+use Rattle.asn1_headers.specs.Indefinite.{begins_with_end}
 use Rattle.der_elements.specs.Elements.{ElementAt, HasContents, HasNoContents, HasNoElement, IsElement}
 use Rattle.der_elements.specs.Elements.{StandsBehindIndefinite, end_octets, no_more, of_definite_form, of_definite_length}
 use Rattle.der_elements.specs.Elements.{of_indefinite_form, of_indefinite_length, one_more}
 use Rattle.der_elements.specs.SeekSteps.{Closes}
 use Rattle.asn1_blocks.proofs.EncodingSizes.{IsEncoding-two_le, EncodingAt-append}
-
--- octets that begin with end-of-contents octets are two octets 0 and what stands behind them
-pub begins_with_end-cons : (xs : List ℕ) → begins_with_end xs ≡ true → xs ≡ 0 ∷ 0 ∷ drop 2 xs
-begins_with_end-cons [] e =
-    let never : false ≡ true = e in
-    absurd (cc never)
-begins_with_end-cons (a ∷ []) e =
-    let never : false ≡ true = e in
-    absurd (cc never)
-begins_with_end-cons (a ∷ b ∷ xs) e =
-    let (first, next) = and_parts (a == 0) (b == 0) e in
-    ap (λ z. z ∷ b ∷ xs) (eqb-true a 0 first) ∙ ap (λ z. 0 ∷ z ∷ xs) (eqb-true b 0 next)
 
 begins_with_end-not_cons : (xs ys : List ℕ) → begins_with_end xs ≡ false → xs ≡ 0 ∷ 0 ∷ ys → ⊥
 begins_with_end-not_cons xs ys e is =

@@ -9,11 +9,12 @@ use Rattle.asn1_headers.specs.declared.header.ASN1Class.TheVariants.{Universal}
 use Rattle.asn1_headers.proofs.Prefixes.{Encoding-unique, IsIdentifier-unique, IsLength-unique, IsIdentifier-not_empty}
 use Rattle.asn1_blocks.specs.Places.{EncodingAt, HasNoEncodingAt, IsEncoding}
 use Rattle.asn1_headers.specs.Front.{BeginsWithHeader, HasIndefiniteForm, HasNoHeader}
-use Rattle.der_elements.specs.Ends.{begins_with_end}
+use Rattle.asn1_headers.specs.Indefinite.{begins_with_end}
 use Rattle.der_elements.specs.Headers.{is_stray_form}
 use Rattle.der_elements.specs.Elements.{ElementAt, HasNoElement}
 use Rattle.der_elements.specs.Headers.{is_gone_into}
-use Rattle.der_elements.proofs.Elements.{HasNoElement-nil, HasNoElement-no_header, begins_with_end-cons}
+use Rattle.der_elements.proofs.Elements.{HasNoElement-nil, HasNoElement-no_header}
+use Rattle.asn1_headers.proofs.IndefiniteForms.{begins_with_end-cons}
 use Rattle.der_elements.specs.Seek.{AreEncodings, BeginsAt, HasNoBlockAt, Holds, LacksBlock, LeadsTo, Reaches, behind_element}
 use Rattle.der_elements.specs.Seek.{behind_end, behind_indefinite, ends_contents, holds_bits, holds_blocks, holds_octets}
 use Rattle.der_elements.specs.Seek.{inside_element, is_further, is_here, none_left, one_first}

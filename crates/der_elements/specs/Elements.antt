@@ -4,7 +4,7 @@ use Rattle.asn1_headers.specs.Front.{HasIndefiniteForm}
 use Rattle.asn1_headers.specs.Header.{IsIdentifier}
 use Rattle.asn1_headers.specs.declared.header.ASN1Class.{ASN1Class}
 use Rattle.asn1_blocks.specs.Places.{IsEncoding}
-use Rattle.der_elements.specs.Ends.{begins_with_end}
+use Rattle.asn1_headers.specs.Indefinite.{begins_with_end}
 use Rattle.der_elements.specs.Headers.{StandsBehindHeader}
 
 -- end-of-contents octets (X.690 8.1.5)

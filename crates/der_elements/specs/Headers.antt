@@ -4,7 +4,7 @@ use Rattle.asn1_headers.specs.declared.tags.TheConstants.{SEQUENCE, SET}
 use Rattle.asn1_headers.specs.Front.{IsHeader}
 use Rattle.asn1_headers.specs.declared.header.ASN1Class.{ASN1Class}
 use Rattle.asn1_headers.specs.declared.header.ASN1Class.TheVariants.{Universal}
-use Rattle.der_elements.specs.LengthForm.{has_indefinite_length}
+use Rattle.asn1_headers.specs.Indefinite.{is_indefinite}
 
 -- the octets are a header, and then these
 abbrev pub StandsBehindHeader : List ℕ → List ℕ → Type 0
@@ -19,4 +19,4 @@ is_gone_into class false tag = false
 -- a primitive encoding has length octets of the indefinite form, which only a constructed one may have (X.690 8.1.3.2).
 -- Such length octets are read as a length of 0. The octets are those behind the identifier octets
 abbrev pub is_stray_form : Bool → List ℕ → Bool
-is_stray_form constructed behind = not constructed && has_indefinite_length behind
+is_stray_form constructed behind = not constructed && is_indefinite behind

@@ -1,5 +1,4 @@
 pub mod Headers
-pub mod LengthForm
 pub mod Ends
 pub mod Elements
 pub mod Seek

@@ -5,7 +5,7 @@ use Rattle.asn1_headers.specs.declared.header.ASN1Class.{ASN1Class}
 use Rattle.asn1_headers.specs.declared.header.ASN1Class.TheVariants.{Universal}
 use Rattle.asn1_blocks.specs.Places.{IsEncoding}
 use Rattle.asn1_headers.specs.Front.{BeginsWithHeader, HasIndefiniteForm, HasNoHeader}
-use Rattle.der_elements.specs.Ends.{begins_with_end}
+use Rattle.asn1_headers.specs.Indefinite.{begins_with_end}
 use Rattle.der_elements.specs.Elements.{ElementAt, HasNoElement}
 use Rattle.der_elements.specs.Headers.{is_gone_into}
 use Rattle.der_elements.specs.declared.seek.NoBlock.{NoBlock}

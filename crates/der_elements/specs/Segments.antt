@@ -4,7 +4,8 @@ use Rattle.std.specs.Prelude.{◌++◌, drop, length, slice_range}
 use Rattle.asn1_headers.specs.declared.tags.TheConstants.{BIT_STRING, OCTET_STRING}
 use Rattle.asn1_headers.specs.Front.{BeginsWithHeader, HasIndefiniteForm}
 use Rattle.asn1_headers.specs.declared.header.ASN1Class.TheVariants.{Universal}
-use Rattle.der_elements.specs.Ends.{begins_with_end, end_at, taken}
+use Rattle.der_elements.specs.Ends.{end_at, taken}
+use Rattle.asn1_headers.specs.Indefinite.{begins_with_end}
 use Rattle.der_elements.specs.Headers.{is_stray_form}
 use Rattle.der_elements.specs.declared.cursor.End.{End}
 

@@ -2,7 +2,8 @@
 use Rattle.std.specs.Prelude.{◌≡◌, ◌&&◌, ℕ, ◌+◌, ◌<◌, Bool, true, false, List, [], ◌∷◌, drop, length, ⊤, ◌↔◌, ◌≤◌, ◌*◌, ◌-◌, IsTrue, reverse, slice_range}
 use Rattle.asn1_headers.specs.declared.header.ASN1Class.{ASN1Class}
 use Rattle.asn1_headers.specs.declared.header.ASN1Class.TheVariants.{Universal}
-use Rattle.der_elements.specs.Ends.{begins_with_end, end_at, taken}
+use Rattle.der_elements.specs.Ends.{end_at, taken}
+use Rattle.asn1_headers.specs.Indefinite.{begins_with_end}
 use Rattle.der_elements.specs.Headers.{is_stray_form, is_gone_into}
 use Rattle.asn1_headers.specs.Front.{BeginsWithHeader, HasIndefiniteForm}
 use Rattle.der_elements.specs.Segments.{Joins, segment_tag}

@@ -1,10 +1,12 @@
 // Going over the headers of octets: which encoding comes next, and inside which contents octets.
 ghost use Rattle.std.specs.Prelude.{◌≡◌, ◌&&◌, ◌-◌, ◌∷◌, [], List, IfNone, IfOk, IfSome, OnOk, drop, length, slice_range};
 ghost use Rattle.der_elements.specs.declared.cursor.End.{End};
-ghost use Rattle.der_elements.specs.Ends.{begins_with_end as begins_with_end_is, end_at};
+ghost use Rattle.der_elements.specs.Ends.{end_at};
+ghost use Rattle.asn1_headers.specs.Indefinite.{begins_with_end as begins_with_end_is};
 ghost use Rattle.der_elements.specs.Steps.{Goes, HasLeft, IsLeftOf, ends_of};
 
 use crate::sum::checked_sum;
+use asn1_headers::indefinite::begins_with_end;
 use std::alloc::{AllocError, Global};
 
 // Where contents octets end: at the offset, if end-of-contents octets do not end them before.
@@ -28,10 +30,7 @@ impl<'a> Left<'a> {
     pub fn begins_with_end(self) -> bool
         ensures { result ≡ (self.entry.is_indefinite && begins_with_end_is self.entry.octets.now) }
     {
-        match self.octets {
-            [first, next, ..] => self.is_indefinite && *first == 0 && *next == 0,
-            _ => false,
-        }
+        self.is_indefinite && begins_with_end(self.octets)
     }
 }
 

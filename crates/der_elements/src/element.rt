@@ -1,13 +1,13 @@
 // Elements by their headers, those with a length of the indefinite form of BER among them.
 ghost use Rattle.std.specs.Prelude.{◌≡◌, ◌↔◌, ◌++◌, ◌<◌, List, ℕ, IfOk, IfSome, MatchOption, length};
 ghost use Rattle.asn1_headers.specs.Front.{HasIndefiniteForm};
-ghost use Rattle.der_elements.specs.Ends.{begins_with_end as begins_with_end_is};
 ghost use Rattle.der_elements.specs.Elements.{ElementAt, HasContents, HasNoContents, HasNoElement, StandsBehindIndefinite, end_octets};
 ghost use Rattle.der_elements.specs.SeekSteps.{Closes};
 
 use crate::header::find_header;
 use crate::sum::checked_sum;
 use asn1_blocks::encoding::encoding_at;
+use asn1_headers::indefinite::begins_with_end;
 use std::alloc::{AllocError, Global};
 
 /// The contents octets of an element: those behind its header, without the end-of-contents octets of the indefinite
@@ -124,14 +124,4 @@ fn behind_indefinite(alloc: Global, octets: &[u8]) -> Result<Option<&[u8]>, Allo
     }
     let (_, behind) = octets.split_at(header.size);
     Ok(Some(behind))
-}
-
-// Whether octets begin with end-of-contents octets.
-pub fn begins_with_end(octets: &[u8]) -> bool
-    ensures { result ≡ begins_with_end_is octets.now }
-{
-    match octets {
-        [first, next, ..] => *first == 0 && *next == 0,
-        _ => false,
-    }
 }

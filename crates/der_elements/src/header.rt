@@ -1,7 +1,6 @@
 // The headers of encodings, by their octets.
-ghost use Rattle.std.specs.Prelude.{◌≡◌, ◌↔◌, ◌==◌, ◌+◌, ◌≤◌, IfNone, IfOk, IfSome, IsTrue, MatchOption, ◌++◌, List, ℕ, drop, false, length};
-ghost use Rattle.asn1_headers.specs.Header.{IsSomeIdentifier};
-ghost use Rattle.der_elements.specs.LengthForm.{has_indefinite_length as has_indefinite_length_is};
+ghost use Rattle.std.specs.Prelude.{◌≡◌, ◌↔◌, ◌==◌, ◌+◌, ◌≤◌, IfNone, IfOk, IfSome, IsTrue, MatchOption, drop, false, length};
+ghost use Rattle.asn1_headers.specs.Indefinite.{is_indefinite};
 ghost use Rattle.asn1_headers.specs.declared.header.ASN1Class.TheVariants.{Universal};
 ghost use Rattle.asn1_headers.specs.Front.{HasIndefiniteForm, HasNoHeader, IsAtFront};
 ghost use Rattle.der_elements.specs.Headers.{is_stray_form, is_gone_into};
@@ -10,7 +9,8 @@ ghost use Rattle.der_elements.specs.Steps.{HasNoWhole, IsTaken};
 
 use crate::cursor::Step;
 use asn1_headers::error::ASN1DecodeErr;
-use asn1_headers::header::{ASN1Class, HeaderCount, identifier_at};
+use asn1_headers::header::{ASN1Class, HeaderCount, split_identifier};
+use asn1_headers::indefinite::is_indefinite;
 use asn1_headers::tags::{SEQUENCE, SET};
 use asn1_headers::whole_header::{Header, read_header};
 use asn1_numbers::number::big_uint::BigUint;
@@ -89,34 +89,15 @@ pub fn has_stray_form(octets: &[u8], header: &Header) -> bool
     is_indefinite && !header.constructed
 }
 
-// What stands behind identifier octets at the front; nothing where there are none.
-fn behind_identifier(octets: &[u8]) -> &[u8]
-    ensures { (identifier behind : List ℕ) (tag : ℕ) → IsSomeIdentifier identifier tag →
-        octets.now ≡ identifier ++ behind → result.now ≡ behind }
-{
-    match identifier_at(octets) {
-        Some(size) => octets.split_at(size).1,
-        None => &[],
-    }
-}
-
 // Whether the length at the front has the indefinite form, also where the encoding is primitive, whose length has to be
 // definite.
 fn has_indefinite_length(octets: &[u8], _header: &Header) -> bool
     requires { IsAtFront octets.now _header.now }
     ensures { (front : IsAtFront octets.now _header.now) →
-        result ≡ has_indefinite_length_is (drop (length front.identifier) octets.now) }
+        result ≡ is_indefinite (drop (length front.identifier) octets.now) }
 {
-    is_indefinite_length(behind_identifier(octets))
-}
-
-fn is_indefinite_length(behind: &[u8]) -> bool
-    ensures { result ≡ has_indefinite_length_is behind.now }
-{
-    match behind {
-        [first, ..] => *first == 128,
-        [] => false,
-    }
+    let (_, behind) = split_identifier(octets);
+    is_indefinite(behind)
 }
 
 // The header of an encoding that is whole, where one begins the octets. Of the indefinite form it may be cut short.

@@ -5,11 +5,12 @@ ghost use Rattle.der_elements.specs.Seek.{AreEncodings, BeginsAt, HasNoBlockAt, 
 ghost use Rattle.der_elements.specs.SeekSteps.{IsWhy, LeadsNowhere, LeadsOn, StandsThere};
 ghost use Rattle.asn1_headers.specs.declared.header.ASN1Class.TheVariants.{Universal};
 
-use crate::element::{begins_with_end, element_at};
+use crate::element::element_at;
 use crate::header::{find_header, has_tag, holds_encodings};
 use crate::sum::checked_sum;
 use asn1_blocks::encoding::encoding_at;
 use asn1_headers::header::ASN1Class;
+use asn1_headers::indefinite::begins_with_end;
 use asn1_headers::tags::{BIT_STRING, OCTET_STRING};
 use asn1_headers::whole_header::Header;
 use std::alloc::{AllocError, Global};

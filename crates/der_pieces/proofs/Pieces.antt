@@ -10,7 +10,8 @@ use Rattle.asn1_headers.specs.Header.{Encoding, IsLength}
 use Rattle.asn1_headers.specs.declared.whole_header.Header.{Header}
 use Rattle.asn1_headers.specs.declared.header.ASN1Class.{ASN1Class}
 use Rattle.der_pieces.specs.Fronts.{HasMeaning, IsFirst, IsJudged, Meaning, cut_short, of_cut, of_stray_form, of_whole, with_encodings, with_no_value, with_value, Front}
-use Rattle.der_elements.specs.Ends.{begins_with_end, taken}
+use Rattle.der_elements.specs.Ends.{taken}
+use Rattle.asn1_headers.specs.Indefinite.{begins_with_end}
 use Rattle.der_elements.specs.Headers.{is_stray_form, is_gone_into}
 use Rattle.der_elements.specs.Segments.{AreSegmentsOf}
 use Rattle.asn1_headers.specs.declared.header.ASN1Class.TheVariants.{Universal}

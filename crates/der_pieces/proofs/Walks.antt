@@ -2,7 +2,8 @@
 use Rattle.std.proofs.Common.{◌≡◌, inl, inr, ℕ, ◌+◌, ◌-◌, ◌<◌, Bool, true, false, List, [], ◌∷◌, ◌++◌, drop, length, slice_range, refl, sym, ap, ◌∙◌, subst, arith}
 use Rattle.std.specs.Prelude.{◌&&◌}
 use Rattle.der_pieces.specs.Fronts.{AreFronts, Front, IsFirst, all_ended, end_missing, end_of_contents, ended_by_octets, gone_into, no_header, one_ended, passed_over, size_in, StandAt}
-use Rattle.der_elements.specs.Ends.{begins_with_end, end_at}
+use Rattle.der_elements.specs.Ends.{end_at}
+use Rattle.asn1_headers.specs.Indefinite.{begins_with_end}
 use Rattle.der_elements.specs.Steps.{Goes, HasLeft, IsLeftOf, Takes, ends_of, none_left, one_left}
 use Rattle.der_pieces.specs.Steps.{IsAhead, StartsNext}
 use Rattle.der_elements.specs.declared.cursor.Cursor.{Cursor}

@@ -15,7 +15,8 @@ use Rattle.asn1_departures.specs.declared.rule.Rule.{Rule}
 use Rattle.asn1_headers.specs.Names.{type_name}
 use Rattle.der_contents.specs.Values.{IsBerTime, IsValue, is_wide}
 use Rattle.der_contents.specs.declared.value.LeafValue.{LeafValue}
-use Rattle.der_elements.specs.Ends.{begins_with_end, end_at, taken}
+use Rattle.der_elements.specs.Ends.{end_at, taken}
+use Rattle.asn1_headers.specs.Indefinite.{begins_with_end}
 
 -- a tag number in words: in decimal below 2^128
 abbrev pub tag_number : ℕ → List ℕ

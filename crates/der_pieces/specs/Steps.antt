@@ -1,7 +1,7 @@
 -- How the pieces of octets are gone over, step by step. Private contracts alone name these.
 use Rattle.std.specs.Prelude.{◌≡◌, ◌⊎◌, ◌&&◌, ℕ, ◌+◌, ◌<◌, true, false, List, [], ◌∷◌, length, slice_range, Option}
 use Rattle.der_pieces.specs.Fronts.{AreFronts, Front, IsFirst, Meaning, AreRules, size_in, tag_name, end_of_contents, unreadable}
-use Rattle.der_elements.specs.Ends.{begins_with_end}
+use Rattle.asn1_headers.specs.Indefinite.{begins_with_end}
 use Rattle.asn1_headers.specs.Front.{HasNoHeader, IsAtFront}
 use Rattle.der_elements.specs.declared.cursor.Cursor.{Cursor}
 use Rattle.der_elements.specs.declared.cursor.Left.{Left}

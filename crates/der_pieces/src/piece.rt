@@ -1,7 +1,7 @@
 // The pieces of octets, read once for lines and for JSON.
 ghost use Rattle.std.specs.Prelude.{◌≡◌, ◌↔◌, ◌+◌, ◌<◌, ◌≤◌, drop, false, length, string_bytes, true, IfOk, IfSome, IsTrue};
 ghost use Rattle.asn1_headers.specs.Front.{HasIndefiniteForm, HasNoHeader, IsAtFront};
-ghost use Rattle.der_elements.specs.Ends.{begins_with_end};
+ghost use Rattle.asn1_headers.specs.Indefinite.{begins_with_end};
 ghost use Rattle.der_elements.specs.Headers.{is_stray_form, is_gone_into};
 ghost use Rattle.der_pieces.specs.PieceFields.{AreNamesOf};
 ghost use Rattle.der_pieces.specs.Pieces.{IsFirstPiece, IsLeafMeaning, IsNameless, IsOpenedFault, IsPiece, kind_contents, kind_header, kind_indefinite, kind_type_name};

@@ -2,7 +2,8 @@
 use Rattle.std.proofs.Common.{◌≡◌, ◌++◌, ◌∙◌, ap, append_assoc, slice_range, subst, ◌+◌}
 use Rattle.std.specs.Option.{option_to_list}
 use Rattle.asn1_headers.specs.Header.{shortest_identifier}
-use Rattle.asn1_departures.specs.Departures.{Found, ItemsFound, LengthFound, TypeFound, is_indefinite}
+use Rattle.asn1_departures.specs.Departures.{Found, ItemsFound, LengthFound, TypeFound}
+use Rattle.asn1_headers.specs.Indefinite.{is_indefinite}
 use Rattle.asn1_departures.specs.Rules.{identifier_rule}
 use Rattle.asn1_departures.proofs.single.broken_rules.Goals as goal
 

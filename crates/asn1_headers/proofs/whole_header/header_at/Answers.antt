@@ -5,7 +5,7 @@ use Rattle.std.proofs.lemmas.List.{take-append-drop}
 use Rattle.std.proofs.lemmas.Result.{err_from_is_err_and}
 use Rattle.asn1_headers.specs.Fault.{fault_of}
 use Rattle.asn1_headers.proofs.FrontHeaders.{HeaderFault-no_identifier, IsIdentifier-take, HeaderFault-no_length, HasNoHeader-no_identifier, HasNoHeader-no_length}
-use Rattle.asn1_headers.proofs.IndefiniteForms.{HasIndefiniteForm-iff_80, HasIndefiniteForm-not_primitive}
+use Rattle.asn1_headers.proofs.IndefiniteForms.{HasIndefiniteForm-is_indefinite, HasIndefiniteForm-not_primitive}
 use Rattle.asn1_headers.proofs.whole_header.header_at.Goals as goal
 use Rattle.asn1_headers.proofs.whole_header.header_at.Goals.{then-constructed, else-constructed}
 
@@ -69,9 +69,9 @@ returns-clause-form c =
     let is = IsIdentifier-take octets size found.class found.constructed found.tag found.ensures.found in
     elim c.if-constructed.branch [
       | then-constructed w ↦
-          HasIndefiniteForm-iff_80 octets c.split_at.result.1.now size found.tag found.class found.constructed
-          found.ensures.moved.1 is c.split_at.ensures.back w.begins_with_80.result
-          c.if-constructed.result w.if-constructed.true w.begins_with_80.ensures w.result-is
+          HasIndefiniteForm-is_indefinite octets c.split_at.result.1.now size found.tag found.class found.constructed
+          found.ensures.moved.1 is c.split_at.ensures.back w.is_indefinite.result
+          c.if-constructed.result w.if-constructed.true w.is_indefinite.ensures w.result-is
       | else-constructed w ↦
           HasIndefiniteForm-not_primitive octets c.split_at.result.1.now size found.tag found.class found.constructed
           found.ensures.moved.1 is c.split_at.ensures.back c.if-constructed.result

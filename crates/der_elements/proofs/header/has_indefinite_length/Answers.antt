@@ -1,12 +1,12 @@
 -- For `header::has_indefinite_length`: what it returns is right.
 use Rattle.std.proofs.Common.{ap, ◌∙◌}
-use Rattle.der_elements.specs.LengthForm.{has_indefinite_length}
+use Rattle.asn1_headers.specs.Indefinite.{is_indefinite}
 use Rattle.der_elements.proofs.Lengths.{IsBehind-drop}
 use Rattle.der_elements.proofs.header.has_indefinite_length.Goals as goal
 
 pub returns : goal.returns
 returns c front =
-    c.is_indefinite_length.ensures
-    ∙ ap has_indefinite_length
-    (IsBehind-drop c.args.octets.now c.behind_identifier.result.now c.args._header.now front
-    c.behind_identifier.ensures)
+    c.is_indefinite.ensures
+    ∙ ap is_indefinite
+    (IsBehind-drop c.args.octets.now c.split_identifier.result.1.now c.args._header.now front
+    (λ identifier behind tag is whole. (c.split_identifier.ensures identifier behind tag is whole).1))

@@ -1,9 +1,9 @@
--- For `encodings::split_identifier`: what it returns is right.
+-- For `header::split_identifier`: what it returns is right.
 use Rattle.std.proofs.Common.{◌≡◌, ap, length, refl, subst, sym, take, ◌∙◌}
 use Rattle.std.proofs.lemmas.List.{take_at}
 use Rattle.asn1_headers.specs.Header.{IsSomeIdentifier}
-use Rattle.asn1_departures.proofs.Fronts.{IsSomeIdentifier-front}
-use Rattle.asn1_departures.proofs.encodings.split_identifier.Goals as goal
+use Rattle.asn1_headers.proofs.Prefixes.{IsSomeIdentifier-front}
+use Rattle.asn1_headers.proofs.header.split_identifier.Goals as goal
 
 pub returns-in-Some : goal.returns-in-Some
 returns-in-Some c identifier behind tag is whole =
