@@ -1,18 +1,13 @@
 -- What an `Unknown` of class Universal holds where no variant of a block has its type: the number of an ENUMERATED, and
 -- the text of a NumericString, a VisibleString and a GeneralString.
-use Rattle.std.specs.Prelude.{◌==◌, ◌||◌, ◌&&◌, ℕ, ℤ, Bool, true, false, not, List, [], ◌∷◌, nat_lt, if◌then◌else◌, Option, Some, None}
+use Rattle.std.specs.Prelude.{◌==◌, ◌||◌, ◌&&◌, ℕ, ℤ, Bool, false, not, List, nat_lt, if◌then◌else◌, Option, Some, None}
 use Rattle.std.specs.Int.{is_in_range}
 use Rattle.std.specs.List.{list_all}
 use Rattle.asn1_headers.specs.declared.tags.TheConstants.{ENUMERATED, NUMERIC_STRING, VISIBLE_STRING, GENERAL_STRING}
 use Rattle.asn1_headers.specs.declared.header.ASN1Class.TheVariants.{Universal}
 use Rattle.asn1_numbers.specs.TwosComplement.{signed_number}
+use Rattle.asn1_leaves.specs.Contents.Integer.{is_shortest_integer}
 use Rattle.asn1_blocks.specs.Tree.{Tree, unknown}
-
--- there is an octet, and the first nine bits are neither all 0 nor all 1 (X.690 8.3.1, 8.3.2)
-abbrev pub is_shortest_integer : List ℕ → Bool
-is_shortest_integer [] = false
-is_shortest_integer (a ∷ []) = true
-is_shortest_integer (a ∷ b ∷ octets) = if nat_lt b 128 then not (a == 0) else not (a == 255)
 
 -- the number of an ENUMERATED, which has tag number 10 and the contents octets of an INTEGER (X.690 8.4)
 abbrev pub primitive_enumerated : ℕ → List ℕ → Option ℤ

@@ -2,28 +2,12 @@
 ghost use Rattle.std.specs.Prelude.{◌≡◌, None, Some, IfOk, MatchOption};
 ghost use Rattle.std.specs.List.{list_all};
 ghost use Rattle.std.specs.Str.{IsAscii, chars};
-ghost use Rattle.asn1_blocks.specs.UnknownValues.{is_ascii_character, is_ascii_tag, is_general, is_numeric, is_shortest_integer, is_visible, primitive_ascii_text, primitive_enumerated};
+ghost use Rattle.asn1_blocks.specs.UnknownValues.{is_ascii_character, is_ascii_tag, is_general, is_numeric, is_visible, primitive_ascii_text, primitive_enumerated};
 
 use asn1_headers::tags::{ENUMERATED, GENERAL_STRING, NUMERIC_STRING, VISIBLE_STRING};
+use asn1_leaves::contents::integer::is_shortest_integer;
 use asn1_numbers::number::big_int::BigInt;
 use std::alloc::{AllocError, Global};
-
-// Whether the contents octets are the shortest of an INTEGER.
-fn is_shortest_integer(contents: &[u8]) -> bool
-    ensures { result ≡ is_shortest_integer contents.now }
-{
-    match contents {
-        [] => false,
-        [_] => true,
-        [first, second, ..] => {
-            if *second < 128 {
-                *first != 0
-            } else {
-                *first != 0xFF
-            }
-        }
-    }
-}
 
 // The number of an ENUMERATED, by the tag number and the contents octets of a primitive encoding.
 pub fn enumerated(alloc: Global, tag: u64, contents: &[u8]) -> Result<Option<BigInt>, AllocError>

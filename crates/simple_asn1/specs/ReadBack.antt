@@ -8,8 +8,7 @@ use Rattle.asn1_blocks.specs.Faithful.{all_normalized}
 
 -- the octets are a document of one tree, which is equal to this one but for its offsets
 abbrev pub ReadsBackAs : List ℕ → Tree ℕ → Type 0
-ReadsBackAs octets b =
-    (c : Tree ℕ) × IsDocument octets (more_trees c no_trees) × (shape c ≡ shape b)
+ReadsBackAs octets b = (c : Tree ℕ) × IsDocument octets (more_trees c no_trees) × (shape c ≡ shape b)
 
 -- the octets are a document of trees that are equal to these but for their offsets
 abbrev pub AllReadBackAs : List ℕ → Trees ℕ → Type 0

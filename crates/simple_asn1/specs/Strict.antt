@@ -27,8 +27,7 @@ FirstNotCanonical document (more_trees b bs) offset =
 
 -- the octets are a document, the first tree of which that does not stand in its canonical octets has this offset
 abbrev pub IsNotCanonicalAt : List ℕ → ℕ → Type 0
-IsNotCanonicalAt octets offset =
-    (bs : Trees ℕ) × IsDocument octets bs × FirstNotCanonical octets bs offset
+IsNotCanonicalAt octets offset = (bs : Trees ℕ) × IsDocument octets bs × FirstNotCanonical octets bs offset
 
 -- why the octets are no canonical document: their first fault; with none, the offset of the first tree that is not
 -- canonical

@@ -8,8 +8,7 @@ use Rattle.asn1_headers.specs.Fault.{DecodeFault, length_too_large, invalid_bit_
 -- least one octet (8.6.2.3), and at most 7 unused bits (8.6.2.2)
 abbrev pub BitStringContents : ℕ → List ℕ → List ℕ → Type 0
 BitStringContents n v [] = (n ≡ 0) × (v ≡ [])
-BitStringContents n v (u ∷ contents) =
-    (v ≡ contents) × (n + u ≡ 8 * length v) × (8 * length v < 2 ^ 64)
+BitStringContents n v (u ∷ contents) = (v ≡ contents) × (n + u ≡ 8 * length v) × (8 * length v < 2 ^ 64)
 
 -- the octets mean no BIT STRING, with this fault
 abbrev pub BitStringFault : List ℕ → DecodeFault → Type 0

@@ -8,8 +8,7 @@ BooleanContents b contents = (x : ℕ) × (contents ≡ x ∷ []) × (b ≡ not 
 
 -- the octets mean no BOOLEAN, with this fault
 abbrev pub BooleanFault : List ℕ → DecodeFault → Type 0
-BooleanFault contents fault =
-    (length contents ≢ 1) × (fault ≡ bad_boolean_length (length contents))
+BooleanFault contents fault = (length contents ≢ 1) × (fault ≡ bad_boolean_length (length contents))
 
 -- the octet that is written: true is FF (X.690 11.1)
 abbrev pub boolean_contents : Bool → List ℕ

@@ -42,8 +42,7 @@ pub record GeneralizedTimeContents (m : Moment) (contents : List ℕ) : Type 0 w
 abbrev pub fraction_digits : ℕ → ℕ → ℕ → List ℕ
 fraction_digits zero unit n = []
 fraction_digits (suc places) unit zero = []
-fraction_digits (suc places) unit (suc n) =
-    digit (suc n / unit) ∷ fraction_digits places (unit / 10) (suc n % unit)
+fraction_digits (suc places) unit (suc n) = digit (suc n / unit) ∷ fraction_digits places (unit / 10) (suc n % unit)
 
 -- the fraction that is written: no point where there are no digits, no zeros at the end (11.7.3)
 abbrev pub written_fraction : ℕ → List ℕ
@@ -59,8 +58,7 @@ IsFaithfulGeneralizedTime m = IsValid m
 
 -- the text with a point after its fourteenth character, unless it has one somewhere
 abbrev pub with_point : List ℕ → List ℕ
-with_point text =
-    if list_any (λ c. c == byte ".") text then text else take 14 text ++ (codes "." ++ drop 14 text)
+with_point text = if list_any (λ c. c == byte ".") text then text else take 14 text ++ (codes "." ++ drop 14 text)
 
 -- the text with zeros before its last character, as many as it is short of 25 characters
 abbrev pub with_zeros : List ℕ → List ℕ

@@ -21,8 +21,7 @@ text_form bmp = Utf8
 
 -- the characters of a PrintableString (X.680 table 10)
 abbrev pub is_printable : ℕ → Bool
-is_printable c =
-    is_ascii_alphanumeric c || list_any (λ d. c == d) (codes " '()+,-./:=?")
+is_printable c = is_ascii_alphanumeric c || list_any (λ d. c == d) (codes " '()+,-./:=?")
 
 -- the characters in UTF-8, or an octet for each, its number
 abbrev pub TextContents : TextForm → List ℕ → List ℕ → Type 0
@@ -33,8 +32,7 @@ TextContents Octets cs contents = cs ≡ contents
 -- the octets mean no characters in this form, with this fault
 abbrev pub TextFault : TextForm → List ℕ → DecodeFault → Type 0
 TextFault Utf8 contents fault = (IsUtf8 contents → ⊥) × (fault ≡ utf8_fault contents)
-TextFault Printable contents fault =
-    (list_all is_printable contents ≡ true → ⊥) × (fault ≡ printable_string_failure)
+TextFault Printable contents fault = (list_all is_printable contents ≡ true → ⊥) × (fault ≡ printable_string_failure)
 TextFault Octets contents fault = ⊥
 
 -- the octets that are written

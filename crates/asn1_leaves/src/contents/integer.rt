@@ -1,6 +1,6 @@
 // Contents octets of an INTEGER (X.690 8.3).
 ghost use Rattle.std.specs.Prelude.{◌≡◌, ◌≤◌, ℤ, length, IfOk, IfErr, IsTrue};
-ghost use Rattle.asn1_leaves.specs.Contents.Integer.{IntegerContents, integer_contents};
+ghost use Rattle.asn1_leaves.specs.Contents.Integer.{IntegerContents, integer_contents, is_shortest_integer};
 ghost use Rattle.asn1_headers.specs.declared.error.ASN1DecodeErr.TheVariants.{OutOfMemory};
 
 use asn1_headers::error::ASN1DecodeErr;
@@ -29,10 +29,9 @@ pub fn push<S: Sink>(n: &BigInt, out: &mut S)
     out.push_octets(n.octets());
 }
 
-// Whether contents octets are found to be those that are written of what they mean.
-pub fn are_canonical(contents: &[u8]) -> bool
-    ensures { IsTrue result → (n : ℤ) → IntegerContents n contents.now
-        → contents.now ≡ integer_contents n }
+// Whether contents octets are the shortest of an INTEGER, and at least one.
+pub fn is_shortest_integer(contents: &[u8]) -> bool
+    ensures { result ≡ is_shortest_integer contents.now }
 {
     match contents {
         [] => false,
@@ -45,4 +44,12 @@ pub fn are_canonical(contents: &[u8]) -> bool
             }
         }
     }
+}
+
+// Whether contents octets are found to be those that are written of what they mean.
+pub fn are_canonical(contents: &[u8]) -> bool
+    ensures { IsTrue result → (n : ℤ) → IntegerContents n contents.now
+        → contents.now ≡ integer_contents n }
+{
+    is_shortest_integer(contents)
 }

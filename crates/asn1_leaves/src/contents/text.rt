@@ -1,5 +1,5 @@
 // Contents octets of the strings of characters (X.690 8.23).
-ghost use Rattle.std.specs.Prelude.{◌≡◌, ◌↔◌, ◌+◌, ◌≤◌, ℕ, List, length, None, Some, IfOk, IfErr, IsTrue, OnOk, IsUtf8, string_bytes};
+ghost use Rattle.std.specs.Prelude.{◌≡◌, ◌↔◌, ◌≤◌, ℕ, List, length, None, Some, IfOk, IfErr, IsTrue, OnOk, IsUtf8, string_bytes};
 ghost use Rattle.std.specs.List.{list_all};
 ghost use Rattle.std.specs.Str.{IsAscii, chars};
 ghost use Rattle.asn1_leaves.specs.Contents.Text.{HasCharacters, TextContents, TextFault, is_printable, octet_write_fault, text_contents, text_write_fault};

@@ -1,28 +1,23 @@
 -- For `contents::integer::are_canonical`: what it returns is right.
-use Rattle.std.proofs.Common.{◌≢◌, ◌+◌, ◌<◌, get_or, length, sym, ap, ◌∙◌, arith}
+use Rattle.std.proofs.Common.{◌≡◌, ◌≢◌, ◌+◌, ◌<◌, ℕ, List, [], ◌∷◌, true, get_or, length, sym, ap, ◌∙◌, arith}
+use Rattle.std.proofs.lemmas.Bool.{false≢true}
 use Rattle.std.proofs.lemmas.Bool.Decides.{nat_tests}
 use Rattle.asn1_numbers.specs.TwosComplement.{shortest_octets}
 use Rattle.asn1_numbers.proofs.SignedNumbers.{IsShortestSigned-drop, sign_before}
+use Rattle.asn1_leaves.specs.Contents.Integer.{is_shortest_integer}
 use Rattle.asn1_leaves.proofs.contents.integer.are_canonical.Goals as goal
 
-pub returns-in-len1 : goal.returns-in-len1
-returns-in-len1 c said n p =
-    IsShortestSigned-drop c.args.contents.now 0 (omega arith) (λ k. omega (arith, c.type_inv.contents k))
-    (λ more. absurd (omega (arith, more)))
-    ∙ ap shortest_octets (sym p)
+-- of shortest contents octets the first is needed: it is not the sign of the second
+is_shortest_integer-needed : (contents : List ℕ) → is_shortest_integer contents ≡ true →
+    (0 < length contents)
+    × (0 + 1 < length contents → get_or contents 0 0 ≢ sign_before (get_or contents (0 + 1) 0))
+is_shortest_integer-needed [] said = absurd (false≢true said)
+is_shortest_integer-needed (a ∷ []) said = (omega arith, λ more. absurd (omega (arith, more)))
+is_shortest_integer-needed (a ∷ b ∷ octets) said = (omega arith, λ more e. grind (arith, nat_tests, e, said))
 
-pub returns-then-second-lt128 : goal.returns-then-second-lt128
-returns-then-second-lt128 c said n p =
+pub returns : goal.returns
+returns c said n p =
     let contents = c.args.contents.now in
-    let needed : 0 + 1 < length contents →
-    get_or contents 0 0 ≢ sign_before (get_or contents (0 + 1) 0) = λ more e. grind (arith, nat_tests, e, said) in
-    IsShortestSigned-drop contents 0 (omega arith) (λ k. omega (arith, c.type_inv.contents k)) needed
-    ∙ ap shortest_octets (sym p)
-
-pub returns-else-second-lt128 : goal.returns-else-second-lt128
-returns-else-second-lt128 c said n p =
-    let contents = c.args.contents.now in
-    let needed : 0 + 1 < length contents →
-    get_or contents 0 0 ≢ sign_before (get_or contents (0 + 1) 0) = λ more e. grind (arith, nat_tests, e, said) in
-    IsShortestSigned-drop contents 0 (omega arith) (λ k. omega (arith, c.type_inv.contents k)) needed
+    let needed = is_shortest_integer-needed contents (sym c.is_shortest_integer.ensures ∙ said) in
+    IsShortestSigned-drop contents 0 needed.0 (λ k. omega (arith, c.type_inv.contents k)) needed.1
     ∙ ap shortest_octets (sym p)
