@@ -19,5 +19,6 @@ pub mod Slices
 pub mod EncodingSizes
 pub mod PostponedBlocks
 pub mod Frames
+pub mod HeldFronts
 pub mod Reader
 pub mod TreeBuilding

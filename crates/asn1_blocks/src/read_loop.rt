@@ -9,6 +9,7 @@ ghost use Rattle.asn1_blocks.specs.Places.{HeaderFound};
 ghost use Rattle.asn1_blocks.specs.Inner.OpenFrames.{IsKindOf, is_attempt};
 ghost use Rattle.asn1_blocks.specs.Inner.ReaderSteps.{CanBeKept, CanEnd, HasDocument, HasEndedIn, HasKept, HasLeaf, HasOpened, HasRecovered, HasStepped, HasTakenStep, IsEntered, IsFaulty, IsLeafFault, IsReading, Reads, StartsEmpty, in_frame, work_left};
 ghost use Rattle.asn1_blocks.specs.Tree.{Tree};
+ghost use Rattle.asn1_blocks.specs.declared.read_loop.FrameKind.TheVariants.{Whole};
 ghost use Rattle.asn1_blocks.specs.declared.read_loop.OpenFrame.{OpenFrame};
 
 use crate::block::GroupKind;
@@ -177,12 +178,7 @@ pub fn read_into<B: Builder>(
     };
     let mut reader = Reader {
         inner: OpenFrame {
-            extent: Extent {
-                kind: FrameKind::Whole,
-                offset: 0,
-                start: 0,
-                end: octets.len(),
-            },
+            extent: whole_extent(octets.len()),
             items,
         },
         outer,
@@ -206,6 +202,18 @@ pub fn read_into<B: Builder>(
                 }
             }
         }
+    }
+}
+
+// The extent of a document that has so many octets.
+fn whole_extent(size: usize) -> Extent
+    ensures { result ≡ record { kind = Whole; offset = 0; start = 0; end = size } }
+{
+    Extent {
+        kind: FrameKind::Whole,
+        offset: 0,
+        start: 0,
+        end: size,
     }
 }
 

@@ -1,6 +1,6 @@
 -- The builder of entries holds those of open frames and of frames that end, for `listing`, `header_walk` and
 -- `simple_asn1_c`.
-use Rattle.std.proofs.Common.{◌≡◌, ℕ, suc, ◌+◌, ◌-◌, ◌<◌, ◌≤◌, ◌++◌, List, [], ◌∷◌, None, drop, inl, inr, length, set, take, refl, sym, ap, ◌∙◌, subst, arith, append_assoc, append-nil, length-append}
+use Rattle.std.proofs.Common.{◌≡◌, ℕ, suc, ◌+◌, ◌-◌, ◌<◌, ◌≤◌, ◌++◌, List, [], ◌∷◌, None, drop, inl, inr, length, set, take, refl, sym, ap, ◌∙◌, subst, arith, append_assoc, length-append}
 use Rattle.std.specs.List.{slice_range}
 use Rattle.std.proofs.lemmas.List.{length-map, map-append}
 use Rattle.std.proofs.Math.Seq.{get_or-append_seam, set-append_seam}
@@ -21,6 +21,7 @@ use Rattle.asn1_blocks.specs.Inner.OpenFrames.{IsAttemptAt, IsEnded, as_it_came,
 use Rattle.asn1_blocks.specs.Inner.ReaderSteps.{EndsAs, HasEndedIn, HasKept, HasLeaf, HasOpened, in_frame, opened_at}
 use Rattle.asn1_blocks.specs.Tree.{Tree, Trees, explicit, group, leaf, no_trees, trees_of, unknown}
 use Rattle.asn1_blocks.specs.View.{tree_offset}
+use Rattle.asn1_blocks.proofs.HeldFronts.{HoldAround, HoldFront-inside}
 use Rattle.asn1_blocks.proofs.Slices.{tree_offset-encodes}
 use Rattle.asn1_outline.specs.Entries.{AreEntries, AreEntriesOf, no_entry}
 use Rattle.asn1_outline.specs.Listing.{AllHold, AreOfTrees, IsBegun, all_hold, builder_holds, with_items_at, with_items}
@@ -253,42 +254,10 @@ HasEndedIn-entry_builder x a b f i depth is = record {
       (AllHold-add x w.front new e i fs us rest n (holds, blocks.structure) entries w.around);
 }
 
--- frames that were dropped leave what those around hold
-pub record HoldsFront (x : List ℕ) (rs : List Entry) (f : OpenFrame EntryItems) (gs : List (OpenFrame EntryItems))
-    (ts : List (Tree ℕ))
-    (rest : List (List (Tree ℕ))) : Type 0 where
-  pub front : List Entry
-  pub more : List Entry
-  pub whole : rs ≡ front ++ more
-  pub holds : AllHold x front f gs ts rest
-
--- what a frame holds is held by the first of the entries, whatever frames inside it add
-HoldsFront-inside :
-    (x : List ℕ) (rs : List Entry) (k : OpenFrame EntryItems) (inside : List (OpenFrame EntryItems))
-    (f : OpenFrame EntryItems)
-    (gs : List (OpenFrame EntryItems)) (l : List (Tree ℕ)) (lost : List (List (Tree ℕ))) (ts : List (Tree ℕ))
-    (rest : List (List (Tree ℕ))) →
-    length inside ≡ length lost → AllHold x rs k (inside ++ f ∷ gs) l (lost ++ ts ∷ rest) → HoldsFront x rs f gs ts rest
-HoldsFront-inside x rs k [] f gs l [] ts rest m a =
-    record { front = a.front; more = a.head ∷ a.own; whole = a.whole; holds = a.around }
-HoldsFront-inside x rs k [] f gs l (u ∷ lost) ts rest m a = absurd (omega (arith, m))
-HoldsFront-inside x rs k (y ∷ inside) f gs l [] ts rest m a = absurd (omega (arith, m))
-HoldsFront-inside x rs k (y ∷ inside) f gs l (u ∷ lost) ts rest m a =
-    let w = HoldsFront-inside x a.front y inside f gs u lost ts rest (omega (arith, m)) a.around in
-    let all = a.whole ∙ (ap (λ z. z ++ a.head ∷ a.own) w.whole ∙ append_assoc w.front w.more (a.head ∷ a.own)) in
-    record { front = w.front; more = w.more ++ a.head ∷ a.own; whole = all; holds = w.holds }
-
--- what a frame holds is held by the first of the entries, with or without frames inside it
-HoldsFront-all :
-    (x : List ℕ) (rs : List Entry) (inside : List (OpenFrame EntryItems)) (f : OpenFrame EntryItems)
-    (gs : List (OpenFrame EntryItems))
-    (lost : List (List (Tree ℕ))) (ts : List (Tree ℕ)) (rest : List (List (Tree ℕ))) → length inside ≡ length lost →
-    all_hold x rs (inside ++ f ∷ gs) (lost ++ ts ∷ rest) → HoldsFront x rs f gs ts rest
-HoldsFront-all x rs [] f gs [] ts rest m a = record { front = rs; more = []; whole = sym (append-nil rs); holds = a }
-HoldsFront-all x rs [] f gs (u ∷ lost) ts rest m a = absurd (omega (arith, m))
-HoldsFront-all x rs (y ∷ inside) f gs [] ts rest m a = absurd (omega (arith, m))
-HoldsFront-all x rs (y ∷ inside) f gs (u ∷ lost) ts rest m a =
-    HoldsFront-inside x rs y inside f gs u lost ts rest (omega (arith, m)) a
+-- the frames around a frame hold the entries before its own
+all_hold-around : (x : List ℕ) → HoldAround (all_hold x)
+all_hold-around x rs k f gs l ts rest held =
+    record { front = held.front; more = held.head ∷ held.own; whole = held.whole; holds = held.around }
 
 -- an attempt that a fault ended has its own entry alone
 pub HasKept-entry_builder : (x : List ℕ) (a b : EntryBuilder) (f : OpenFrame EntryItems) (i : EntryItems) (depth : ℕ)
@@ -297,7 +266,8 @@ pub HasKept-entry_builder : (x : List ℕ) (a b : EntryBuilder) (f : OpenFrame E
 HasKept-entry_builder x a b f i depth is = record {
   holds = λ inside lost e fs ts us rest k d m here tried none held.
       let rs = a.entries.items in
-      let left = HoldsFront-all x rs inside f (in_frame e i ∷ fs) lost ts (us ∷ rest) m held in
+      let left = HoldFront-inside (all_hold x) (all_hold-around x) rs inside f (in_frame e i ∷ fs) lost ts (us ∷ rest)
+      m held in
       let w = left.holds in
       let t = as_it_came x k f.extent.start f.extent.end in
       let all : rs ≡ w.front ++ w.head ∷ (w.own ++ left.more) =

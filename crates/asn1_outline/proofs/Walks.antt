@@ -15,6 +15,7 @@ use Rattle.asn1_blocks.specs.declared.read_loop.FrameKind.TheVariants.{Whole, Gr
 use Rattle.asn1_blocks.specs.declared.read_loop.OpenFrame.{OpenFrame}
 use Rattle.asn1_blocks.specs.declared.read_loop.Reader.{Reader}
 use Rattle.asn1_blocks.specs.declared.read_loop.Turn.{Turn}
+use Rattle.asn1_blocks.proofs.Frames.Advances.{FramePlaces}
 use Rattle.asn1_blocks.proofs.Reader.Popping.{reverse-append_last}
 use Rattle.asn1_outline.specs.Listing.{with_items_at, with_items}
 use Rattle.asn1_outline.specs.Shapes.{AreShapes, HasItems, HeadersFaultAt, Shapes, as_it_came, entries_of, in_item, in_later, more_shapes, no_more, no_shapes, one_more, read_inside, shape_count, shape_entry}
@@ -89,15 +90,9 @@ IsReadTo-one_more x s e p i d n at own h items here w f inside =
 abbrev pub with_one_counted : EntryFrame → EntryFrame
 with_one_counted f = record f { items = record f.items { count = f.items.count + 1 } }
 
--- the offsets where the innermost frame begins, is read up to and ends, in this order and within the octets
-pub record FramePlaces (x : List ℕ) (f : EntryFrame) (p : ℕ) : Type 0 where
-  pub from : f.extent.start ≤ p
-  pub to : p ≤ f.extent.end
-  pub within : f.extent.end ≤ length x
-
 -- the innermost of open frames has been read to a place between its start and its end
 pub AreOpen-places : (x : List ℕ) (f : EntryFrame) (gs : List EntryFrame) (p : ℕ) (rs : List Entry) →
-    AreOpen x f gs p rs → FramePlaces x f p
+    AreOpen x f gs p rs → FramePlaces x f.extent p
 AreOpen-places x f [] p rs w = record { from = w.read.from; to = w.read.to; within = w.read.within }
 AreOpen-places x f (g ∷ gs) p rs w = record { from = w.read.from; to = w.read.to; within = w.read.within }
 

@@ -1,5 +1,5 @@
 // What is read of an entry, with the octets of its document: the readers of its contents octets.
-ghost use Rattle.std.specs.Prelude.{◌≡◌, ◌≢◌, ◌⊎◌, ◌↔◌, ℕ, ◌+◌, ◌<◌, length, slice_range, None, Some, false, true, IfErr, IfOk, IsOkAnd, IsTrue, MatchOption, MatchResult, option_map};
+ghost use Rattle.std.specs.Prelude.{◌≡◌, ◌≢◌, ◌⊎◌, ◌↔◌, ℕ, ◌+◌, ◌<◌, ◌≤◌, length, slice_range, None, Some, false, true, IfErr, IfOk, IsOkAnd, IsTrue, MatchOption, MatchResult, option_map};
 ghost use Rattle.asn1_headers.specs.Fault.{OutOfMemoryOr};
 ghost use Rattle.asn1_headers.specs.Names.{type_name as name_of_type};
 ghost use Rattle.asn1_leaves.specs.Contents.GeneralizedTime.{GeneralizedTimeContents, GeneralizedTimeFault};
@@ -38,12 +38,12 @@ use jiff::civil::DateTime;
 use std::alloc::{AllocError, Global};
 
 impl Entry {
-    // The contents octets of the entry, if they lie in the document.
-    pub(crate) fn contents_in<'a>(&self, document: &'a [u8]) -> Option<&'a [u8]>
+    // Where its contents octets begin and end, if they lie in a document of so many octets.
+    fn contents_bounds(&self, size: usize) -> Option<(usize, usize)>
         ensures { MatchOption result
-            (length document.now < self.now.offset + self.now.header + self.now.contents)
-            (λ found. found.now ≡ slice_range document.now (self.now.offset + self.now.header)
-            (self.now.offset + self.now.header + self.now.contents)) }
+            (size < self.now.offset + self.now.header + self.now.contents)
+            (λ bounds. (bounds.0 ≡ self.now.offset + self.now.header) × (bounds.1 ≡ bounds.0 + self.now.contents)
+            × (bounds.1 ≤ size)) }
     {
         let Some(start) = self.offset.checked_add(self.header) else {
             return None;
@@ -51,9 +51,22 @@ impl Entry {
         let Some(end) = start.checked_add(self.contents) else {
             return None;
         };
-        if end > document.len() {
+        if end > size {
             return None;
         }
+        Some((start, end))
+    }
+
+    // The contents octets of the entry, if they lie in the document.
+    pub(crate) fn contents_in<'a>(&self, document: &'a [u8]) -> Option<&'a [u8]>
+        ensures { MatchOption result
+            (length document.now < self.now.offset + self.now.header + self.now.contents)
+            (λ found. found.now ≡ slice_range document.now (self.now.offset + self.now.header)
+            (self.now.offset + self.now.header + self.now.contents)) }
+    {
+        let Some((start, end)) = self.contents_bounds(document.len()) else {
+            return None;
+        };
         Some(&document[start..end])
     }
 
@@ -64,15 +77,9 @@ impl Entry {
             (λ found. found.now ≡ slice_range document.now self.now.offset
             (self.now.offset + self.now.header + self.now.contents)) }
     {
-        let Some(start) = self.offset.checked_add(self.header) else {
+        let Some((_, end)) = self.contents_bounds(document.len()) else {
             return None;
         };
-        let Some(end) = start.checked_add(self.contents) else {
-            return None;
-        };
-        if end > document.len() {
-            return None;
-        }
         Some(&document[self.offset..end])
     }
 

@@ -1,6 +1,7 @@
 -- Frames that are read further, and where they are, for `read_loop`.
 use Rattle.std.proofs.Common.{◌≡◌, ℕ, ◌+◌, ◌-◌, ◌<◌, ◌≤◌, List, [], ◌∷◌, ◌++◌, length, refl, sym, ap, subst, arith}
 use Rattle.std.specs.List.{slice_range}
+use Rattle.asn1_blocks.specs.declared.read_loop.Extent.{Extent}
 use Rattle.asn1_blocks.specs.Tree.{Tree, trees_of, more_trees}
 use Rattle.asn1_blocks.specs.Grammar.{Encodes, EncodesAll}
 use Rattle.asn1_blocks.specs.HeadersBegun.{HeadersBegun}
@@ -72,15 +73,15 @@ AreOpen-follows octets f (g ∷ gs) p q n m t o w =
       total = omega (arith, o.total);
     }
 
--- where the innermost frame is
-pub record FramePlaces (octets : List ℕ) (f : Frame) (p : ℕ) : Type 0 where
-  pub from : f.extent.start ≤ p
-  pub to : p ≤ f.extent.end
-  pub within : f.extent.end ≤ length octets
+-- the offsets where a frame begins, is read up to and ends, in this order and within the octets
+pub record FramePlaces (octets : List ℕ) (e : Extent) (p : ℕ) : Type 0 where
+  pub from : e.start ≤ p
+  pub to : p ≤ e.end
+  pub within : e.end ≤ length octets
 
 -- the innermost of open frames has been read to a place between its start and its end
 pub AreOpen-places : (octets : List ℕ) (f : Frame) (gs : List Frame) (p n : ℕ) → AreOpen octets f gs p n →
-    FramePlaces octets f p
+    FramePlaces octets f.extent p
 AreOpen-places octets f [] p n o = record { from = o.read.from; to = o.read.to; within = o.read.within }
 AreOpen-places octets f (g ∷ gs) p n o = record { from = o.read.from; to = o.read.to; within = o.read.within }
 

@@ -1,6 +1,6 @@
 -- A frame of trees ends: its blocks are one of the frame around it, for `read::TreeBuilderBuilder` and
 -- `read::read_blocks`.
-use Rattle.std.proofs.Common.{◌≡◌, ℕ, ◌+◌, List, [], ◌∷◌, ◌++◌, Global, Vec, length, map, take, drop, refl, sym, ap, ◌∙◌, subst, arith, append_assoc, append-nil, length-append}
+use Rattle.std.proofs.Common.{◌≡◌, ℕ, ◌+◌, List, [], ◌∷◌, ◌++◌, Global, Vec, length, map, take, drop, refl, sym, ap, ◌∙◌, subst, arith, append-nil, length-append}
 use Rattle.std.proofs.lemmas.List.{length-map, take-append-drop, take-append-le, nil_from_length}
 use Rattle.asn1_blocks.specs.declared.block.ASN1Block.{ASN1Block}
 use Rattle.asn1_blocks.specs.declared.block.GroupKind.{GroupKind}
@@ -20,6 +20,7 @@ use Rattle.asn1_blocks.specs.Inner.ReaderSteps.{HasEndedIn, HasKept, HasOpened, 
 use Rattle.asn1_blocks.specs.Inner.TreeBuilding.{AllHold, Holds, IsAddedAsItCame, IsPostponed, IsAdded, all_hold, builder_holds}
 use Rattle.asn1_blocks.specs.Tree.{Tree, group, trees_of}
 use Rattle.asn1_blocks.specs.View.{view, views}
+use Rattle.asn1_blocks.proofs.HeldFronts.{HoldAround, HoldFront-inside}
 use Rattle.asn1_blocks.proofs.TreeBuilding.Adding.{AddsTree-explicit, AddsTree-group, AllHold-add_as_it_came, AllHold-add_postponed, AllHold-add_tree}
 use Rattle.asn1_blocks.proofs.TreeBuilding.Holding.{AddsTree, AllHold-open, HasNothingPostponed-ended}
 
@@ -80,54 +81,16 @@ pub as_it_came-not_one : (octets : List ℕ) (a : declared.Attempt) (s e : ℕ) 
 as_it_came-not_one octets a s e ts t m count many is =
     sym (is ∙ attempt_tree-not_one octets a s e ts (λ z. many (sym count ∙ z)))
 
--- frames that were dropped leave what those around hold
-pub record HoldsFront (octets : List ℕ) (es : List Postponed) (f : OpenFrame FrameBlocks)
-    (gs : List (OpenFrame FrameBlocks))
-    (ts : List (Tree ℕ))
-    (rest : List (List (Tree ℕ))) : Type 0 where
-  pub front : List Postponed
-  pub more : List Postponed
-  pub whole : es ≡ front ++ more
-  pub holds : AllHold octets front f gs ts rest
-
--- what a frame holds is held by the first of the postponed blocks, whatever frames inside it add
-HoldsFront-inside :
-    (octets : List ℕ) (es : List Postponed) (k : OpenFrame FrameBlocks) (inside : List (OpenFrame FrameBlocks))
-    (f : OpenFrame FrameBlocks)
-    (gs : List (OpenFrame FrameBlocks)) (l : List (Tree ℕ)) (lost : List (List (Tree ℕ))) (ts : List (Tree ℕ))
-    (rest : List (List (Tree ℕ))) →
-    length inside ≡ length lost → AllHold octets es k (inside ++ f ∷ gs) l (lost ++ ts ∷ rest) →
-    HoldsFront octets es f gs ts rest
-HoldsFront-inside octets es k [] f gs l [] ts rest m a =
+-- the frames around a frame hold the postponed blocks before its own
+all_hold-around : (octets : List ℕ) → HoldAround (all_hold octets)
+all_hold-around octets es k f gs l ts rest held =
+    let before = k.items.postponed_before in
     record {
-      front = take k.items.postponed_before es;
-      more = drop k.items.postponed_before es;
-      whole =
-          sym (take-append-drop k.items.postponed_before es);
-      holds = a.1;
+      front = take before es;
+      more = drop before es;
+      whole = sym (take-append-drop before es);
+      holds = held.1;
     }
-HoldsFront-inside octets es k [] f gs l (u ∷ lost) ts rest m a = absurd (omega (arith, m))
-HoldsFront-inside octets es k (x ∷ inside) f gs l [] ts rest m a = absurd (omega (arith, m))
-HoldsFront-inside octets es k (x ∷ inside) f gs l (u ∷ lost) ts rest m a =
-    let n = k.items.postponed_before in
-    let w = HoldsFront-inside octets (take n es) x inside f gs u lost ts rest (omega (arith, m)) a.1 in
-    let all = sym (take-append-drop n es)
-    ∙ (ap (λ z. z ++ drop n es) w.whole ∙ append_assoc w.front w.more (drop n es)) in
-    record { front = w.front; more = w.more ++ drop n es; whole = all; holds = w.holds }
-
--- what a frame holds is held by the first of the postponed blocks, with or without frames inside it
-HoldsFront-all :
-    (octets : List ℕ) (es : List Postponed) (inside : List (OpenFrame FrameBlocks)) (f : OpenFrame FrameBlocks)
-    (gs : List (OpenFrame FrameBlocks)) (lost : List (List (Tree ℕ))) (ts : List (Tree ℕ))
-    (rest : List (List (Tree ℕ))) →
-    length inside ≡ length lost → all_hold octets es (inside ++ f ∷ gs) (lost ++ ts ∷ rest) →
-    HoldsFront octets es f gs ts rest
-HoldsFront-all octets es [] f gs [] ts rest m a =
-    record { front = es; more = []; whole = sym (append-nil es); holds = a }
-HoldsFront-all octets es [] f gs (u ∷ lost) ts rest m a = absurd (omega (arith, m))
-HoldsFront-all octets es (x ∷ inside) f gs [] ts rest m a = absurd (omega (arith, m))
-HoldsFront-all octets es (x ∷ inside) f gs (u ∷ lost) ts rest m a =
-    HoldsFront-inside octets es x inside f gs u lost ts rest (omega (arith, m)) a
 
 -- the frames around an attempt hold what they did, without the postponed blocks of the attempt
 pub AllHold-around_attempt :
@@ -137,7 +100,7 @@ pub AllHold-around_attempt :
     length inside ≡ length lost → all_hold octets es (inside ++ f ∷ g ∷ gs) (lost ++ ts ∷ us ∷ rest) →
     AllHold octets (take f.items.postponed_before es) g gs us rest
 AllHold-around_attempt octets es inside f g gs lost ts us rest m a =
-    let w = HoldsFront-all octets es inside f (g ∷ gs) lost ts (us ∷ rest) m a in
+    let w = HoldFront-inside (all_hold octets) (all_hold-around octets) es inside f (g ∷ gs) lost ts (us ∷ rest) m a in
     let n = f.items.postponed_before in
     let front : take n es ≡ take n w.front = ap (take n) w.whole ∙ take-append-le n w.front w.more w.holds.0.before in
     subst (λ z. AllHold octets z g gs us rest) (sym front) w.holds.1

@@ -1,9 +1,10 @@
 -- For `read_loop::read_into`: its loop keeps its invariant, what it returns is right (`counted`, `document`, `grown`,
 -- `bounded`, `refused`), `take_step` and `recover` may be called, and its loop ends.
-use Rattle.std.proofs.Common.{◌≡◌, ◌<◌, false, true, Some, inl, inr, length, ap, ◌∙◌, arith}
+use Rattle.std.proofs.Common.{◌≡◌, ◌<◌, false, true, Some, inl, inr, length, reverse, sym, ap, subst, ◌∙◌, arith}
 use Rattle.std.proofs.lemmas.Grind.{common_steps}
 use Rattle.std.proofs.lemmas.List.{nil_from_length}
 use Rattle.asn1_blocks.specs.HeadersBegun.{begun_none}
+use Rattle.asn1_blocks.specs.Inner.ReaderSteps.{Reads}
 use Rattle.asn1_blocks.proofs.Reader.Opening.{IsReading-places}
 use Rattle.asn1_blocks.proofs.Reader.Turning.{Reads-first, HasRecovered-goes_on, HasRecovered-stops, IsStepped-ended, IsStepped-goes_on, IsStepped-fault}
 use Rattle.asn1_blocks.proofs.read_loop.read_into.Goals as goal
@@ -16,8 +17,11 @@ returns-then-is_empty-clause-counted g c =
 pub turns-init : goal.turns-init
 turns-init g c = (
   0,
-  Reads-first g.B.Builder.holds c.args.octets.now c.args.builder c.args.items c.in-Ok.outer.items
-      c.in-Ok.ensures.items c.requires.empty,
+  subst (λ e. Reads g.B.Builder.holds c.args.octets.now c.args.builder (record { extent = e; items = c.args.items })
+      (reverse c.in-Ok.outer.items) 0 0)
+      (sym c.whole_extent.ensures)
+      (Reads-first g.B.Builder.holds c.args.octets.now c.args.builder c.args.items c.in-Ok.outer.items
+      c.in-Ok.ensures.items c.requires.empty),
   omega arith,
 )
 
