@@ -9,7 +9,8 @@ use Rattle.asn1_headers.proofs.Shortest.{IsIdentifier-shortest, IsLength-shortes
 use Rattle.asn1_der.specs.Der.{AreDerEncodings, IsDer, IsDerEncoding, IsRightAlone, IsShortest, more_encodings, no_encodings}
 use Rattle.asn1_der.specs.Steps.{AreDer, IsDerAlone, IsWhole}
 use Rattle.asn1_der.proofs.Encodings.{IsWhole-der, IsDerEncoding-whole, AreDer-first, IsDerInFront}
-use Rattle.asn1_departures.specs.Departures.{Found, IsNext, Lists, ListsInside, OwnRules, TypeFound, broken, encoding_listed, encodings_inside, end_listed, is_indefinite, is_looked_into, kept, listed, no_encodings_inside, none_left, nothing_inside, own_departures, unended_behind}
+use Rattle.asn1_departures.specs.Departures.{Found, IsNext, Lists, ListsInside, OwnRules, TypeFound, broken, encoding_listed, encodings_inside, end_listed, is_looked_into, kept, listed, no_encodings_inside, none_left, nothing_inside, own_departures, unended_behind}
+use Rattle.asn1_headers.specs.Indefinite.{is_indefinite}
 use Rattle.asn1_departures.specs.Rules.{identifier_rule, type_rule}
 use Rattle.asn1_departures.specs.declared.rule.Departure.{Departure}
 use Rattle.asn1_departures.specs.declared.rule.Rule.{Rule}

@@ -4,13 +4,15 @@ use Rattle.std.specs.List.{slice_range}
 use Rattle.std.specs.Prelude.{suc, if◌then◌else◌, not}
 use Rattle.std.proofs.lemmas.List.{drop_at}
 use Rattle.asn1_headers.specs.Fault.{DecodeFault}
-use Rattle.asn1_departures.proofs.Fronts.{is_at_end-parts, begins_with_end-octets, is_at_end-none_in_front}
+use Rattle.asn1_departures.proofs.Fronts.{is_at_end-parts, is_at_end-none_in_front}
+use Rattle.asn1_headers.proofs.IndefiniteForms.{begins_with_end-cons}
 use Rattle.asn1_headers.specs.Header.{Encoding, IsLength}
 use Rattle.asn1_blocks.specs.Places.{HeaderFound}
 use Rattle.asn1_blocks.specs.declared.parsed.PlacedHeader.{PlacedHeader}
 use Rattle.asn1_blocks.proofs.ReadSteps.{slice_range-append, length-slice_range}
 use Rattle.asn1_departures.specs.Departures.{HeaderFaultBehind, IsNext, Lists, behind, behind_end_of_contents, ListsInside, OwnRules, encoding_listed, encodings_inside, end_listed, is_looked_into, is_open, none_left, own_departures, unended_behind}
-use Rattle.asn1_departures.specs.Steps.{AreExtents, IsParted, ListsUpTo, begins_with_end, is_at_end, rest_of}
+use Rattle.asn1_departures.specs.Steps.{AreExtents, IsParted, ListsUpTo, is_at_end, rest_of}
+use Rattle.asn1_headers.specs.Indefinite.{begins_with_end}
 use Rattle.asn1_departures.specs.declared.listing.Extent.{Extent}
 use Rattle.asn1_departures.specs.declared.rule.Departure.{Departure}
 use Rattle.asn1_blocks.proofs.Frames.Slices.{slice_range-empty}
@@ -18,7 +20,7 @@ use Rattle.asn1_blocks.proofs.Frames.Slices.{slice_range-empty}
 -- the last of extents that ascend from an index does not end before the index
 pub AreExtents-le : (i : ℕ) (es : List Extent) (n : ℕ) → AreExtents i es n → i ≤ n
 AreExtents-le i [] n h = omega (arith, h)
-AreExtents-le i (e ∷ es) n h = omega (arith, h.0, AreExtents-le e.end es n h.2)
+AreExtents-le i (e ∷ es) n h = omega (arith, h.order, AreExtents-le e.end es n h.around)
 
 module _ (x : List ℕ) (i e : ℕ) (h : PlacedHeader) (f : HeaderFound x i e h) (within : e ≤ length x) where
   starts_before_end : i ≤ h.end
@@ -127,7 +129,7 @@ pub slice_range-end_of_contents :
     (i + 2 ≤ e) × (slice_range x i e ≡ 0 ∷ 0 ∷ slice_range x (i + 2) e)
 slice_range-end_of_contents x i e order within front =
     let y = slice_range x i e in
-    let whole : y ≡ 0 ∷ 0 ∷ drop 2 y = begins_with_end-octets y front in
+    let whole : y ≡ 0 ∷ 0 ∷ drop 2 y = begins_with_end-cons y front in
     let two : i + 2 ≤ e = omega (arith, ap length whole, length-slice_range x i e order within) in
     let join : y ≡ slice_range x i (i + 2) ++ slice_range x (i + 2) e =
     slice_range-append x i (i + 2) e (omega arith) two in

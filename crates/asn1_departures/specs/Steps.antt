@@ -1,8 +1,9 @@
 -- What is found step by step. Private contracts alone name these.
-use Rattle.std.specs.Prelude.{◌≡◌, ◌==◌, ◌&&◌, ◌↔◌, ◌++◌, ◌≤◌, ◌<◌, ℕ, ◌+◌, ◌*◌, ◌-◌, nat_lt, Bool, true, false, List, [], ◌∷◌, length, reverse, slice_range}
+use Rattle.std.specs.Prelude.{◌≡◌, ◌&&◌, ◌↔◌, ◌++◌, ◌≤◌, ◌<◌, ℕ, ◌+◌, ◌*◌, ◌-◌, nat_lt, Bool, true, false, List, [], ◌∷◌, length, reverse, slice_range}
 use Rattle.asn1_headers.specs.declared.header.ASN1Class.{ASN1Class}
 use Rattle.asn1_headers.specs.Fault.{DecodeFault}
 use Rattle.asn1_headers.specs.Header.{IsIdentifier, IsLength}
+use Rattle.asn1_headers.specs.Indefinite.{begins_with_end}
 use Rattle.asn1_departures.specs.Departures.{AreEncodings, HeaderFaultBehind, Lists}
 use Rattle.asn1_departures.specs.declared.encodings.Cursor.{Cursor}
 use Rattle.asn1_departures.specs.declared.rule.Departure.{Departure}
@@ -13,11 +14,17 @@ use Rattle.asn1_departures.specs.declared.listing.Place.{Place}
 abbrev pub extents_of : Place → List Extent
 extents_of place = place.inner ∷ reverse place.outer.items
 
--- the ends ascend from the index on; each encoding that is open has taken an octet at least
+-- the extent ends at the index or behind it, and each encoding that is open in it has taken an octet at least; what has
+-- to hold from its end on does
+pub record EndsBehind (index : ℕ) (extent : Extent) (IsAround : ℕ → Type 0) : Type 0 where
+  pub order : index ≤ extent.end
+  pub room : extent.unended ≤ index
+  pub around : IsAround extent.end
+
+-- the ends ascend from the index on
 abbrev pub AreExtents : ℕ → List Extent → ℕ → Type 0
 AreExtents index [] whole = index ≡ whole
-AreExtents index (extent ∷ extents) whole =
-    (index ≤ extent.end) × (extent.unended ≤ index) × AreExtents extent.end extents whole
+AreExtents index (extent ∷ extents) whole = EndsBehind index extent (λ end. AreExtents end extents whole)
 
 abbrev pub IsPlaced : List ℕ → Place → Type 0
 IsPlaced octets place = AreExtents place.index (extents_of place) (length octets)
@@ -48,11 +55,6 @@ pub record GoesOn (octets : List ℕ) (old new : Place) (found_old found_new : L
 abbrev pub HasTurned : List ℕ → Bool → Place → Place → List Departure → List Departure → Type 0
 HasTurned octets true old new found_old found_new = GoesOn octets old new found_old found_new
 HasTurned octets false old new found_old found_new = ListsAll octets old found_old found_new
-
--- end-of-contents octets stand in front
-abbrev pub begins_with_end : List ℕ → Bool
-begins_with_end (a ∷ b ∷ rest) = (a == 0) && (b == 0)
-begins_with_end octets = false
 
 -- end-of-contents octets stand in front, and close an encoding that is open
 abbrev pub is_at_end : ℕ → List ℕ → Bool

@@ -15,7 +15,8 @@ split_header-requires-clause-read c =
     let w = c.args.place.now in
     let h = c.args.header.now in
     let f = c.requires.header in
-    let within = AreExtents-le w.inner.end (reverse w.outer.items) (length c.args.octets.now) c.requires.placed.2 in
+    let p = c.requires.placed in
+    let within = AreExtents-le w.inner.end (reverse w.outer.items) (length c.args.octets.now) p.around in
     IsHeaderOf-front c.args.octets.now w.index h.start h.end h.class h.constructed h.tag (omega (arith, f.starts_after))
     f.order
     (omega (arith, f.ends_within, within)) f.encoding
@@ -28,13 +29,17 @@ returns-then-is_open c =
     let f = c.requires.header in
     let p = c.requires.placed in
     let es = reverse w.outer.items in
-    let within = AreExtents-le w.inner.end es (length x) p.2 in
+    let within = AreExtents-le w.inner.end es (length x) p.around in
     let len = c.split_header.result.1.now in
     let (r, pushed) = c.in_ok-push_own.ensures in
     let own = own_departures w.index r in
     let is : is_open h.constructed len ≡ true = sym c.is_open.ensures ∙ c.if-is_open.true in
     record {
-      placed = (f.ends_within, omega (arith, p.1, f.starts_after, f.order), p.2);
+      placed = record {
+        order = f.ends_within;
+        room = omega (arith, p.room, f.starts_after, f.order);
+        around = p.around;
+      };
       all = ListsUpTo-behind x w.index w.inner.end w.inner.unended _ es h f within _ len c.split_header.ensures
           c.requires.no_end r []
           c.args.found.now.items _ (unended_behind-open w.inner.unended h.constructed len is)
@@ -51,13 +56,17 @@ returns-then-not-header c =
     let f = c.requires.header in
     let p = c.requires.placed in
     let es = reverse w.outer.items in
-    let within = AreExtents-le w.inner.end es (length x) p.2 in
+    let within = AreExtents-le w.inner.end es (length x) p.around in
     let len = c.split_header.result.1.now in
     let (r, pushed) = c.in_ok-push_own.ensures in
     let own = own_departures w.index r in
     let is : is_open h.constructed len ≡ false = sym c.is_open.ensures ∙ c.if-is_open.false in
     record {
-      placed = (f.ends_within, omega (arith, p.1, f.starts_after, f.order), p.2);
+      placed = record {
+        order = f.ends_within;
+        room = omega (arith, p.room, f.starts_after, f.order);
+        around = p.around;
+      };
       all = ListsUpTo-behind x w.index w.inner.end w.inner.unended w.inner.unended es h f within _ len
           c.split_header.ensures
           c.requires.no_end r [] c.args.found.now.items _ (unended_behind-not_open w.inner.unended h.constructed len is)
@@ -74,19 +83,23 @@ returns-then-are_encodings c =
     let f = c.requires.header in
     let p = c.requires.placed in
     let es = reverse w.outer.items in
-    let within = AreExtents-le w.inner.end es (length x) p.2 in
+    let within = AreExtents-le w.inner.end es (length x) p.around in
     let len = c.split_header.result.1.now in
     let (r, pushed) = c.in_ok-push_own.ensures in
     let is : is_open h.constructed len ≡ false = sym c.is_open.ensures ∙ c.if-is_open.false in
     let put : c.push.new.self.items ≡ w.outer.items ++ w.inner ∷ [] = c.in_ok-push.ensures.items in
     let round = reverse-append_last c.push.new.self.items w.outer.items w.inner put in
+    let behind : AreExtents h.end (w.inner ∷ es) (length x) = record {
+      order = f.ends_within;
+      room = omega (arith, p.room, f.starts_after, f.order);
+      around = p.around;
+    } in
     record {
-      placed = (
-        f.order,
-        omega arith,
-        subst (λ z. AreExtents h.end z (length x)) (sym round)
-            (f.ends_within, omega (arith, p.1, f.starts_after, f.order), p.2),
-      );
+      placed = record {
+        order = f.order;
+        room = omega arith;
+        around = subst (λ z. AreExtents h.end z (length x)) (sym round) behind;
+      };
       all = λ all (later, up, e).
           ListsUpTo-inside x w.index w.inner.end w.inner.unended es h f within _ len c.split_header.ensures
           c.requires.no_end
@@ -113,7 +126,7 @@ returns c =
     let f = c.requires.header in
     let p = c.requires.placed in
     let es = reverse w.outer.items in
-    let within = AreExtents-le w.inner.end es (length x) p.2 in
+    let within = AreExtents-le w.inner.end es (length x) p.around in
     let len = c.split_header.result.1.now in
     let (r, pushed) = c.in_ok-push_own.ensures in
     let own = own_departures w.index r in
@@ -121,7 +134,11 @@ returns c =
     let none : List Departure = listed w.index (Some NotEncodings) in
     let looked = is_looked_into-constructed h.constructed len c.if-not-header.false is in
     record {
-      placed = (f.ends_within, omega (arith, p.1, f.starts_after, f.order), p.2);
+      placed = record {
+        order = f.ends_within;
+        room = omega (arith, p.room, f.starts_after, f.order);
+        around = p.around;
+      };
       all = ListsUpTo-behind x w.index w.inner.end w.inner.unended w.inner.unended es h f within _ len
           c.split_header.ensures
           c.requires.no_end r none c.args.found.now.items _

@@ -14,9 +14,13 @@ returns-in-Some c found =
     let popped : w.outer.items ≡ c.pop.new.self.items ++ e ∷ [] = c.in-Some.ensures.items in
     let round = reverse-append_last w.outer.items c.pop.new.self.items e popped in
     let ended = c.requires.ended in
-    let placed = subst (λ z. AreExtents w.inner.end z (length x)) round c.requires.placed.2 in
+    let placed = subst (λ z. AreExtents w.inner.end z (length x)) round c.requires.placed.around in
     record {
-      placed = (omega (arith, ended, placed.0), omega (arith, ended, placed.1), placed.2);
+      placed = record {
+        order = omega (arith, ended, placed.order);
+        room = omega (arith, ended, placed.room);
+        around = placed.around;
+      };
       all = λ all (later, up, is). (
         later,
         (

@@ -11,13 +11,14 @@ returns c found =
     let w = c.args.place.now in
     let p = c.requires.placed in
     let (some, front) = is_at_end-parts w.inner.unended (slice_range x w.index w.inner.end) c.requires.end in
-    let within = AreExtents-le w.inner.end (reverse w.outer.items) (length x) p.2 in
-    let two = (slice_range-end_of_contents x w.index w.inner.end p.0 within front).0 in
+    let es = reverse w.outer.items in
+    let within = AreExtents-le w.inner.end es (length x) p.around in
+    let two = (slice_range-end_of_contents x w.index w.inner.end p.order within front).0 in
     record {
-      placed = (two, omega (arith, p.1), p.2);
+      placed = record { order = two; room = omega (arith, p.room); around = p.around };
       all = λ all (later, up, is). (
         later,
-        ListsUpTo-ended x w.inner.unended w.index w.inner.end (reverse w.outer.items) later some p.0 within front up,
+        ListsUpTo-ended x w.inner.unended w.index w.inner.end es later some p.order within front up,
         is,
       );
       fewer = omega (arith, two, within);
