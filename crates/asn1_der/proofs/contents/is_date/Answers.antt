@@ -1,6 +1,6 @@
 -- For `contents::is_date`: what it returns is right.
-use Rattle.std.proofs.Common.{◌≡◌, [], ◌++◌, ap, arith, codes, length, sym}
-use Rattle.asn1_der.proofs.Elements.{get_or-eight, IsWithinMoment-whole}
+use Rattle.std.proofs.Common.{◌≡◌, [], ◌++◌, ap, arith, codes, length}
+use Rattle.asn1_der.proofs.Elements.{IsWithinMoment-whole, octets_from-to_end}
 use Rattle.asn1_der.proofs.contents.is_date.Goals as goal
 
 pub returns-in-len8 : goal.returns-in-len8
@@ -8,4 +8,4 @@ returns-in-len8 c =
     let octets = c.args.contents.now in
     let size : length octets ≡ 8 = omega (arith, c.in-len8.len_at_least, c.in-len8.len_below) in
     IsWithinMoment-whole c.is_moment.result 8 ([]) octets (codes "000000Z") _ size
-    (sym (ap (λ z. [] ++ (z ++ codes "000000Z")) (get_or-eight octets size))) c.is_moment.ensures
+    (ap (λ z. [] ++ (z ++ codes "000000Z")) (octets_from-to_end octets 0 8 size)) c.is_moment.ensures
