@@ -1,11 +1,11 @@
 // Objects of blocks.
-ghost use Rattle.std.specs.Prelude.{◌≡◌, ◌++◌, false, IfOk, OnOk, map, option_map, string_bytes};
+ghost use Rattle.std.specs.Prelude.{◌≡◌, ◌++◌, false, IfOk, OnOk, map, option_map};
 ghost use Rattle.serde_json.specs.View.{view};
 ghost use Rattle.serde_json.specs.Written.{comma_if, compact_text, has_float, items_text};
 ghost use Rattle.der_pieces.specs.Marks.{breach_of};
 ghost use Rattle.der_json.specs.Json.{boolean_or_null as boolean_or_null_is, fault_json, fault_data, items_of, rule_json};
 ghost use Rattle.der_json.specs.Json.{number_or_null as number_or_null_is, text_or_null as text_or_null_is};
-ghost use Rattle.der_json.specs.Rows.{IsExact, fault_text, first_members, last_members, rules_text, text_member};
+ghost use Rattle.der_json.specs.Rows.{IsExact, fault_text, first_members, last_members, rules_text};
 
 use crate::fault::{Fault, fault_value};
 use crate::member::{push_member, push_text, push_text_if};
@@ -81,9 +81,9 @@ impl Object {
     {
         push_text_if(alloc, b",\"field\":", self.field, out)?;
         push_text_if(alloc, b",\"of\":", self.of, out)?;
-        push_optional_text(alloc, b",\"name\":", &self.name, out)?;
-        push_optional_text(alloc, b",\"shown\":", &self.shown, out)?;
-        push_optional_text(alloc, b",\"octets\":", &self.octets, out)?;
+        push_text_if(alloc, b",\"name\":", self.name.as_deref(), out)?;
+        push_text_if(alloc, b",\"shown\":", self.shown.as_deref(), out)?;
+        push_text_if(alloc, b",\"octets\":", self.octets.as_deref(), out)?;
         push_rules(alloc, &self.not_der, out)?;
         push_fault(alloc, &self.fault, out)?;
         Ok(())
@@ -117,22 +117,6 @@ fn text_or_null(alloc: Global, text: Option<&str>) -> Result<Value, AllocError>
     match text {
         Some(text) => Value::try_from_str(alloc, text),
         None => Ok(Value::Null),
-    }
-}
-
-// Puts a text behind its name, if there is one.
-fn push_optional_text(
-    alloc: Global,
-    name: &[u8],
-    text: &Option<String>,
-    out: &mut Vec<u8>,
-) -> Result<(), AllocError>
-    ensures { OnOk result (out.new.items
-        ≡ out.old.items ++ text_member name.now (option_map string_bytes text.now)) }
-{
-    match text {
-        Some(text) => push_text(alloc, name, text, out),
-        None => Ok(()),
     }
 }
 

@@ -1,11 +1,11 @@
 -- The text of a row that has a value is that of its value, for `encodings::push_row`.
 use Rattle.std.proofs.Common.{◌≡◌, ℕ, false, List, [], ◌++◌, ap, append-nil, refl, ◌∙◌}
+use Rattle.std.proofs.lemmas.Option.{IfSome_then}
 use Rattle.std.specs.Prelude.{IfSome, None, Option, Some, is_some, option_map, unwrap_or}
 use Rattle.der_lines.specs.Dump.{IsMeaningText}
 use Rattle.der_lines.specs.PieceRows.{IsKindText, IsPieceText}
 use Rattle.der_lines.specs.ValueText.{parenthesized_if}
 use Rattle.der_lines.specs.declared.values.ValueStyle.{ValueStyle}
-use Rattle.der_pieces.proofs.FieldPaths.{IfSome-weaker}
 use Rattle.der_pieces.specs.Pieces.{kind_meaning}
 use Rattle.der_pieces.specs.declared.piece.PieceKind.{PieceKind}
 use Rattle.der_pieces.specs.declared.piece.PieceKind.TheVariants.{Cut, EndOfContents, Leaf, Opened, Unreadable}
@@ -47,5 +47,5 @@ pub IsMeaningText-piece :
     IsMeaningText meaning (on_one_line text ++ on_one_line (unwrap_or (option_map text_of fault) [])))
 IsMeaningText-piece text_of piece text fault (style, value, name, of, is, e) right same =
     IsMeaningText-kind style piece.kind value text (unwrap_or (option_map text_of fault) []) name is e
-    (IfSome-weaker (kind_meaning piece.kind) _ _
-    (λ m none. unwrap_or-none text_of fault (same ∙ ap is_some none)) right)
+    (IfSome_then (kind_meaning piece.kind) right
+    (λ m none. unwrap_or-none text_of fault (same ∙ ap is_some none)))

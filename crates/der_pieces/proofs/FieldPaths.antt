@@ -1,7 +1,6 @@
 -- Which fields pieces are, for `fields::Fields::next` and `fields::Fields::see`.
-use Rattle.std.proofs.Common.{◌≡◌, ◌∙◌, ℕ, List, Option, None, Some, subst, sym}
+use Rattle.std.proofs.Common.{◌≡◌, ◌∙◌, ℕ, List, subst, sym}
 use Rattle.std.proofs.Math.Logic.{∥∥₁_map, ∥∥₁_map₂}
-use Rattle.std.specs.Prelude.{IfSome}
 use Rattle.der_shapes.specs.Spots.{IsPath}
 use Rattle.der_shapes.specs.Walks.{IsReached, path_of}
 use Rattle.der_shapes.specs.declared.shapes.Shapes.{Shapes}
@@ -10,11 +9,6 @@ use Rattle.der_shapes.specs.declared.walk.FieldWalk.{FieldWalk}
 use Rattle.der_shapes.specs.declared.walk.Frame.{Frame}
 use Rattle.der_pieces.specs.Fields.{EndsPath, GoesOver, StandsAround}
 use Rattle.der_pieces.specs.declared.place.Around.{Around}
-
--- what follows from what holds of something that may be there
-pub IfSome-weaker : {A : Type 0} (o : Option A) (P Q : A → Type 0) → ((x : A) → P x → Q x) → IfSome o P → IfSome o Q
-IfSome-weaker (Some x) P Q f h = f x h
-IfSome-weaker None P Q f h = tt
 
 -- a walk that went on goes over the same fields
 pub GoesOver-after :
