@@ -1,5 +1,5 @@
 -- For `node::Items::take`: the first is taken where it has the tag.
-use Rattle.std.proofs.Common.{◌∙◌, true, false, arith, refl, sym}
+use Rattle.std.proofs.Common.{◌∙◌, arith, refl, sym}
 use Rattle.asn1_outline.specs.Shapes.{more_shapes, no_shapes}
 use Rattle.der_account.specs.Places.{element_type}
 use Rattle.der_account.proofs.Taking.{HasTaken-first, HasTaken-none}

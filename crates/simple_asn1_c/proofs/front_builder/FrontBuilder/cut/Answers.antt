@@ -1,5 +1,5 @@
 -- For `front_builder::FrontBuilder::cut`: what it returns is right.
-use Rattle.std.proofs.Common.{◌≡◌, suc, ◌-◌, length, refl, arith}
+use Rattle.std.proofs.Common.{◌≡◌, suc, length, refl, arith}
 use Rattle.std.proofs.lemmas.Grind.{common_steps}
 use Rattle.simple_asn1_c.proofs.Fronts.{IsFront-take_behind, IsFront-take_all}
 use Rattle.simple_asn1_c.proofs.front_builder.FrontBuilder.cut.Goals as goal
