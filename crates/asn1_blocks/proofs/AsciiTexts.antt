@@ -6,6 +6,7 @@ use Rattle.std.specs.Str.{IsAscii}
 use Rattle.std.proofs.lemmas.Bool.{and_parts, or_cases}
 use Rattle.std.proofs.lemmas.Bool.Decides.{nat_tests}
 use Rattle.std.proofs.lemmas.Str.Ascii.{IsAscii-cons, IsAscii-nil}
+use Rattle.asn1_headers.specs.declared.tags.TheConstants.{NUMERIC_STRING, VISIBLE_STRING}
 use Rattle.asn1_blocks.specs.UnknownValues.{is_ascii_character, is_general, is_numeric, is_visible}
 
 is_numeric-lt : (c : ℕ) → is_numeric c ≡ true → c < 128
@@ -32,8 +33,8 @@ if-cases false false x y z P e f g h = h e
 -- the characters of each kind of ASCII text are below 128
 is_ascii_character-lt : (tag c : ℕ) → is_ascii_character tag c ≡ true → c < 128
 is_ascii_character-lt tag c e =
-    if-cases (tag == 18) (tag == 26) (is_numeric c) (is_visible c) (is_general c) (c < 128) e (is_numeric-lt c)
-    (is_visible-lt c) (is_general-lt c)
+    if-cases (tag == NUMERIC_STRING) (tag == VISIBLE_STRING) (is_numeric c) (is_visible c) (is_general c) (c < 128) e
+    (is_numeric-lt c) (is_visible-lt c) (is_general-lt c)
 
 -- a text of allowed characters is ASCII
 pub IsAscii-characters : (tag : ℕ) (cs : List ℕ) → list_all (is_ascii_character tag) cs ≡ true → IsAscii cs

@@ -6,6 +6,7 @@ use Rattle.std.proofs.lemmas.Bool.{false≢true, cases_Bool, or_cases, or_right,
 use Rattle.asn1_blocks.specs.declared.block.GroupKind.{GroupKind}
 use Rattle.asn1_blocks.specs.declared.block.GroupKind.TheVariants.{Sequence, Set}
 use Rattle.asn1_headers.specs.Fault.{DecodeFault, IsOfReading}
+use Rattle.asn1_headers.specs.declared.tags.TheConstants.{BIT_STRING, BMP_STRING, BOOLEAN, GENERALIZED_TIME, IA5_STRING, INTEGER, NULL, OBJECT_IDENTIFIER, OCTET_STRING, PRINTABLE_STRING, SEQUENCE, SET, TELETEX_STRING, UNIVERSAL_STRING, UTC_TIME, UTF8_STRING}
 use Rattle.asn1_numbers.specs.Octets.{AreOctets}
 use Rattle.asn1_numbers.specs.TwosComplement.{signed_number}
 use Rattle.asn1_leaves.specs.StringKind.{StringKind, utf8, printable, teletex, ia5, universal, bmp}
@@ -47,8 +48,8 @@ string_tag-lt bmp = lit< tt
 -- the kind of a string by its tag
 kind_of_tag : ℕ → StringKind
 kind_of_tag n =
-    if n == 12 then utf8 else (if n == 19 then printable else (if n == 20 then teletex
-    else (if n == 22 then ia5 else (if n == 28 then universal else bmp))))
+    if n == UTF8_STRING then utf8 else if n == PRINTABLE_STRING then printable else if n == TELETEX_STRING then teletex
+    else if n == IA5_STRING then ia5 else if n == UNIVERSAL_STRING then universal else bmp
 
 kind_of_tag-string_tag : (kind : StringKind) → kind_of_tag (string_tag kind) ≡ kind
 unfolding kind_of_tag
@@ -305,57 +306,56 @@ LeafMeaning-same_tag (text kind cs) n contents t =
 
 -- the tag of a string of characters is the tag of some leaf
 is_string_tag-leaf : (n : ℕ) → is_string_tag n ≡ true → (l : Leaf) × (n ≡ leaf_tag l)
-is_string_tag-leaf n e = elim (or_cases ((n == 12) || (n == 19) || (n == 20) || (n == 22) || (n == 28)) (n == 30) e) [
-  | inr a ↦ (text bmp [], eqb-true n 30 a)
-  | inl e ↦ elim (or_cases ((n == 12) || (n == 19) || (n == 20) || (n == 22)) (n == 28) e) [
-    | inr a ↦ (text universal [], eqb-true n 28 a)
-    | inl e ↦ elim (or_cases ((n == 12) || (n == 19) || (n == 20)) (n == 22) e) [
-      | inr a ↦ (text ia5 [], eqb-true n 22 a)
-      | inl e ↦ elim (or_cases ((n == 12) || (n == 19)) (n == 20) e) [
-        | inr a ↦ (text teletex [], eqb-true n 20 a)
-        | inl e ↦ elim (or_cases (n == 12) (n == 19) e)
-            [ inl a ↦ (text utf8 [], eqb-true n 12 a) | inr a ↦ (text printable [], eqb-true n 19 a) ]
+is_string_tag-leaf n e = elim (or_cases _ (n == BMP_STRING) e) [
+  | inr a ↦ (text bmp [], eqb-true n BMP_STRING a)
+  | inl e ↦ elim (or_cases _ (n == UNIVERSAL_STRING) e) [
+    | inr a ↦ (text universal [], eqb-true n UNIVERSAL_STRING a)
+    | inl e ↦ elim (or_cases _ (n == IA5_STRING) e) [
+      | inr a ↦ (text ia5 [], eqb-true n IA5_STRING a)
+      | inl e ↦ elim (or_cases _ (n == TELETEX_STRING) e) [
+        | inr a ↦ (text teletex [], eqb-true n TELETEX_STRING a)
+        | inl e ↦ elim (or_cases (n == UTF8_STRING) (n == PRINTABLE_STRING) e) [
+          | inl a ↦ (text utf8 [], eqb-true n UTF8_STRING a)
+          | inr a ↦ (text printable [], eqb-true n PRINTABLE_STRING a)
+        ]
       ]
     ]
   ]
 ]
 
--- each tag from 1 to 5 is the tag of some leaf
-leaf_tag-low : (n : ℕ) → ((n == 1) || (n == 2) || (n == 3) || (n == 4) || (n == 5)) ≡ true →
+-- the first five of the tags of leaves are those of some leaf
+leaf_tag-low : (n : ℕ) →
+    ((n == BOOLEAN) || (n == INTEGER) || (n == BIT_STRING) || (n == OCTET_STRING) || (n == NULL)) ≡ true →
     (l : Leaf) × (n ≡ leaf_tag l)
-leaf_tag-low n e = elim (or_cases ((n == 1) || (n == 2) || (n == 3) || (n == 4)) (n == 5) e) [
-  | inr a ↦ (null, eqb-true n 5 a)
-  | inl e ↦ elim (or_cases ((n == 1) || (n == 2) || (n == 3)) (n == 4) e) [
-    | inr a ↦ (octet_string [], eqb-true n 4 a)
-    | inl e ↦ elim (or_cases ((n == 1) || (n == 2)) (n == 3) e) [
-      | inr a ↦ (bit_string 0 [], eqb-true n 3 a)
-      | inl e ↦ elim (or_cases (n == 1) (n == 2) e)
-          [ inl a ↦ (boolean true, eqb-true n 1 a) | inr a ↦ (integer (pos 0), eqb-true n 2 a) ]
+leaf_tag-low n e = elim (or_cases _ (n == NULL) e) [
+  | inr a ↦ (null, eqb-true n NULL a)
+  | inl e ↦ elim (or_cases _ (n == OCTET_STRING) e) [
+    | inr a ↦ (octet_string [], eqb-true n OCTET_STRING a)
+    | inl e ↦ elim (or_cases _ (n == BIT_STRING) e) [
+      | inr a ↦ (bit_string 0 [], eqb-true n BIT_STRING a)
+      | inl e ↦ elim (or_cases (n == BOOLEAN) (n == INTEGER) e) [
+        | inl a ↦ (boolean true, eqb-true n BOOLEAN a)
+        | inr a ↦ (integer (pos 0), eqb-true n INTEGER a)
+      ]
     ]
   ]
 ]
 
 -- a tag of leaves is that of some leaf
 is_leaf_tag-leaf : (n : ℕ) → is_leaf_tag n ≡ true → (l : Leaf) × (n ≡ leaf_tag l)
-is_leaf_tag-leaf n e = elim
-    (or_cases ((n == 1) || (n == 2) || (n == 3) || (n == 4) || (n == 5) || (n == 6) || (n == 23) || (n == 24))
-    (is_string_tag n) e) [
-      | inr a ↦ is_string_tag-leaf n a
-      | inl e ↦ elim (or_cases
-          ((n == 1) || (n == 2) || (n == 3) || (n == 4) || (n == 5) || (n == 6) || (n == 23)) (n == 24)
-          e) [
-            | inr a ↦ (generalized_time some_moment, eqb-true n 24 a)
-            | inl e ↦ elim (or_cases
-                ((n == 1) || (n == 2) || (n == 3) || (n == 4) || (n == 5) || (n == 6)) (n == 23)
-                e) [
-                  | inr a ↦ (utc_time some_moment, eqb-true n 23 a)
-                  | inl e ↦ elim (or_cases ((n == 1) || (n == 2) || (n == 3) || (n == 4) || (n == 5)) (n == 6) e) [
-                    | inr a ↦ (object_identifier [], eqb-true n 6 a)
-                    | inl e ↦ leaf_tag-low n e
-                  ]
-                ]
-          ]
+is_leaf_tag-leaf n e = elim (or_cases _ (is_string_tag n) e) [
+  | inr a ↦ is_string_tag-leaf n a
+  | inl e ↦ elim (or_cases _ (n == GENERALIZED_TIME) e) [
+    | inr a ↦ (generalized_time some_moment, eqb-true n GENERALIZED_TIME a)
+    | inl e ↦ elim (or_cases _ (n == UTC_TIME) e) [
+      | inr a ↦ (utc_time some_moment, eqb-true n UTC_TIME a)
+      | inl e ↦ elim (or_cases _ (n == OBJECT_IDENTIFIER) e) [
+        | inr a ↦ (object_identifier [], eqb-true n OBJECT_IDENTIFIER a)
+        | inl e ↦ leaf_tag-low n e
+      ]
     ]
+  ]
+]
 
 -- contents octets of a leaf's tag mean a leaf, or are at fault
 pub LeafContents-or_fault : (n : ℕ) (contents : List ℕ) → is_leaf_tag n ≡ true → length contents < 2 ^ 64 →
@@ -374,8 +374,8 @@ TagKind-total n = elim (cases_Bool (is_known_tag n)) [
   | inr e ↦ unknown_tag (IsUnknownTag-not_known n e)
   | inl e ↦ elim (or_cases (is_leaf_tag n) (is_group_tag n) e) [
     | inl a ↦ leaf_tag_of a
-    | inr a ↦ elim (or_cases (n == 16) (n == 17) a)
-        [ inl b ↦ group_tag_of Sequence (eqb-true n 16 b) | inr b ↦ group_tag_of Set (eqb-true n 17 b) ]
+    | inr a ↦ elim (or_cases (n == SEQUENCE) (n == SET) a)
+        [ inl b ↦ group_tag_of Sequence (eqb-true n SEQUENCE b) | inr b ↦ group_tag_of Set (eqb-true n SET b) ]
   ]
 ]
 
@@ -385,8 +385,8 @@ is_known_tag-unknown n u = elim (cases_Bool (is_known_tag n)) [
   | inr e ↦ e
   | inl e ↦ elim (or_cases (is_leaf_tag n) (is_group_tag n) e) [
     | inl a ↦ let l = is_leaf_tag-leaf n a in absurd (u.0 l.0 l.1)
-    | inr a ↦ elim (or_cases (n == 16) (n == 17) a)
-        [ inl b ↦ absurd (u.1 Sequence (eqb-true n 16 b)) | inr b ↦ absurd (u.1 Set (eqb-true n 17 b)) ]
+    | inr a ↦ elim (or_cases (n == SEQUENCE) (n == SET) a)
+        [ inl b ↦ absurd (u.1 Sequence (eqb-true n SEQUENCE b)) | inr b ↦ absurd (u.1 Set (eqb-true n SET b)) ]
   ]
 ]
 

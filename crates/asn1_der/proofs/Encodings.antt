@@ -6,6 +6,7 @@ use Rattle.asn1_headers.specs.declared.header.ASN1Class.{ASN1Class}
 use Rattle.asn1_headers.specs.declared.header.ASN1Class.TheVariants.{Universal, Application, ContextSpecific, Private}
 use Rattle.asn1_headers.proofs.Prefixes.{Encoding-unique, Encoding-not_empty}
 use Rattle.asn1_headers.proofs.Shortest.{IsIdentifier-shortest, IsLength-shortest}
+use Rattle.asn1_headers.specs.declared.tags.TheConstants.{SET}
 use Rattle.asn1_blocks.specs.Places.{IsEncoding}
 use Rattle.asn1_der.specs.Der.{AreDerEncodings, IsDerEncoding, IsInOrder, IsRightAlone, IsShortest, more_encodings, no_encodings, of_other_constructed, of_other_primitive, of_primitive_type, of_sequence, of_set}
 use Rattle.asn1_der.specs.Steps.{IsWhole, AreDer}
@@ -42,7 +43,7 @@ HasShortestForm-der x (of_primitive_type {tag = n} s r t h) =
     record { c = Universal; k = false; n = n; v = _; shortest = s }
 HasShortestForm-der x (of_sequence {tag = n} s t other items d) =
     record { c = Universal; k = true; n = n; v = _; shortest = s }
-HasShortestForm-der x (of_set s items d o) = record { c = Universal; k = true; n = 17; v = _; shortest = s }
+HasShortestForm-der x (of_set s items d o) = record { c = Universal; k = true; n = SET; v = _; shortest = s }
 HasShortestForm-der x (of_other_constructed {class = c} {tag = n} other s items d) =
     record { c = c; k = true; n = n; v = _; shortest = s }
 HasShortestForm-der x (of_other_primitive {class = c} {tag = n} other s) =
@@ -135,13 +136,13 @@ IsWhole-some_fields x small (of_primitive_type {contents = v} {tag = n} s r t h)
 IsWhole-some_fields x small (of_sequence {contents = v} {tag = n} s t other items d) =
     (Universal, true, n, v, record { alone = (s, (t, λ e. absurd (other e))); items = λ e. (items, d) })
 IsWhole-some_fields x small (of_set {contents = v} s items d o) =
-    let i = shortest_identifier Universal true 17 in
+    let i = shortest_identifier Universal true SET in
     let l = shortest_length (length v) in
     let size : length v < 2 ^ 64 =
     omega (arith, small, ap length s.whole, length-append i (l ++ v), length-append l v) in (
       Universal,
       true,
-      17,
+      SET,
       v,
       record {
         alone = (s, (refl, λ e others ds. subst IsInOrder (AreDerEncodings-unique v v items others size refl d ds) o));
@@ -171,12 +172,12 @@ IsDerEncoding-whole x Universal false n v w =
 IsDerEncoding-whole x Universal true n v w =
     let (items, d) = w.items refl in
     let (shortest, (group, in_order)) = w.alone in
-    let sequence : n ≢ 17 → IsDerEncoding x = λ other. of_sequence shortest group other items d in
-    elim (cases_lt n 17) [
+    let sequence : n ≢ SET → IsDerEncoding x = λ other. of_sequence shortest group other items d in
+    elim (cases_lt n SET) [
       | inl lt ↦ sequence (λ e. omega (arith, lt, e))
-      | inr ge ↦ elim (cases_lt 17 n) [
+      | inr ge ↦ elim (cases_lt SET n) [
         | inl gt ↦ sequence (λ e. omega (arith, gt, e))
-        | inr le ↦ let e : n ≡ 17 = omega (arith, ge, le) in
+        | inr le ↦ let e : n ≡ SET = omega (arith, ge, le) in
             of_set (subst (λ z. IsShortest x Universal true z v) e shortest) items d (in_order e items d)
       ]
     ]

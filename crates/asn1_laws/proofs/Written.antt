@@ -2,6 +2,7 @@
 use Rattle.std.proofs.Common.{◌≡◌, ◌≢◌, ◌↔◌, ℕ, ◌<◌, ◌^◌, Bool, true, false, List, [], ◌∷◌, ◌++◌, length, refl, sym, ap, arith, length-append, append-nil}
 use Rattle.asn1_headers.specs.declared.header.ASN1Class.{ASN1Class}
 use Rattle.asn1_headers.specs.declared.header.ASN1Class.TheVariants.{Universal}
+use Rattle.asn1_headers.specs.declared.tags.TheConstants.{SEQUENCE, SET}
 use Rattle.asn1_leaves.specs.StringKind.{utf8, printable, teletex, ia5, universal, bmp}
 use Rattle.asn1_blocks.specs.Contents.{leaf_contents, leaf_tag}
 use Rattle.asn1_blocks.specs.Faithful.{AreFaithful, IsFaithful}
@@ -46,11 +47,11 @@ mutual
       of_primitive_type (IsShortest-shortest_encoding Universal false (leaf_tag l) (leaf_contents l)) r.0 r.1
       (HasDerContents-leaf_contents l f t)
   IsDerEncoding-canonical (group o Sequence bs) f t =
-      of_sequence (IsShortest-shortest_encoding Universal true 16 (all_canonical bs)) refl
+      of_sequence (IsShortest-shortest_encoding Universal true SEQUENCE (all_canonical bs)) refl
       (λ e. absurd (omega (arith, e)))
       (each_canonical bs) (AreDerEncodings-all_canonical bs f t)
   IsDerEncoding-canonical (group o Set bs) f t =
-      of_set (IsShortest-shortest_encoding Universal true 17 (all_canonical bs)) (each_canonical bs)
+      of_set (IsShortest-shortest_encoding Universal true SET (all_canonical bs)) (each_canonical bs)
       (AreDerEncodings-all_canonical bs f t.0) t.1
   IsDerEncoding-canonical (explicit c o n b) f t =
       of_other_constructed f.0 (IsShortest-shortest_encoding c true n (canonical b)) (canonical b ∷ [])
@@ -92,15 +93,15 @@ mutual
       let w = IsWhole-shortest_encoding Universal false (leaf_tag l) (leaf_contents l) small d in
       is_der_leaf-leaf_contents l f (IsRightAlone-leaf l false (leaf_contents l) w.alone.1).1
   IsDerTree-canonical (group o Sequence bs) small f d =
-      let w = IsWhole-shortest_encoding Universal true 16 (all_canonical bs) small d in
+      let w = IsWhole-shortest_encoding Universal true SEQUENCE (all_canonical bs) small d in
       AreDerTrees-all_canonical bs
-      (omega (arith, small, length-le_shortest_encoding Universal true 16 (all_canonical bs))) f
+      (omega (arith, small, length-le_shortest_encoding Universal true SEQUENCE (all_canonical bs))) f
       (w.items refl)
   IsDerTree-canonical (group o Set bs) small f d =
-      let w = IsWhole-shortest_encoding Universal true 17 (all_canonical bs) small d in
+      let w = IsWhole-shortest_encoding Universal true SET (all_canonical bs) small d in
       let t =
       AreDerTrees-all_canonical bs
-      (omega (arith, small, length-le_shortest_encoding Universal true 17 (all_canonical bs))) f
+      (omega (arith, small, length-le_shortest_encoding Universal true SET (all_canonical bs))) f
       (w.items refl) in
       let (_, (_, in_order)) = w.alone in
       (t, in_order refl (each_canonical bs) (AreDerEncodings-all_canonical bs f t))

@@ -2,6 +2,7 @@
 use Rattle.std.proofs.Common.{◌≡◌, ℕ, Bor, None, Option, Some, suc, ◌+◌, ◌-◌, ◌<◌, ◌≤◌, ◌^◌, ◌++◌, List, [], ◌∷◌, length, min, refl, sym, ap, ◌∙◌, subst, arith, inl}
 use Rattle.std.specs.List.{slice_range}
 use Rattle.std.specs.Prelude.{MatchOption}
+use Rattle.asn1_headers.specs.declared.tags.TheConstants.{BIT_STRING, OBJECT_IDENTIFIER, SEQUENCE}
 use Rattle.asn1_blocks.specs.HeadersBegun.{IsReadInside}
 use Rattle.asn1_blocks.specs.Places.{HeaderFound}
 use Rattle.asn1_blocks.specs.declared.parsed.PlacedHeader.{PlacedHeader}
@@ -108,11 +109,12 @@ IsUniversal-shape_entry o h items next depth tag e small is (class, number) =
     subst (IsUniversal tag) (sym is) (class, min-of_small_tag h.tag tag number small)
 
 -- the contents octets of a SEQUENCE are read as encodings
-IsReadInside-sequence : (h : PlacedHeader) → IsUniversalHeader 16 h → IsReadInside h.class h.constructed h.tag
+IsReadInside-sequence : (h : PlacedHeader) → IsUniversalHeader SEQUENCE h → IsReadInside h.class h.constructed h.tag
 IsReadInside-sequence h (class, tag) = subst (λ z. IsReadInside h.class h.constructed z) (sym tag) (inl (class, refl))
 
 -- the items of a SEQUENCE are the shapes of its contents octets
-AreShapes-sequence : (x : List ℕ) (h : PlacedHeader) (items : Shapes) → IsUniversalHeader 16 h → HasItems x h items →
+AreShapes-sequence : (x : List ℕ) (h : PlacedHeader) (items : Shapes) → IsUniversalHeader SEQUENCE h →
+    HasItems x h items →
     AreShapes x h.start h.end items
 AreShapes-sequence x h items u (read_inside i are) = are
 AreShapes-sequence x h items u (as_it_came other c q) = absurd (other u.0)
@@ -148,9 +150,9 @@ AreShapes-at_end x p e all at (one_more f has more) = absurd (omega (arith, at, 
 
 -- entries begin with a triple where shapes do
 BeginWithTriple-shapes :
-    (w c a i s : PlacedHeader) (m o p q r : ℕ) (cs is bs ss rest : Shapes) → IsUniversalHeader 16 w →
-    IsUniversalHeader 16 a → IsUniversalHeader 6 i
-    → IsUniversalHeader 3 s →
+    (w c a i s : PlacedHeader) (m o p q r : ℕ) (cs is bs ss rest : Shapes) → IsUniversalHeader SEQUENCE w →
+    IsUniversalHeader SEQUENCE a → IsUniversalHeader OBJECT_IDENTIFIER i
+    → IsUniversalHeader BIT_STRING s →
     BeginWithTriple (entries_of 0 0 (shapes_of_three w c a s m o p q cs (more_shapes r i is bs) ss rest))
 BeginWithTriple-shapes w c a i s m o p q r cs is bs ss rest uw ua ui us =
     let inner = more_shapes r i is bs in
@@ -158,9 +160,9 @@ BeginWithTriple-shapes w c a i s m o p q r cs is bs ss rest uw ua ui us =
     let at_two = entry_at-second w c a s m o p q cs inner ss rest in
     let next : (entry_at rs (second_index cs)).next ≡ third_index cs inner = ap (λ (z : Entry). z.next) at_two in
     record {
-      whole = IsUniversal-shape_entry m w 3 _ 0 16 (entry_at rs 0) (omega arith) refl uw;
+      whole = IsUniversal-shape_entry m w 3 _ 0 SEQUENCE (entry_at rs 0) (omega arith) refl uw;
       three = refl;
-      algorithm = IsUniversal-shape_entry p a _ _ 1 16 (entry_at rs (second_index cs)) (omega arith) at_two ua;
+      algorithm = IsUniversal-shape_entry p a _ _ 1 SEQUENCE (entry_at rs (second_index cs)) (omega arith) at_two ua;
       some = subst (λ (z : Entry). 0 < z.items) (sym at_two) (omega arith);
       identifier = IsUniversal-shape_entry r i _ _ 2 6 (entry_at rs (second_index cs + 1)) (omega arith)
           (entry_at-inside_second w c a s i m o p q r cs is bs ss rest (second_index cs + 1) refl) ui;
@@ -218,7 +220,7 @@ HasSomeTriple x = (w : PlacedHeader) × (c : PlacedHeader) × (a : PlacedHeader)
     (s : PlacedHeader) × HasTripleHeaders x w c a i s
 
 module _ (x : List ℕ) (m : ℕ) (w : PlacedHeader) (rest : Shapes) (found : HeaderFound x 0 (length x) w)
-    (uw : IsUniversalHeader 16 w) where
+    (uw : IsUniversalHeader SEQUENCE w) where
   -- octets whose entries begin with a triple have its headers, by the items of the first
   HasSomeTriple-inside : (ms : Shapes) → AreShapes x w.start w.end ms → shape_count ms ≡ 3 →
       BeginWithTriple (entries_of 0 0 (more_shapes m w ms rest)) → HasSomeTriple x
@@ -244,13 +246,14 @@ module _ (x : List ℕ) (m : ℕ) (w : PlacedHeader) (rest : Shapes) (found : He
       let ended : s.end ≡ w.end = FirstOf-shapes x s.end w.end no_shapes h.2 in
       let at_two = entry_at-second w c a s m o p q cs inner ss rest in
       let next : (entry_at rs (second_index cs)).next ≡ third_index cs inner = ap (λ (z : Entry). z.next) at_two in
-      let ua = IsUniversalHeader-shape_entry p a 0 0 1 16 (omega arith) (subst (IsUniversal 16) at_two b.algorithm) in
-      let ui = IsUniversalHeader-shape_entry r i 0 0 2 6 (omega arith)
-      (subst (IsUniversal 6) (entry_at-inside_second w c a s i m o p q r cs is bs ss rest (second_index cs + 1) refl)
-      b.identifier) in
-      let us = IsUniversalHeader-shape_entry q s 0 0 1 3 (omega arith)
-      (subst (IsUniversal 3) (entry_at-third w c a s m o p q cs inner ss rest (entry_at rs (second_index cs)).next next)
-      b.signature) in
+      let ua = IsUniversalHeader-shape_entry p a 0 0 1 SEQUENCE (omega arith)
+      (subst (IsUniversal SEQUENCE) at_two b.algorithm) in
+      let ui = IsUniversalHeader-shape_entry r i 0 0 2 OBJECT_IDENTIFIER (omega arith)
+      (subst (IsUniversal OBJECT_IDENTIFIER)
+      (entry_at-inside_second w c a s i m o p q r cs is bs ss rest (second_index cs + 1) refl) b.identifier) in
+      let us = IsUniversalHeader-shape_entry q s 0 0 1 BIT_STRING (omega arith)
+      (subst (IsUniversal BIT_STRING)
+      (entry_at-third w c a s m o p q cs inner ss rest (entry_at rs (second_index cs)).next next) b.signature) in
       let k = FirstOf-shapes x a.start a.end inner (AreShapes-sequence x a inner ua g.1) in (
         w,
         c,
@@ -277,7 +280,7 @@ HasSomeTriple-shapes : (x : List ℕ) (all : Shapes) → AreShapes x 0 (length x
 HasSomeTriple-shapes x no_shapes are b = absurd (omega (arith, b.three))
 HasSomeTriple-shapes x (more_shapes m w ms rest) are b =
     let f = FirstOf-shapes x 0 (length x) (more_shapes m w ms rest) are in
-    let uw = IsUniversalHeader-shape_entry m w 0 0 0 16 (omega arith) b.whole in
+    let uw = IsUniversalHeader-shape_entry m w 0 0 0 SEQUENCE (omega arith) b.whole in
     HasSomeTriple-inside x m w rest f.0 uw ms (AreShapes-sequence x w ms uw f.1) b.three b
 
 -- the entries of octets that begin with the headers of no triple begin with no triple

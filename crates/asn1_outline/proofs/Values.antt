@@ -2,7 +2,7 @@
 -- `simple_asn1_c`.
 use Rattle.std.proofs.Common.{◌≡◌, ℕ, ◌+◌, ◌<◌, ◌≤◌, ◌^◌, ◌++◌, Bool, true, false, ◌-◌, List, [], Some, None, inl, inr, drop, get_or, length, take, refl, sym, ap, subst, ◌∙◌, arith, append_assoc, length-append}
 use Rattle.std.specs.List.{list_all, slice_range}
-use Rattle.std.specs.Prelude.{pos, ◌==◌, ◌||◌, ◌&&◌, if◌then◌else◌, Option, MatchOption}
+use Rattle.std.specs.Prelude.{pos, ◌==◌, ◌&&◌, if◌then◌else◌, Option, MatchOption}
 use Rattle.std.proofs.lemmas.Bool.{cases_Bool, cases_lt, false≢true, or_cases}
 use Rattle.std.proofs.lemmas.Bool.Decides.{nat_tests}
 use Rattle.std.proofs.lemmas.List.{length-drop, take-append-drop, take_at}
@@ -17,12 +17,14 @@ use Rattle.asn1_blocks.specs.Contents.{LeafContents, LeafFault, group_tag, is_kn
 use Rattle.asn1_blocks.specs.Inner.LeafBlocks.{IsLeafOf}
 use Rattle.asn1_blocks.proofs.Leaves.{is_known_tag-group_tag, LeafContents-unique, is_known_tag-leaf_tag, LeafContents-no_fault, is_leaf_tag-leaf_tag, is_known_tag-is_leaf_tag, is_leaf_tag-not_group_tag, string_tag-lt, is_known_tag-unknown}
 use Rattle.asn1_headers.specs.Fault.{DecodeFault}
+use Rattle.asn1_headers.specs.declared.tags.TheConstants.{ENUMERATED, GENERAL_STRING, INTEGER, NUMERIC_STRING, VISIBLE_STRING, GENERALIZED_TIME, SEQUENCE, SET, UTC_TIME}
+use Rattle.asn1_leaves.specs.Contents.Integer.{is_shortest_integer}
 use Rattle.asn1_leaves.specs.Contents.Text.{TextContents, TextFault, text_form}
 use Rattle.asn1_blocks.specs.declared.block.GroupKind.TheVariants.{Sequence, Set}
 use Rattle.asn1_blocks.specs.Grammar.{Encodes, IsDocument}
 use Rattle.asn1_blocks.specs.Places.{EncodingAt}
 use Rattle.asn1_blocks.specs.Tree.{Leaf, Tree, bit_string, boolean, explicit, generalized_time, group, integer, leaf, object_identifier, octet_string, text, unknown, utc_time}
-use Rattle.asn1_blocks.specs.UnknownValues.{is_ascii_character, is_ascii_tag, is_shortest_integer, tree_ascii_text, tree_enumerated}
+use Rattle.asn1_blocks.specs.UnknownValues.{is_ascii_character, is_ascii_tag, tree_ascii_text, tree_enumerated}
 use Rattle.asn1_blocks.specs.View.{tree_offset}
 use Rattle.asn1_blocks.proofs.Slices.{EncodingAt-unique}
 use Rattle.asn1_outline.specs.Entries.{AreEntries, HasTag, no_entry}
@@ -107,10 +109,10 @@ tree_integer-encoding o y (leaf p l) k w h (_, bit, contents, header, F, means) 
     let z = SameEncoding-octets y Universal Universal bit k (leaf_tag l) 2 contents w header h F e in
     leaf_integer-signed_number l contents w z.tag z.contents means
 tree_integer-encoding o y (group p Sequence bs) k w h (_, bit, contents, header, F, _) e =
-    let z = SameEncoding-octets y Universal Universal bit k 16 2 contents w header h F e in
+    let z = SameEncoding-octets y Universal Universal bit k SEQUENCE 2 contents w header h F e in
     absurd (omega (arith, z.tag))
 tree_integer-encoding o y (group p Set bs) k w h (_, bit, contents, header, F, _) e =
-    let z = SameEncoding-octets y Universal Universal bit k 17 2 contents w header h F e in
+    let z = SameEncoding-octets y Universal Universal bit k SET 2 contents w header h F e in
     absurd (omega (arith, z.tag))
 tree_integer-encoding o y (explicit c p n b) k w h (_, other, contents, header, F, _) e =
     let z = SameEncoding-octets y c Universal true k n 2 contents w header h F e in
@@ -123,7 +125,7 @@ tree_integer-encoding o y (unknown c j p n v) k w h (_, header, F, stays) e =
     ]
 
 -- the tree of an entry of class Universal with the tag number 2 is its INTEGER
-pub tree_integer-entry : (x : List ℕ) (b : Tree ℕ) (r : Entry) → IsEntryOf x b r → r.class ≡ Universal → r.tag ≡ 2
+pub tree_integer-entry : (x : List ℕ) (b : Tree ℕ) (r : Entry) → IsEntryOf x b r → r.class ≡ Universal → r.tag ≡ INTEGER
     → tree_integer b ≡ Some (signed_number (slice_range x (r.offset + r.header) (r.offset + r.header + r.contents)))
 tree_integer-entry x b r e class tag =
     let c = EntryContents-entry x b r e in
@@ -148,7 +150,7 @@ tree_integer-other_encoding o y (unknown d j p m v) c k n w h s e other = refl
 
 -- the tree of an entry with another class or tag number is no INTEGER
 pub tree_integer-other_entry : (x : List ℕ) (b : Tree ℕ) (r : Entry) → IsEntryOf x b r →
-    ((r.class ≡ Universal) × (r.tag ≡ 2) → ⊥) → tree_integer b ≡ None
+    ((r.class ≡ Universal) × (r.tag ≡ INTEGER) → ⊥) → tree_integer b ≡ None
 tree_integer-other_entry x b r e other =
     let c = EntryContents-entry x b r e in
     tree_integer-other_encoding (tree_offset b)
@@ -415,11 +417,11 @@ tree_ascii_text-none (group o g bs) other = refl
 tree_ascii_text-none (explicit c o n b) other = refl
 
 -- the tree of an entry with another tag number is no ENUMERATED
-pub tree_enumerated-other_tag : (x : List ℕ) (b : Tree ℕ) (r : Entry) → IsEntryOf x b r → (r.tag ≡ 10 → ⊥) →
+pub tree_enumerated-other_tag : (x : List ℕ) (b : Tree ℕ) (r : Entry) → IsEntryOf x b r → (r.tag ≡ ENUMERATED → ⊥) →
     tree_enumerated b ≡ None
-tree_enumerated-other_tag x (unknown Universal false o n v) r e other = elim (cases_Bool (n == 10)) [
+tree_enumerated-other_tag x (unknown Universal false o n v) r e other = elim (cases_Bool (n == ENUMERATED)) [
   | inl here ↦
-      let ten : n ≡ 10 = grind (arith, nat_tests, here) in
+      let ten : n ≡ ENUMERATED = grind (arith, nat_tests, here) in
       absurd (other ((IsPrimitive-fields x (unknown Universal false o n v) r n v e refl).2 (omega (arith, ten)) ∙ ten))
   | inr there ↦ ap (λ z. if z && is_shortest_integer v then Some (signed_number v) else None) there
 ]
@@ -432,9 +434,9 @@ tree_enumerated-other_tag x (group o g bs) r e other = refl
 tree_enumerated-other_tag x (explicit c o n b) r e other = refl
 
 is_ascii_tag-lt : (n : ℕ) → is_ascii_tag n ≡ true → n < 64
-is_ascii_tag-lt n e = elim (or_cases ((n == 18) || (n == 26)) (n == 27) e) [
+is_ascii_tag-lt n e = elim (or_cases _ (n == GENERAL_STRING) e) [
   | inr a ↦ grind (arith, nat_tests, a)
-  | inl a ↦ elim (or_cases (n == 18) (n == 26) a) [
+  | inl a ↦ elim (or_cases (n == NUMERIC_STRING) (n == VISIBLE_STRING) a) [
     | inl b ↦ grind (arith, nat_tests, b)
     | inr b ↦ grind (arith, nat_tests, b)
   ]
@@ -457,7 +459,7 @@ tree_ascii_text-other_tag x (leaf o l) r e other = refl
 tree_ascii_text-other_tag x (group o g bs) r e other = refl
 tree_ascii_text-other_tag x (explicit c o n b) r e other = refl
 
-pub tree_moment-none : (b : Tree ℕ) → IsNoLeafWith 23 b → IsNoLeafWith 24 b → tree_moment b ≡ None
+pub tree_moment-none : (b : Tree ℕ) → IsNoLeafWith UTC_TIME b → IsNoLeafWith GENERALIZED_TIME b → tree_moment b ≡ None
 tree_moment-none (leaf o (utc_time m)) other more = absurd (other o (utc_time m) refl refl)
 tree_moment-none (leaf o (generalized_time m)) other more = absurd (more o (generalized_time m) refl refl)
 tree_moment-none (leaf o l) other more = refl

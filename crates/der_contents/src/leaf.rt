@@ -2,6 +2,7 @@
 ghost use Rattle.std.specs.Prelude.{◌≡◌, false, true, None, Some, IfErr, IfOk, IfSome};
 ghost use Rattle.asn1_headers.specs.Fault.{OutOfMemoryOr};
 ghost use Rattle.asn1_headers.specs.declared.header.ASN1Class.TheVariants.{Universal};
+ghost use Rattle.asn1_headers.specs.declared.tags.TheConstants.{BIT_STRING, BMP_STRING, BOOLEAN, GENERALIZED_TIME, IA5_STRING, INTEGER, OBJECT_IDENTIFIER, OCTET_STRING, PRINTABLE_STRING, TELETEX_STRING, UNIVERSAL_STRING, UTC_TIME, UTF8_STRING};
 ghost use Rattle.asn1_blocks.specs.Contents.{LeafFault, is_leaf_tag};
 ghost use Rattle.der_elements.specs.Headers.{is_gone_into};
 ghost use Rattle.der_contents.specs.Values.{IsBerTime, IsMeaning, IsValue, has_wide_characters as has_wide_characters_is, is_wide};
@@ -133,21 +134,21 @@ fn universal_value(
 
 fn boolean_value(contents: &[u8]) -> Result<LeafValue, ASN1DecodeErr>
     ensures found { IfOk result (IsValue Universal BOOLEAN contents.now) }
-    ensures refused { IfErr result (OutOfMemoryOr (LeafFault 1 contents.now)) }
+    ensures refused { IfErr result (OutOfMemoryOr (LeafFault BOOLEAN contents.now)) }
 {
     Ok(LeafValue::Boolean(boolean::read(contents)?))
 }
 
 fn integer_value(alloc: Global, contents: &[u8]) -> Result<LeafValue, ASN1DecodeErr>
     ensures found { IfOk result (IsValue Universal INTEGER contents.now) }
-    ensures refused { IfErr result (OutOfMemoryOr (LeafFault 2 contents.now)) }
+    ensures refused { IfErr result (OutOfMemoryOr (LeafFault INTEGER contents.now)) }
 {
     Ok(LeafValue::Integer(integer::read(alloc, contents)?))
 }
 
 fn bits_value(alloc: Global, contents: &[u8], role: Role) -> Result<LeafValue, ASN1DecodeErr>
     ensures found { IfOk result (IsValue Universal BIT_STRING contents.now) }
-    ensures refused { IfErr result (OutOfMemoryOr (LeafFault 3 contents.now)) }
+    ensures refused { IfErr result (OutOfMemoryOr (LeafFault BIT_STRING contents.now)) }
 {
     let (count, octets) = bit_string::read(alloc, contents)?;
     Ok(LeafValue::Bits(Bits {
@@ -160,14 +161,14 @@ fn bits_value(alloc: Global, contents: &[u8], role: Role) -> Result<LeafValue, A
 
 fn octets_value(alloc: Global, contents: &[u8]) -> Result<LeafValue, ASN1DecodeErr>
     ensures found { IfOk result (IsValue Universal OCTET_STRING contents.now) }
-    ensures refused { IfErr result (OutOfMemoryOr (LeafFault 4 contents.now)) }
+    ensures refused { IfErr result (OutOfMemoryOr (LeafFault OCTET_STRING contents.now)) }
 {
     Ok(LeafValue::Octets(likely_text(alloc, contents)?))
 }
 
 fn identifier_value(alloc: Global, contents: &[u8]) -> Result<LeafValue, ASN1DecodeErr>
     ensures found { IfOk result (IsValue Universal OBJECT_IDENTIFIER contents.now) }
-    ensures refused { IfErr result (OutOfMemoryOr (LeafFault 6 contents.now)) }
+    ensures refused { IfErr result (OutOfMemoryOr (LeafFault OBJECT_IDENTIFIER contents.now)) }
 {
     let read = oid::read(alloc, contents)?;
     Ok(LeafValue::Identifier(identifier_of(alloc, contents, read)?))
@@ -175,7 +176,7 @@ fn identifier_value(alloc: Global, contents: &[u8]) -> Result<LeafValue, ASN1Dec
 
 fn utf8_value(alloc: Global, contents: &[u8]) -> Result<LeafValue, ASN1DecodeErr>
     ensures found { IfOk result (IsValue Universal UTF8_STRING contents.now) }
-    ensures refused { IfErr result (OutOfMemoryOr (LeafFault 12 contents.now)) }
+    ensures refused { IfErr result (OutOfMemoryOr (LeafFault UTF8_STRING contents.now)) }
 {
     let text = text::read(alloc, TextForm::Utf8, contents)?;
     Ok(LeafValue::Text(text))
@@ -183,7 +184,7 @@ fn utf8_value(alloc: Global, contents: &[u8]) -> Result<LeafValue, ASN1DecodeErr
 
 fn printable_value(alloc: Global, contents: &[u8]) -> Result<LeafValue, ASN1DecodeErr>
     ensures found { IfOk result (IsValue Universal PRINTABLE_STRING contents.now) }
-    ensures refused { IfErr result (OutOfMemoryOr (LeafFault 19 contents.now)) }
+    ensures refused { IfErr result (OutOfMemoryOr (LeafFault PRINTABLE_STRING contents.now)) }
 {
     let text = text::read(alloc, TextForm::Printable, contents)?;
     Ok(LeafValue::Text(text))
@@ -191,7 +192,7 @@ fn printable_value(alloc: Global, contents: &[u8]) -> Result<LeafValue, ASN1Deco
 
 fn teletex_value(alloc: Global, contents: &[u8]) -> Result<LeafValue, ASN1DecodeErr>
     ensures found { IfOk result (IsValue Universal TELETEX_STRING contents.now) }
-    ensures refused { IfErr result (OutOfMemoryOr (LeafFault 20 contents.now)) }
+    ensures refused { IfErr result (OutOfMemoryOr (LeafFault TELETEX_STRING contents.now)) }
 {
     let text = text::read(alloc, TextForm::Utf8, contents)?;
     Ok(LeafValue::Text(text))
@@ -200,7 +201,7 @@ fn teletex_value(alloc: Global, contents: &[u8]) -> Result<LeafValue, ASN1Decode
 // An octet is a character of an IA5String, also beyond 127.
 fn ia5_value(alloc: Global, contents: &[u8]) -> Result<LeafValue, ASN1DecodeErr>
     ensures found { IfOk result (IsValue Universal IA5_STRING contents.now) }
-    ensures refused { IfErr result (OutOfMemoryOr (LeafFault 22 contents.now)) }
+    ensures refused { IfErr result (OutOfMemoryOr (LeafFault IA5_STRING contents.now)) }
 {
     let text = text::read(alloc, TextForm::Octets, contents)?;
     Ok(LeafValue::Text(text))
@@ -208,7 +209,7 @@ fn ia5_value(alloc: Global, contents: &[u8]) -> Result<LeafValue, ASN1DecodeErr>
 
 fn utc_value(alloc: Global, contents: &[u8]) -> Result<LeafValue, ASN1DecodeErr>
     ensures found { IfOk result (IsValue Universal UTC_TIME contents.now) }
-    ensures refused { IfErr result (OutOfMemoryOr (LeafFault 23 contents.now)) }
+    ensures refused { IfErr result (OutOfMemoryOr (LeafFault UTC_TIME contents.now)) }
 {
     let moment = utc_time::read(alloc, contents)?;
     let text = moment_text(alloc, &moment, "")?;
@@ -218,7 +219,7 @@ fn utc_value(alloc: Global, contents: &[u8]) -> Result<LeafValue, ASN1DecodeErr>
 // A GeneralizedTime has each digit of its fraction, where a moment has nine at most.
 fn generalized_value(alloc: Global, contents: &[u8]) -> Result<LeafValue, ASN1DecodeErr>
     ensures found { IfOk result (IsValue Universal GENERALIZED_TIME contents.now) }
-    ensures refused { IfErr result (OutOfMemoryOr (LeafFault 24 contents.now)) }
+    ensures refused { IfErr result (OutOfMemoryOr (LeafFault GENERALIZED_TIME contents.now)) }
 {
     let moment = generalized_time::read(alloc, contents)?;
     let digits = fraction_digits(contents);
@@ -229,7 +230,7 @@ fn generalized_value(alloc: Global, contents: &[u8]) -> Result<LeafValue, ASN1De
 // Octets of a UniversalString that the library takes for UTF-8 are no characters of it, unless there are none.
 fn universal_string_value(alloc: Global, contents: &[u8]) -> Result<LeafValue, ASN1DecodeErr>
     ensures found { IfOk result (IsValue Universal UNIVERSAL_STRING contents.now) }
-    ensures refused { IfErr result (OutOfMemoryOr (LeafFault 28 contents.now)) }
+    ensures refused { IfErr result (OutOfMemoryOr (LeafFault UNIVERSAL_STRING contents.now)) }
 {
     let text = text::read(alloc, TextForm::Utf8, contents)?;
     if contents.is_empty() {
@@ -242,7 +243,7 @@ fn universal_string_value(alloc: Global, contents: &[u8]) -> Result<LeafValue, A
 // Octets of a BMPString that the library takes for UTF-8 are no characters of it, unless there are none.
 fn bmp_value(alloc: Global, contents: &[u8]) -> Result<LeafValue, ASN1DecodeErr>
     ensures found { IfOk result (IsValue Universal BMP_STRING contents.now) }
-    ensures refused { IfErr result (OutOfMemoryOr (LeafFault 30 contents.now)) }
+    ensures refused { IfErr result (OutOfMemoryOr (LeafFault BMP_STRING contents.now)) }
 {
     let text = text::read(alloc, TextForm::Utf8, contents)?;
     if contents.is_empty() {

@@ -1,12 +1,15 @@
 -- Segments of a string that are joined one after another, for `segments`.
-use Rattle.std.proofs.Common.{◌≡◌, ℕ, ◌+◌, ◌≤◌, ◌&&◌, ◌==◌, Bool, true, false, List, [], ◌∷◌, ◌++◌, drop, length, inl, inr}
+use Rattle.std.proofs.Common.{◌≡◌, ℕ, ◌+◌, ◌≤◌, ◌&&◌, ◌==◌, Bool, true, false, List, [], ◌∷◌, ◌++◌, drop, length, length-append, inl, inr}
 use Rattle.std.proofs.Common.{slice_range, refl, sym, ap, ◌∙◌, subst, arith}
 use Rattle.std.proofs.lemmas.Result.{IfOk-weaker}
 use Rattle.asn1_headers.specs.Front.{BeginsWithHeader, HasIndefiniteForm, IsAtFront}
 use Rattle.asn1_headers.specs.declared.whole_header.Header.{Header}
 use Rattle.asn1_headers.specs.declared.header.ASN1Class.TheVariants.{Universal}
+use Rattle.std.proofs.lemmas.List.{nil_from_length}
 use Rattle.std.specs.Prelude.{◌↔◌, IfOk, IsTrue, Result}
-use Rattle.der_elements.specs.Ends.{begins_with_end, end_at, taken}
+use Rattle.der_elements.specs.Ends.{end_at, taken}
+use Rattle.asn1_headers.specs.Indefinite.{begins_with_end}
+use Rattle.asn1_headers.specs.declared.tags.TheConstants.{BIT_STRING}
 use Rattle.der_elements.specs.Headers.{is_stray_form}
 use Rattle.der_elements.specs.Segments.{AreSegments, Joins, JoinsBits, constructed_one, ended_by_octets, no_more, one_ended}
 use Rattle.der_elements.specs.Segments.{AreSegmentsOf, no_segments, primitive_one, segment_tag}
@@ -475,27 +478,22 @@ pub record AreBits (contents : List ℕ) : Type 0 where
   pub few : unused ≤ 7
   pub none : bits ≡ [] → unused ≡ 0
 
-append-nil_second : (a b : List ℕ) → a ++ b ≡ [] → b ≡ []
-append-nil_second [] b e = e
-append-nil_second (x ∷ a) b e =
-    let never : x ∷ (a ++ b) ≡ [] = e in
-    absurd (cc never)
-
-AreBits-joined : (tag : ℕ) (before segment after : List ℕ) → tag ≡ 3 → Joins tag before segment after → AreBits after
+AreBits-joined : (tag : ℕ) (before segment after : List ℕ) → tag ≡ BIT_STRING → Joins tag before segment after →
+    AreBits after
 AreBits-joined tag before segment after is (inl (k, (bits, more, unused, p, q, few, none, s))) = record {
   unused = unused;
   bits = bits ++ more;
   are = s;
   few = few;
-  none = λ e. none (append-nil_second bits more e);
+  none = λ e. none (nil_from_length more (omega (arith, ap length e, length-append bits more)));
 }
 AreBits-joined tag before segment after is (inr (k, e)) =
-    let never : true ≡ false = sym (ap (λ z. z == 3) is) ∙ k in
+    let never : true ≡ false = sym (ap (λ z. z == BIT_STRING) is) ∙ k in
     absurd (cc never)
 
 AreBits-segments :
-    (tag : ℕ) (octets : List ℕ) (offset : ℕ) (ends : List End) (before after : List ℕ) → tag ≡ 3 → AreBits before →
-    AreSegments tag octets offset ends before after → AreBits after
+    (tag : ℕ) (octets : List ℕ) (offset : ℕ) (ends : List End) (before after : List ℕ) → tag ≡ BIT_STRING →
+    AreBits before → AreSegments tag octets offset ends before after → AreBits after
 AreBits-segments tag octets offset ends before after is bits (no_more none same) = subst AreBits (sym same) bits
 AreBits-segments tag octets offset ends before after is bits (one_ended end around e form none later) =
     AreBits-segments tag octets offset around before after is bits later
@@ -512,7 +510,7 @@ AreBits-segments tag octets offset ends before after is bits
 
 -- the segments of a BIT STRING are joined to bits
 pub AreBits-segments_of :
-    (tag : ℕ) (contents : List ℕ) (indefinite : Bool) (joined : List ℕ) → tag ≡ 3 →
+    (tag : ℕ) (contents : List ℕ) (indefinite : Bool) (joined : List ℕ) → tag ≡ BIT_STRING →
     AreSegmentsOf tag contents indefinite joined → AreBits joined
 AreBits-segments_of tag contents indefinite joined is h =
     let start : no_segments tag ≡ 0 ∷ [] = ap no_segments is in
@@ -521,7 +519,7 @@ AreBits-segments_of tag contents indefinite joined is h =
 
 -- where bits cannot be joined, the contents octets of a BIT STRING cannot be joined
 pub IfOk-joins_bits :
-    {E : Type 0} (r : Result Bool E) (tag : ℕ) (before segment : List ℕ) → tag ≡ 3 →
+    {E : Type 0} (r : Result Bool E) (tag : ℕ) (before segment : List ℕ) → tag ≡ BIT_STRING →
     IfOk r (λ done. done ≡ false → (after : List ℕ) → JoinsBits before segment after → ⊥) →
     IfOk r (λ done. done ≡ false → (after : List ℕ) → Joins tag before segment after → ⊥)
 IfOk-joins_bits r tag before segment e h = IfOk-weaker r _ _ each h
@@ -531,5 +529,5 @@ IfOk-joins_bits r tag before segment e h = IfOk-weaker r _ _ each h
         (after : List ℕ) → Joins tag before segment after → ⊥
     each done none is after (inl (k, bits)) = none is after bits
     each done none is after (inr (k, same)) =
-        let never : true ≡ false = sym (ap (λ z. z == 3) e) ∙ k in
+        let never : true ≡ false = sym (ap (λ z. z == BIT_STRING) e) ∙ k in
         absurd (cc never)

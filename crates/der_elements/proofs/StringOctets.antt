@@ -5,6 +5,7 @@ use Rattle.std.specs.Prelude.{◌↔◌, IsTrue}
 use Rattle.asn1_headers.specs.Front.{BeginsWithHeader, HasIndefiniteForm, HasNoHeader, IsAtFront}
 use Rattle.asn1_headers.specs.declared.whole_header.Header.{Header}
 use Rattle.asn1_headers.specs.declared.header.ASN1Class.TheVariants.{Universal}
+use Rattle.asn1_headers.specs.declared.tags.TheConstants.{BIT_STRING}
 use Rattle.der_elements.specs.Headers.{is_stray_form}
 use Rattle.der_elements.specs.Segments.{AreSegmentsOf}
 use Rattle.der_elements.specs.StringOctets.{AreInOnePiece, AreOctetsOf, HoldsNoOctets, HoldsOctets, IsString, is_string_tag}
@@ -119,17 +120,17 @@ module _ (element : List ℕ) (header : Header) (front : IsAtFront element heade
     HoldsNoOctets-no_piece none octets h = none h.contents (HasPiece-held octets h)
 
     AreOctetsOf-bits :
-        (contents : List ℕ) → tag ≡ 3 → AreBits contents →
+        (contents : List ℕ) → tag ≡ BIT_STRING → AreBits contents →
         ((octets : List ℕ) → AreOctetsOf tag contents octets → ⊥) → ⊥
     AreOctetsOf-bits contents e bits none =
-        none bits.bits (inl (ap (λ z. z == 3) e, (bits.unused, bits.are, bits.few, bits.none)))
+        none bits.bits (inl (ap (λ z. z == BIT_STRING) e, (bits.unused, bits.are, bits.few, bits.none)))
 
     AreOctetsOf-same_piece :
         (k : Bool) (contents held octets : List ℕ) → IsPiece k tag header element contents →
         IsPiece k tag header element held → ((octets : List ℕ) → AreOctetsOf tag contents octets → ⊥) →
         AreOctetsOf tag held octets → ⊥
     AreOctetsOf-same_piece true contents held octets segments segments' none (inl (three, are)) =
-        let e : tag ≡ 3 = eqb-true tag 3 three in
+        let e : tag ≡ BIT_STRING = eqb-true tag BIT_STRING three in
         AreOctetsOf-bits contents e
         (AreBits-segments_of tag (drop header.size element) header.is_indefinite contents e segments) none
     AreOctetsOf-same_piece true contents held octets segments segments' none (inr (other, are)) =

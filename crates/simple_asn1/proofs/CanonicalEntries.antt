@@ -14,6 +14,7 @@ use Rattle.asn1_headers.specs.declared.whole_header.Header.{Header}
 use Rattle.asn1_headers.specs.declared.header.ASN1Class.{ASN1Class}
 use Rattle.asn1_headers.specs.declared.header.ASN1Class.TheVariants.{Universal}
 use Rattle.asn1_headers.proofs.Prefixes.{Encoding-unique, Encoding-not_empty}
+use Rattle.asn1_headers.specs.declared.tags.TheConstants.{SEQUENCE, SET}
 use Rattle.asn1_blocks.specs.declared.block.GroupKind.TheVariants.{Sequence, Set}
 use Rattle.asn1_blocks.specs.Contents.{group_tag, leaf_contents, leaf_tag}
 use Rattle.asn1_blocks.specs.Grammar.{Encodes, EncodesAll, IsDocument}
@@ -298,7 +299,7 @@ HasCanonicalAt-shortest x r s is = record {
 }
 
 -- a SEQUENCE or SET with the shortest header is canonical
-pub HasCanonicalAt-group : (x : List ℕ) (r : Entry) → HasShortestAt x r → (r.tag ≡ 16) ⊎ (r.tag ≡ 17) →
+pub HasCanonicalAt-group : (x : List ℕ) (r : Entry) → HasShortestAt x r → (r.tag ≡ SEQUENCE) ⊎ (r.tag ≡ SET) →
     r.constructed ≡ true →
     HasCanonicalAt x r.offset
 HasCanonicalAt-group x r s is constructed = HasCanonicalAt-shortest x r s (record {

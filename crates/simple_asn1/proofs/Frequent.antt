@@ -1,5 +1,5 @@
 -- For `outline::frequent` and `write::in_place`: encodings of frequent tags with a header of two octets are canonical.
-use Rattle.std.proofs.Common.{◌≡◌, ◌≢◌, ℕ, ℤ, ◌+◌, ◌<◌, Bool, true, false, List, [], ◌∷◌, ◌++◌, ◌⊎◌, inl, inr, length, take, get_or, refl, sym, ap, ◌∙◌, subst, arith}
+use Rattle.std.proofs.Common.{◌≡◌, ◌≢◌, ℕ, ℤ, ◌<◌, Bool, true, false, List, [], ◌∷◌, ◌++◌, ◌⊎◌, inl, inr, length, take, get_or, refl, sym, ap, ◌∙◌, subst, arith}
 use Rattle.std.proofs.Math.ListN.{get_or-eq_default}
 use Rattle.std.proofs.Math.Seq.{take-append_seam}
 use Rattle.std.proofs.lemmas.Bool.{cases_lt}
@@ -9,6 +9,7 @@ use Rattle.asn1_numbers.proofs.SignedNumbers.{IsShortestSigned-drop, sign_before
 use Rattle.asn1_headers.specs.Header.{Encoding, leading_octet}
 use Rattle.asn1_headers.specs.declared.header.ASN1Class.{ASN1Class}
 use Rattle.asn1_headers.specs.declared.header.ASN1Class.TheVariants.{Universal}
+use Rattle.asn1_headers.specs.declared.tags.TheConstants.{GENERALIZED_TIME, INTEGER, OCTET_STRING, SET, UTF8_STRING}
 use Rattle.asn1_leaves.specs.Contents.Integer.{IntegerContents, integer_contents}
 use Rattle.asn1_leaves.specs.StringKind.{bmp, ia5, printable, teletex, universal, utf8}
 use Rattle.asn1_blocks.specs.declared.block.GroupKind.{GroupKind}
@@ -97,7 +98,7 @@ take-octets x n small k = elim (cases_lt k n) [
 -- contents octets of an INTEGER are canonical where the first is needed before the second, if there are two
 pub AreCanonicalContents-integer :
     (x : List ℕ) (n : ℕ) → ((k : ℕ) → get_or x k 0 < 256) → 0 < n → 0 < length x →
-    (1 < n → get_or x 0 0 ≢ sign_before (get_or x 1 0)) → AreCanonicalContents Universal false 2 (take n x)
+    (1 < n → get_or x 0 0 ≢ sign_before (get_or x 1 0)) → AreCanonicalContents Universal false INTEGER (take n x)
 AreCanonicalContents-integer x n small some more needed =
     let v = take n x in
     let first : get_or v 0 0 ≡ get_or x 0 0 = get_or-take n x 0 0 some in
@@ -116,7 +117,7 @@ AreCanonicalContents-integer x n small some more needed =
 
 -- tag numbers of leaves with one form alone
 abbrev IsPlain : ℕ → Type 0
-IsPlain tag = (tag ≡ 4) ⊎ (tag ≡ 12) ⊎ ((17 < tag) × (tag < 24))
+IsPlain tag = (tag ≡ OCTET_STRING) ⊎ (tag ≡ UTF8_STRING) ⊎ ((SET < tag) × (tag < GENERALIZED_TIME))
 
 -- no tag number outside 4, 12 and 18 to 23 has one form alone
 IsPlain-no_other : (tag n : ℕ) → IsPlain tag → tag ≡ n →

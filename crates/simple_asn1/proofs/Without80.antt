@@ -8,6 +8,7 @@ use Rattle.std.proofs.lemmas.Simd.{get_or-chunk, leading_from_mask_l, length-chu
 use lib.Lanes.{chunk, mask_l, top, zip2}
 use Rattle.asn1_numbers.specs.Octets.{AreOctets}
 use Rattle.asn1_headers.specs.declared.header.ASN1Class.TheVariants.{Universal}
+use Rattle.asn1_headers.specs.declared.tags.TheConstants.{OBJECT_IDENTIFIER}
 use Rattle.asn1_leaves.specs.Contents.ObjectIdentifier.{ObjectIdentifierContents, object_identifier_contents}
 use Rattle.asn1_leaves.specs.StringKind.{bmp, ia5, printable, teletex, universal, utf8}
 use Rattle.asn1_leaves.proofs.Leaves.ObjectIdentifier.{ObjectIdentifierContents-unended}
@@ -77,7 +78,7 @@ LeafContents-identifier contents written (generalized_time m) e p = absurd (omeg
 -- contents octets of an OBJECT IDENTIFIER none of which is 80 are canonical
 pub AreCanonicalContents-identifier :
     (contents : List ℕ) → AreOctets contents → ((k : ℕ) → k < length contents → get_or contents k 0 ≢ 128) →
-    AreCanonicalContents Universal false 6 contents
+    AreCanonicalContents Universal false OBJECT_IDENTIFIER contents
 AreCanonicalContents-identifier contents all none = record {
   no_group = λ u g e. leaf_tag-not_group_tag (object_identifier []) g e;
   primitive = λ u l e. refl;

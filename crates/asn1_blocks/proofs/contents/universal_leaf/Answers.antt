@@ -3,6 +3,7 @@ use Rattle.std.proofs.Common.{◌≡◌, ℕ, List, Option, Result, Ok, Err, IsE
 use Rattle.std.proofs.lemmas.Grind.{common_steps}
 use Rattle.asn1_blocks.specs.declared.block.ASN1Block.{ASN1Block}
 use Rattle.asn1_headers.specs.declared.error.ASN1DecodeErr.{ASN1DecodeErr}
+use Rattle.asn1_headers.specs.declared.tags.TheConstants.{BMP_STRING, PRINTABLE_STRING, TELETEX_STRING, UNIVERSAL_STRING, UTF8_STRING}
 use Rattle.asn1_headers.specs.Fault.{fault_of, OutOfMemoryOr}
 use Rattle.asn1_leaves.specs.StringKind.{StringKind, utf8, printable, teletex, universal, bmp}
 use Rattle.asn1_blocks.specs.Contents.{string_tag, LeafFault, of_text}
@@ -22,31 +23,31 @@ IfErr-text_fault kind tag contents d (Err e) h t (inr f) =
 
 pub returns-in_err-read-in-Some-eq12-clause-refused : goal.returns-in_err-read-in-Some-eq12-clause-refused
 returns-in_err-read-in-Some-eq12-clause-refused c =
-    let t : c.args.tag.now ≡ 12 = grind (arith, common_steps) in
+    let t : c.args.tag.now ≡ UTF8_STRING = grind (arith, common_steps) in
     IfErr-text_fault utf8 c.args.tag.now c.args.contents.now _ c.from_residual-in_err-read-in-Some-eq12.result
     c.from_residual-in_err-read-in-Some-eq12.ensures t c.in_err-read-in-Some-eq12.ensures.refused
 
 pub returns-in_err-read-in-Some-eq19-clause-refused : goal.returns-in_err-read-in-Some-eq19-clause-refused
 returns-in_err-read-in-Some-eq19-clause-refused c =
-    let t : c.args.tag.now ≡ 19 = grind (arith, common_steps) in
+    let t : c.args.tag.now ≡ PRINTABLE_STRING = grind (arith, common_steps) in
     IfErr-text_fault printable c.args.tag.now c.args.contents.now _ c.from_residual-in_err-read-in-Some-eq19.result
     c.from_residual-in_err-read-in-Some-eq19.ensures t c.in_err-read-in-Some-eq19.ensures.refused
 
 pub returns-in_err-read-in-Some-eq20-clause-refused : goal.returns-in_err-read-in-Some-eq20-clause-refused
 returns-in_err-read-in-Some-eq20-clause-refused c =
-    let t : c.args.tag.now ≡ 20 = grind (arith, common_steps) in
+    let t : c.args.tag.now ≡ TELETEX_STRING = grind (arith, common_steps) in
     IfErr-text_fault teletex c.args.tag.now c.args.contents.now _ c.from_residual-in_err-read-in-Some-eq20.result
     c.from_residual-in_err-read-in-Some-eq20.ensures t c.in_err-read-in-Some-eq20.ensures.refused
 
 pub returns-in_err-read-in-Some-eq28-clause-refused : goal.returns-in_err-read-in-Some-eq28-clause-refused
 returns-in_err-read-in-Some-eq28-clause-refused c =
-    let t : c.args.tag.now ≡ 28 = grind (arith, common_steps) in
+    let t : c.args.tag.now ≡ UNIVERSAL_STRING = grind (arith, common_steps) in
     IfErr-text_fault universal c.args.tag.now c.args.contents.now _ c.from_residual-in_err-read-in-Some-eq28.result
     c.from_residual-in_err-read-in-Some-eq28.ensures t c.in_err-read-in-Some-eq28.ensures.refused
 
 pub returns-in_err-read-in-Some-eq30-clause-refused : goal.returns-in_err-read-in-Some-eq30-clause-refused
 returns-in_err-read-in-Some-eq30-clause-refused c =
-    let t : c.args.tag.now ≡ 30 = grind (arith, common_steps) in
+    let t : c.args.tag.now ≡ BMP_STRING = grind (arith, common_steps) in
     IfErr-text_fault bmp c.args.tag.now c.args.contents.now _ c.from_residual-in_err-read-in-Some-eq30.result
     c.from_residual-in_err-read-in-Some-eq30.ensures t c.in_err-read-in-Some-eq30.ensures.refused
 

@@ -4,6 +4,7 @@ use Rattle.std.specs.Prelude.{◌↔◌, IsTrue, not}
 use Rattle.std.proofs.lemmas.Bool.{cases_lt}
 use Rattle.std.proofs.lemmas.List.{nil_from_length}
 use Rattle.asn1_headers.specs.declared.header.ASN1Class.TheVariants.{Universal}
+use Rattle.asn1_headers.specs.declared.tags.TheConstants.{SET}
 use Rattle.asn1_der.specs.Der.{AreDerEncodings, IsDer, IsInOrder, IsRightAlone, no_encodings}
 use Rattle.asn1_der.proofs.Encodings.{AreDerEncodings-unique}
 use Rattle.asn1_departures.proofs.own.is_set_in_order.Goals as goal
@@ -12,7 +13,7 @@ use Rattle.asn1_departures.proofs.own.is_set_in_order.Goals as goal
 IsRightAlone-set_out_of_order :
     (der order : Bool) (x : List ℕ) → length x < 2 ^ 64 → IsTrue der ↔ IsDer x →
     ((items : List (List ℕ)) → AreDerEncodings x items → IsTrue order ↔ IsInOrder items) → order ≡ false →
-    IsTrue (not der) ↔ IsRightAlone Universal true 17 x
+    IsTrue (not der) ↔ IsRightAlone Universal true SET x
 IsRightAlone-set_out_of_order true order x small d o f = (
   λ t. absurd cc,
   λ k. let is = d.0 refl in

@@ -2,6 +2,7 @@
 use Rattle.std.proofs.Common.{◌≡◌, true, sym, ap, ◌∙◌, rules, arith}
 use Rattle.std.proofs.lemmas.Grind.{common_steps}
 use Rattle.std.proofs.lemmas.Result.{IfOk-weaker}
+use Rattle.asn1_headers.specs.declared.tags.TheConstants.{SEQUENCE, SET}
 use Rattle.asn1_blocks.specs.declared.block.GroupKind.TheVariants.{Sequence, Set}
 use Rattle.asn1_blocks.specs.Tree.{group, trees_of}
 use Rattle.asn1_blocks.specs.View.{view, views}
@@ -13,7 +14,7 @@ use Rattle.asn1_outline.proofs.building.block_around.Goals as goal
 pub returns-in-Some-eq16 : goal.returns-in-Some-eq16
 returns-in-Some-eq16 c n at own =
     let g = c.args.header in
-    let tag : g.tag ≡ 16 = grind (arith, common_steps) in
+    let tag : g.tag ≡ SEQUENCE = grind (arith, common_steps) in
     let items : views c.args.inside ≡ nodes_trees (node_items n) =
     ap trees_of own ∙ trees_of-listed (nodes_trees (node_items n)) in
     c.group_block.ensures ∙ ap (group c.args.offset Sequence) items
@@ -22,7 +23,7 @@ returns-in-Some-eq16 c n at own =
 pub returns-in-Some-eq17 : goal.returns-in-Some-eq17
 returns-in-Some-eq17 c n at own =
     let g = c.args.header in
-    let tag : g.tag ≡ 17 = grind (arith, common_steps) in
+    let tag : g.tag ≡ SET = grind (arith, common_steps) in
     let items : views c.args.inside ≡ nodes_trees (node_items n) =
     ap trees_of own ∙ trees_of-listed (nodes_trees (node_items n)) in
     c.group_block-in-Some-eq17.ensures ∙ ap (group c.args.offset Set) items

@@ -1,6 +1,7 @@
 -- For `signed::signed_in`: what it returns is right.
 use Rattle.std.proofs.Common.{List, ℕ, length, refl}
 use Rattle.std.proofs.lemmas.Option.{MatchOption-at_some, MatchOption-at_none}
+use Rattle.asn1_headers.specs.declared.tags.TheConstants.{BIT_STRING, OBJECT_IDENTIFIER, SEQUENCE}
 use Rattle.asn1_blocks.specs.Places.{HeaderFound}
 use Rattle.asn1_blocks.specs.declared.parsed.PlacedHeader.{PlacedHeader}
 use Rattle.asn1_outline.specs.TripleHeaders.{IsUniversalAt}
@@ -19,7 +20,7 @@ pub returns-in_default-2 : goal.returns-in_default-2
 returns-in_default-2 c w c1 a i s t =
     let x = c.args.octets.now in
     let v = c.in-Some.whole in
-    let whole = MatchOption-at_some (NoUniversalAt x 0 (length x) 16) (IsUniversalAt x 0 (length x) 16) v
+    let whole = MatchOption-at_some (NoUniversalAt x 0 (length x) SEQUENCE) (IsUniversalAt x 0 (length x) SEQUENCE) v
     c.in-Some.is c.in_ok-whole.ensures in
     let none = MatchOption-at_none (NoneAt x v.start v.end) (HeaderFound x v.start v.end)
     c.in_default-2.is c.in_ok-content.ensures in
@@ -31,11 +32,11 @@ returns-in_default-3 c w c1 a i s t =
     let x = c.args.octets.now in
     let v = c.in-Some.whole in
     let d = c.in-Some-2.content in
-    let whole = MatchOption-at_some (NoUniversalAt x 0 (length x) 16) (IsUniversalAt x 0 (length x) 16) v
+    let whole = MatchOption-at_some (NoUniversalAt x 0 (length x) SEQUENCE) (IsUniversalAt x 0 (length x) SEQUENCE) v
     c.in-Some.is c.in_ok-whole.ensures in
     let content = MatchOption-at_some (NoneAt x v.start v.end) (HeaderFound x v.start v.end) d
     c.in-Some-2.is c.in_ok-content.ensures in
-    let none = MatchOption-at_none (NoUniversalAt x d.end v.end 16) (IsUniversalAt x d.end v.end 16)
+    let none = MatchOption-at_none (NoUniversalAt x d.end v.end SEQUENCE) (IsUniversalAt x d.end v.end SEQUENCE)
     c.in_default-3.is c.in_ok-algorithm.ensures in
     let t1 = HasTripleHeaders-whole x w c1 a i s t v whole.0 in
     let t2 = HasTripleHeaders-content x v c1 a i s t1 d content in
@@ -47,14 +48,15 @@ returns-in_default-4 c w c1 a i s t =
     let v = c.in-Some.whole in
     let d = c.in-Some-2.content in
     let b = c.in-Some-3.algorithm in
-    let whole = MatchOption-at_some (NoUniversalAt x 0 (length x) 16) (IsUniversalAt x 0 (length x) 16) v
+    let whole = MatchOption-at_some (NoUniversalAt x 0 (length x) SEQUENCE) (IsUniversalAt x 0 (length x) SEQUENCE) v
     c.in-Some.is c.in_ok-whole.ensures in
     let content = MatchOption-at_some (NoneAt x v.start v.end) (HeaderFound x v.start v.end) d
     c.in-Some-2.is c.in_ok-content.ensures in
     let algorithm =
-    MatchOption-at_some (NoUniversalAt x d.end v.end 16)
-    (IsUniversalAt x d.end v.end 16) b c.in-Some-3.is c.in_ok-algorithm.ensures in
-    let none = MatchOption-at_none (NoUniversalAt x b.start b.end 6) (IsUniversalAt x b.start b.end 6) c.in_default-4.is
+    MatchOption-at_some (NoUniversalAt x d.end v.end SEQUENCE)
+    (IsUniversalAt x d.end v.end SEQUENCE) b c.in-Some-3.is c.in_ok-algorithm.ensures in
+    let none = MatchOption-at_none (NoUniversalAt x b.start b.end OBJECT_IDENTIFIER)
+    (IsUniversalAt x b.start b.end OBJECT_IDENTIFIER) c.in_default-4.is
     c.in_ok-universal_header.ensures in
     let t1 = HasTripleHeaders-whole x w c1 a i s t v whole.0 in
     let t2 = HasTripleHeaders-content x v c1 a i s t1 d content in
@@ -67,14 +69,14 @@ returns-in_default-5 c w c1 a i s t =
     let v = c.in-Some.whole in
     let d = c.in-Some-2.content in
     let b = c.in-Some-3.algorithm in
-    let whole = MatchOption-at_some (NoUniversalAt x 0 (length x) 16) (IsUniversalAt x 0 (length x) 16) v
+    let whole = MatchOption-at_some (NoUniversalAt x 0 (length x) SEQUENCE) (IsUniversalAt x 0 (length x) SEQUENCE) v
     c.in-Some.is c.in_ok-whole.ensures in
     let content = MatchOption-at_some (NoneAt x v.start v.end) (HeaderFound x v.start v.end) d
     c.in-Some-2.is c.in_ok-content.ensures in
     let algorithm =
-    MatchOption-at_some (NoUniversalAt x d.end v.end 16)
-    (IsUniversalAt x d.end v.end 16) b c.in-Some-3.is c.in_ok-algorithm.ensures in
-    let none = MatchOption-at_none (NoUniversalAt x b.end v.end 3) (IsUniversalAt x b.end v.end 3)
+    MatchOption-at_some (NoUniversalAt x d.end v.end SEQUENCE)
+    (IsUniversalAt x d.end v.end SEQUENCE) b c.in-Some-3.is c.in_ok-algorithm.ensures in
+    let none = MatchOption-at_none (NoUniversalAt x b.end v.end BIT_STRING) (IsUniversalAt x b.end v.end BIT_STRING)
     c.in_default-5.is c.in_ok-signature.ensures in
     let t1 = HasTripleHeaders-whole x w c1 a i s t v whole.0 in
     let t2 = HasTripleHeaders-content x v c1 a i s t1 d content in
@@ -88,14 +90,15 @@ returns-then-signature-whole c w c1 a i s t =
     let d = c.in-Some-2.content in
     let b = c.in-Some-3.algorithm in
     let r = c.in-Some-5.signature in
-    let whole = MatchOption-at_some (NoUniversalAt x 0 (length x) 16) (IsUniversalAt x 0 (length x) 16) v
+    let whole = MatchOption-at_some (NoUniversalAt x 0 (length x) SEQUENCE) (IsUniversalAt x 0 (length x) SEQUENCE) v
     c.in-Some.is c.in_ok-whole.ensures in
     let content = MatchOption-at_some (NoneAt x v.start v.end) (HeaderFound x v.start v.end) d
     c.in-Some-2.is c.in_ok-content.ensures in
     let algorithm =
-    MatchOption-at_some (NoUniversalAt x d.end v.end 16)
-    (IsUniversalAt x d.end v.end 16) b c.in-Some-3.is c.in_ok-algorithm.ensures in
-    let signature = MatchOption-at_some (NoUniversalAt x b.end v.end 3) (IsUniversalAt x b.end v.end 3)
+    MatchOption-at_some (NoUniversalAt x d.end v.end SEQUENCE)
+    (IsUniversalAt x d.end v.end SEQUENCE) b c.in-Some-3.is c.in_ok-algorithm.ensures in
+    let signature = MatchOption-at_some (NoUniversalAt x b.end v.end BIT_STRING)
+    (IsUniversalAt x b.end v.end BIT_STRING)
     r c.in-Some-5.is c.in_ok-signature.ensures in
     let t1 = HasTripleHeaders-whole x w c1 a i s t v whole.0 in
     let t2 = HasTripleHeaders-content x v c1 a i s t1 d content in
@@ -111,17 +114,19 @@ returns c =
     let b = c.in-Some-3.algorithm in
     let e = c.in-Some-4.field-0 in
     let r = c.in-Some-5.signature in
-    let whole = MatchOption-at_some (NoUniversalAt x 0 (length x) 16) (IsUniversalAt x 0 (length x) 16) v
+    let whole = MatchOption-at_some (NoUniversalAt x 0 (length x) SEQUENCE) (IsUniversalAt x 0 (length x) SEQUENCE) v
     c.in-Some.is c.in_ok-whole.ensures in
     let content = MatchOption-at_some (NoneAt x v.start v.end) (HeaderFound x v.start v.end) d
     c.in-Some-2.is c.in_ok-content.ensures in
     let algorithm =
-    MatchOption-at_some (NoUniversalAt x d.end v.end 16)
-    (IsUniversalAt x d.end v.end 16) b c.in-Some-3.is c.in_ok-algorithm.ensures in
+    MatchOption-at_some (NoUniversalAt x d.end v.end SEQUENCE)
+    (IsUniversalAt x d.end v.end SEQUENCE) b c.in-Some-3.is c.in_ok-algorithm.ensures in
     let identifier =
-    MatchOption-at_some (NoUniversalAt x b.start b.end 6) (IsUniversalAt x b.start b.end 6) e c.in-Some-4.is
+    MatchOption-at_some (NoUniversalAt x b.start b.end OBJECT_IDENTIFIER)
+    (IsUniversalAt x b.start b.end OBJECT_IDENTIFIER) e c.in-Some-4.is
     c.in_ok-universal_header.ensures in
-    let signature = MatchOption-at_some (NoUniversalAt x b.end v.end 3) (IsUniversalAt x b.end v.end 3)
+    let signature = MatchOption-at_some (NoUniversalAt x b.end v.end BIT_STRING)
+    (IsUniversalAt x b.end v.end BIT_STRING)
     r c.in-Some-5.is c.in_ok-signature.ensures in (
       v,
       d,

@@ -1,5 +1,5 @@
 -- For `segments::join_next`: what it returns is right.
-use Rattle.std.proofs.Common.{◌≡◌, ◌↔◌, ◌+◌, ◌≤◌, ◌∙◌, drop, length, false, sym, arith, rules, true}
+use Rattle.std.proofs.Common.{◌≡◌, ◌↔◌, ◌+◌, ◌≤◌, ◌∙◌, drop, length, false, sym, arith, rules}
 use Rattle.std.specs.Prelude.{IsTrue}
 use Rattle.std.proofs.lemmas.Grind.{common_steps}
 use Rattle.asn1_headers.specs.Front.{HasIndefiniteForm, IsAtFront}

@@ -1,5 +1,6 @@
 -- For `identifier::identifier_at`: what it returns is right.
 use Rattle.std.proofs.Common.{◌≡◌, ℕ, List, inl, inr, refl, subst, ◌∙◌, arith}
+use Rattle.asn1_headers.specs.declared.tags.TheConstants.{OBJECT_IDENTIFIER}
 use Rattle.simple_asn1.specs.Contents.{leaf_tag, of_object_identifier}
 use Rattle.simple_asn1.specs.Tree.{Leaf, object_identifier}
 use Rattle.simple_asn1_c.specs.Values.{IsIdentifierAt, IsIdentifierTag, IsLeafAt, UniversalAt}
@@ -44,10 +45,11 @@ returns-in-Ok-put_decimal c =
     let v = c.in-Ok.found.1.now in
     let (n, u, number) = c.in-Ok.ensures.found in
     let (ns, meant, put) = c.in-Ok-put_decimal.ensures.put in
-    let six : n ≡ 6 = HasTag-small n c.in-Ok.found.0 6 number c.if-tag-ne-OBJECT_IDENTIFIER.false (omega arith) in
+    let same : n ≡ OBJECT_IDENTIFIER = HasTag-small n c.in-Ok.found.0 OBJECT_IDENTIFIER number
+    c.if-tag-ne-OBJECT_IDENTIFIER.false (omega arith) in
     let is =
     IsLeafAt-universal octets offset (object_identifier ns) v
-    (subst (λ z. UniversalAt octets offset z v) six u) meant in
+    (subst (λ z. UniversalAt octets offset z v) same u) meant in
     identifier_was_found ns is put
 
 pub returns-in-Err-put_decimal : goal.returns-in-Err-put_decimal
@@ -57,7 +59,8 @@ returns-in-Err-put_decimal c =
     let v = c.in-Ok.found.1.now in
     let put = c.nothing_put-in-Err-put_decimal.ensures in
     let (n, u, number) = c.in-Ok.ensures.found in
-    let six : n ≡ 6 = HasTag-small n c.in-Ok.found.0 6 number c.if-tag-ne-OBJECT_IDENTIFIER.false (omega arith) in
+    let same : n ≡ OBJECT_IDENTIFIER = HasTag-small n c.in-Ok.found.0 OBJECT_IDENTIFIER number
+    c.if-tag-ne-OBJECT_IDENTIFIER.false (omega arith) in
     let (kept, why) = c.in-Err-put_decimal.ensures.refused in
     elim why [
       | inl memory ↦ identifier_is_missing (inl (put.status ∙ memory)) put.offset put.count kept
@@ -65,7 +68,7 @@ returns-in-Err-put_decimal c =
           identifier_is_missing
           (IsMissing-fault octets offset ((ns : List ℕ) × IsIdentifierAt octets offset ns) IsIdentifierTag
           (IsLeafAt-identifier octets offset)
-          c.nothing_put-in-Err-put_decimal.result.status n v six u f (of_object_identifier six fault)
+          c.nothing_put-in-Err-put_decimal.result.status n v same u f (of_object_identifier same fault)
           (put.status ∙ told))
           put.offset put.count kept
     ]

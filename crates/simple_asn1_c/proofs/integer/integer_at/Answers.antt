@@ -1,5 +1,6 @@
 -- For `integer::integer_at`: what it returns is right.
 use Rattle.std.proofs.Common.{◌≡◌, ◌∙◌, ℕ, ℤ, rules, refl, subst, arith, List}
+use Rattle.asn1_headers.specs.declared.tags.TheConstants.{INTEGER}
 use Rattle.asn1_numbers.specs.TwosComplement.{signed_number}
 use Rattle.simple_asn1.specs.Contents.{leaf_tag}
 use Rattle.simple_asn1.specs.Tree.{Leaf, integer}
@@ -48,10 +49,10 @@ returns-in-Some c =
     let offset = c.args.offset in
     let v = c.in-Ok.found.1.now in
     let (n, u, number) = c.in-Ok.ensures.found in
-    let two : n ≡ 2 = HasTag-small n c.in-Ok.found.0 2 number c.if-tag-ne-INTEGER.false (omega arith) in
+    let same : n ≡ INTEGER = HasTag-small n c.in-Ok.found.0 INTEGER number c.if-tag-ne-INTEGER.false (omega arith) in
     let is =
     IsLeafAt-universal octets offset (integer (signed_number v)) v
-    (subst (λ z. UniversalAt octets offset z v) two u) refl in
+    (subst (λ z. UniversalAt octets offset z v) same u) refl in
     integer_was_found refl
     (IsIntegerAt-same octets offset (signed_number v) _
     (fitting-found (signed_number v) c.in-Some.value c.in-Some.ensures ∙ search rules) is)
@@ -62,9 +63,9 @@ returns-in-None c =
     let offset = c.args.offset in
     let v = c.in-Ok.found.1.now in
     let (n, u, number) = c.in-Ok.ensures.found in
-    let two : n ≡ 2 = HasTag-small n c.in-Ok.found.0 2 number c.if-tag-ne-INTEGER.false (omega arith) in
+    let same : n ≡ INTEGER = HasTag-small n c.in-Ok.found.0 INTEGER number c.if-tag-ne-INTEGER.false (omega arith) in
     let is =
     IsLeafAt-universal octets offset (integer (signed_number v)) v
-    (subst (λ z. UniversalAt octets offset z v) two u) refl in
+    (subst (λ z. UniversalAt octets offset z v) same u) refl in
     integer_is_too_large c.no_integer-in-None.ensures.0 (signed_number v) is
     (fitting-does_not_fit (signed_number v) c.in-None.ensures) c.no_integer-in-None.ensures.1

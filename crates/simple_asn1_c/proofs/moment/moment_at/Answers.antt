@@ -1,6 +1,7 @@
 -- For `moment::moment_at`: what it returns is right.
 use Rattle.std.proofs.Common.{◌≡◌, ◌⊎◌, ℕ, ◌<◌, ◌^◌, List, inl, inr, refl, ap, subst, ◌∙◌, arith}
 use Rattle.asn1_headers.specs.Fault.{fault_of}
+use Rattle.asn1_headers.specs.declared.tags.TheConstants.{GENERALIZED_TIME, UTC_TIME}
 use Rattle.asn1_leaves.specs.Contents.GeneralizedTime.{GeneralizedTimeContents}
 use Rattle.asn1_leaves.specs.Contents.Moment.{Moment, moment_of}
 use Rattle.asn1_leaves.specs.Contents.UtcTime.{UtcTimeContents}
@@ -43,14 +44,14 @@ returns-in-Ok-Some c =
     let (n, u, number) = c.in-Ok.ensures.found in
     let at = λ (k : ℕ) (e : n ≡ k). subst (λ z. UniversalAt octets offset z v) e u in
     let tag = c.in-Ok.found.0 in
-    let said : ((tag ≡ 23) × UtcTimeContents m v) ⊎ ((tag ≡ 24) × GeneralizedTimeContents m v) =
+    let said : ((tag ≡ UTC_TIME) × UtcTimeContents m v) ⊎ ((tag ≡ GENERALIZED_TIME) × GeneralizedTimeContents m v) =
     rw c.in-Ok-Some.field-0-is at c.in-Ok-Some.ensures.found in
     let is : IsMomentAt octets offset m = elim said [
       | inl (tag, means) ↦
-          let same : n ≡ 23 = HasTag-small n c.in-Ok.found.0 23 number tag (omega arith) in
+          let same : n ≡ UTC_TIME = HasTag-small n c.in-Ok.found.0 UTC_TIME number tag (omega arith) in
           inl (IsLeafAt-universal octets offset (utc_time m) v (at 23 same) means)
       | inr (tag, means) ↦
-          let same : n ≡ 24 = HasTag-small n c.in-Ok.found.0 24 number tag (omega arith) in
+          let same : n ≡ GENERALIZED_TIME = HasTag-small n c.in-Ok.found.0 GENERALIZED_TIME number tag (omega arith) in
           inr (IsLeafAt-universal octets offset (generalized_time m) v (at 24 same) means)
     ] in
     moment_was_found c.moment_answer.ensures.status m is c.moment_answer.ensures.moment
@@ -81,14 +82,14 @@ returns-in-Err-time_of c =
     elim c.in-Err-time_of.ensures.refused [
       | inl memory ↦ moment_is_missing (inl (told ∙ ap (λ z. status_of (fault_of z)) memory)) none.fields
       | inr (inl (tag, fault)) ↦
-          let same : n ≡ 23 = HasTag-small n c.in-Ok.found.0 23 number tag (omega arith) in
+          let same : n ≡ UTC_TIME = HasTag-small n c.in-Ok.found.0 UTC_TIME number tag (omega arith) in
           moment_is_missing
           (IsMissing-fault octets offset ((m : Moment) × IsMomentAt octets offset m) IsMomentTag
           (IsLeafAt-moment octets offset)
           c.no_moment-in-Err-time_of.result.status n v (inl same) u f (of_utc_time same fault) told)
           none.fields
       | inr (inr (tag, fault)) ↦
-          let same : n ≡ 24 = HasTag-small n c.in-Ok.found.0 24 number tag (omega arith) in
+          let same : n ≡ GENERALIZED_TIME = HasTag-small n c.in-Ok.found.0 GENERALIZED_TIME number tag (omega arith) in
           moment_is_missing
           (IsMissing-fault octets offset ((m : Moment) × IsMomentAt octets offset m) IsMomentTag
           (IsLeafAt-moment octets offset)

@@ -1,6 +1,7 @@
 -- For `outline::frequent::is_frequent`: what it returns is right.
 use Rattle.std.proofs.Common.{◌≡◌, false, refl, subst, sym, take, arith}
 use Rattle.asn1_headers.specs.declared.header.ASN1Class.TheVariants.{Universal}
+use Rattle.asn1_headers.specs.declared.tags.TheConstants.{NULL}
 use Rattle.simple_asn1.specs.Inner.InPlace.{AreCanonicalContents}
 use Rattle.simple_asn1.proofs.Frequent.{BeginsCanonical-leaf, BeginsCanonical-one_form}
 use Rattle.simple_asn1.proofs.outline.frequent.is_frequent.Goals as goal
@@ -18,7 +19,7 @@ returns-then-length-eq0 c said =
     let none : c.args.length ≡ 0 = omega (arith, c.if-length-eq0.true) in
     BeginsCanonical-leaf _ rest c.args.leading c.args.length (omega (arith, five)) c.requires refl
     (subst (λ n. AreCanonicalContents Universal false n (take c.args.length rest)) (sym five)
-    (subst (λ n. AreCanonicalContents Universal false 5 (take n rest)) (sym none)
+    (subst (λ n. AreCanonicalContents Universal false NULL (take n rest)) (sym none)
     (c.are_leaf_contents_canonical.ensures said)))
 
 pub returns-then-leading-eq6 : goal.returns-then-leading-eq6

@@ -2,6 +2,7 @@
 use Rattle.std.proofs.Common.{◌≡◌, ◌++◌, ◌∷◌, ◌<◌, false, length, refl, subst, sym, arith}
 use Rattle.std.proofs.lemmas.Grind.{common_steps}
 use Rattle.asn1_headers.specs.declared.header.ASN1Class.TheVariants.{Universal}
+use Rattle.asn1_headers.specs.declared.tags.TheConstants.{INTEGER}
 use Rattle.simple_asn1.specs.Inner.InPlace.{AreCanonicalContents}
 use Rattle.simple_asn1.proofs.InPlace.{LeavesBoth-short_leaf}
 use Rattle.simple_asn1.proofs.write.in_place.past_integer.Goals as goal
@@ -13,8 +14,8 @@ returns c =
     let after = c.split_at.result.1.now in
     let size = length own in
     let front : x ≡ 2 ∷ size ∷ (own ++ after) = grind (arith, common_steps) in
-    let keeps : AreCanonicalContents Universal false 2 own =
-    subst (AreCanonicalContents Universal false 2) (sym c.split_at.ensures.front)
+    let keeps : AreCanonicalContents Universal false INTEGER own =
+    subst (AreCanonicalContents Universal false INTEGER) (sym c.split_at.ensures.front)
     (c.begin_with_integer.ensures.canonical c.if-not-begin_with_integer.false) in
     let short : size < 128 = omega (
       arith,
