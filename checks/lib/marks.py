@@ -1,7 +1,12 @@
-"""Documents, and whether what der_dump lists of them as not DER is what a plain reader lists."""
+"""Documents, and whether what der_dump lists of them as not DER is what a plain reader lists.
+
+    marks.py FOLDER PROGRAM ROWS    of the certificates of the folder, and of the encodings in the file of rows
+"""
 import base64
 import itertools
 import json
+import subprocess
+import sys
 
 import departures
 from certificates import certificates
@@ -72,3 +77,21 @@ def wrong_marks(some, printed):
         if marks != list(map(tuple, rules)) or (not rules and not inside and "not_der" in shown):
             wrong.append((octets, marks, rules))
     return broken, wrong
+
+
+def main(folder, program, rows):
+    total = broken = 0
+    wrong = []
+    for some in tasks(documents(folder, rows)):
+        words = [program, "--json", "--strict"]
+        ran = subprocess.run(words, input=pem(some), capture_output=True, text=True, timeout=600)
+        number, others = wrong_marks(some, ran.stdout)
+        total, broken, wrong = total + len(some), broken + number, wrong + others
+    for octets, marks, rules in wrong[:10]:
+        print(f"marks: {octets.hex(' ')}: marked {marks}, and the reader lists {rules}")
+    print(f"marks: {total} documents, {broken} of them with some, {len(wrong)} wrong")
+    return 0 if total and broken and not wrong else 1
+
+
+if __name__ == "__main__":
+    sys.exit(main(*sys.argv[1:]))
