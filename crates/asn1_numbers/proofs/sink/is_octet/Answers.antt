@@ -4,6 +4,7 @@ use Rattle.std.specs.Prelude.{IsTrue}
 use Rattle.std.proofs.lemmas.Bool.Decides.{Decides-eqb}
 use Rattle.asn1_numbers.proofs.sink.is_octet.Goals as goal
 
+-- where there is one octet, the test for an octet is true exactly if the list is the octet alone
 one_octet : (xs : List ℕ) (octet : ℕ) → length xs ≡ 1 → IsTrue (slice_index xs 0 == octet) ↔ (xs ≡ octet ∷ [])
 one_octet [] octet h = absurd (omega (arith, h))
 one_octet (a ∷ []) octet h =
