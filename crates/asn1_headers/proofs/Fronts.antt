@@ -1,6 +1,6 @@
 -- Octets begin with a header, or their header is at fault, for `header::identifier_at`, and for `laws::law_one_reading`
 -- of `simple_asn1`.
-use Rattle.std.proofs.Common.{◌≡◌, ℕ, zero, suc, ◌+◌, ◌*◌, ◌/◌, ◌%◌, ◌^◌, ◌-◌, ◌<◌, ◌≤◌, Bool, true, false, List, [], ◌∷◌, ◌++◌, ◌⊎◌, inl, inr, length, take, drop, refl, sym, ap, ◌∙◌, subst, arith, length-append, append_assoc}
+use Rattle.std.proofs.Common.{◌≡◌, ℕ, zero, suc, ◌+◌, ◌*◌, ◌/◌, ◌%◌, ◌^◌, ◌-◌, ◌<◌, ◌≤◌, Bool, true, false, List, [], ◌∷◌, ◌++◌, ◌⊎◌, inl, inr, length, take, drop, refl, sym, ap, ◌∙◌, subst, arith, length-append}
 use Rattle.std.specs.Int.Digits.{number_from_digits}
 use Rattle.std.proofs.lemmas.Bool.{cases_lt}
 use Rattle.std.proofs.lemmas.List.{take-append-drop, length-take-le}
@@ -10,7 +10,7 @@ use Rattle.asn1_headers.specs.Fault.{DecodeFault, incomplete, length_too_large}
 use Rattle.asn1_numbers.specs.Base128.{IsBase128, IsContinued, low_bits_number}
 use Rattle.asn1_headers.specs.Header.{Encoding, IsIdentifier, IsLength, class_number, constructed_bit, leading_octet, length_fault}
 use Rattle.asn1_headers.specs.HeaderFault.{HeaderFault, no_identifier, no_length, too_far, too_long}
-use Rattle.asn1_headers.proofs.Prefixes.{IsIdentifier-unique, constructed_bit-lt, IsIdentifier-not_empty}
+use Rattle.asn1_headers.proofs.Prefixes.{IsIdentifier-unique, append_assoc-four, constructed_bit-lt, IsIdentifier-not_empty}
 
 -- the octets begin with continued octets, or bit 8 is set in all
 data ContinuedFront (octets : List ℕ) : Type 0 where
@@ -214,12 +214,10 @@ EncodingFront-rest place octets s l rest c k n m t u g = elim (cases_lt (place +
           whole = refl;
           size = refl;
         })
-        (g ∙ ap (λ z. s ++ (l ++ z)) (sym (take-append-drop m rest)) ∙ regroup s l (take m rest) (drop m rest))
+        (g ∙ ap (λ z. s ++ (l ++ z)) (sym (take-append-drop m rest))
+        ∙ sym (append_assoc-four s l (take m rest) (drop m rest)))
   ]
 ]
-  where
-    regroup : (a b c d : List ℕ) → a ++ (b ++ (c ++ d)) ≡ (a ++ (b ++ c)) ++ d
-    regroup a b c d = simp append_assoc
 
 -- octets that begin with identifier octets begin with an encoding, or their header is at fault
 EncodingFront-length : (place : ℕ) (octets s rest : List ℕ) (c : ASN1Class) (k : Bool) (n : ℕ) → IsIdentifier s c k n

@@ -37,6 +37,7 @@ pub BeginsWithNo-long_identifier : (b : ℕ) (rest : List ℕ) → b % 32 ≡ 31
     → BeginsWithNo IsSomeIdentifier (b ∷ rest)
 BeginsWithNo-long_identifier b rest low missing n k = go rest k low missing
   where
+    -- octets at the front are no identifier octets if the leading one ends in 31 and no base-128 number is behind it
     go : (rest : List ℕ) (k : ℕ) → b % 32 ≡ 31 → BeginsWithNo IsBase128 rest → IsSomeIdentifier (take k (b ∷ rest)) n
         → ⊥
     go rest zero low missing (c, k, t) = t

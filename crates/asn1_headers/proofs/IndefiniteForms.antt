@@ -44,10 +44,10 @@ module _ (octets behind : List ℕ) (s m : ℕ) (class : _) (constructed : Bool)
   -- constructed identifier octets begin a header of the indefinite form exactly if the length octets behind have it
   pub HasIndefiniteForm-is_indefinite :
       (has r : Bool) → constructed ≡ true → has ≡ is_indefinite behind → r ≡ has → IsTrue r ↔ HasIndefiniteForm octets
-  HasIndefiniteForm-is_indefinite has r is_so said e = (
-    λ t. let (rest, is) = is_indefinite-cons behind (sym said ∙ (sym e ∙ t)) in
+  HasIndefiniteForm-is_indefinite has r is_so is_true e = (
+    λ t. let (rest, is) = is_indefinite-cons behind (sym is_true ∙ (sym e ∙ t)) in
         HasIndefiniteForm-from_parts rest is_so is,
-    λ h. let (bits, (rest, is)) = HasIndefiniteForm-parts h in e ∙ (said ∙ ap is_indefinite is),
+    λ h. let (bits, (rest, is)) = HasIndefiniteForm-parts h in e ∙ (is_true ∙ ap is_indefinite is),
   )
 
   -- primitive identifier octets begin no header of the indefinite form

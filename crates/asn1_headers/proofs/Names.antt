@@ -6,6 +6,7 @@ use Rattle.asn1_headers.specs.declared.header.ASN1Class.{ASN1Class}
 use Rattle.asn1_headers.specs.declared.header.ASN1Class.TheVariants.{Universal, Application, ContextSpecific, Private}
 use Rattle.asn1_headers.specs.Names.{type_name, universal_names}
 
+-- a tag number of 37 or above has no name of a type, in any class
 pub type_name-past : (class : ASN1Class) (tag : ℕ) → 37 ≤ tag → None ≡ type_name class tag
 type_name-past Universal tag l = sym (get_or_past universal_names tag None l)
 type_name-past Application tag l = refl

@@ -182,14 +182,18 @@ pub record SameEncoding (xs ys : List ℕ) (c d : ASN1Class) (j k : Bool) (m n :
   pub header : g ≡ h
   pub rest : r ≡ q
 
+-- four lists in a row are one list, whether the last is joined to the first three together or to the third
+pub append_assoc-four : (a b c d : List ℕ) → (a ++ (b ++ c)) ++ d ≡ a ++ (b ++ (c ++ d))
+append_assoc-four a b c d = simp append_assoc
+
 -- an encoding begins no other
 pub Encoding-unique : (xs ys : List ℕ) (c d : ASN1Class) (j k : Bool) (m n : ℕ) (v w : List ℕ) (g h : ℕ) (r q : List ℕ)
     → Encoding xs c j m v g
     → Encoding ys d k n w h → xs ++ r ≡ ys ++ q → SameEncoding xs ys c d j k m n v w g h r q
 Encoding-unique xs ys c d j k m n v w g h r q F G e =
     let e1 : F.identifier ++ (F.len ++ (v ++ r)) ≡ G.identifier ++ (G.len ++ (w ++ q)) =
-    sym (regroup F.identifier F.len v r)
-    ∙ (ap (λ z. z ++ r) (sym F.whole) ∙ e ∙ ap (λ z. z ++ q) G.whole) ∙ regroup G.identifier G.len w q in
+    sym (append_assoc-four F.identifier F.len v r)
+    ∙ (ap (λ z. z ++ r) (sym F.whole) ∙ e ∙ ap (λ z. z ++ q) G.whole) ∙ append_assoc-four G.identifier G.len w q in
     let t = IsIdentifier-unique F.identifier G.identifier (F.len ++ (v ++ r)) (G.len ++ (w ++ q)) c d j k m n
     F.identifier_octets G.identifier_octets e1 in
     let l =
@@ -207,9 +211,6 @@ Encoding-unique xs ys c d j k m n v w g h r q F G e =
           ∙ ap (λ z. length G.identifier + length z) l.octets ∙ sym G.size;
       rest = b.1;
     }
-  where
-    regroup : (a b c d : List ℕ) → (a ++ (b ++ c)) ++ d ≡ a ++ (b ++ (c ++ d))
-    regroup a b c d = simp append_assoc
 
 -- identifier octets that are found at the front of octets are those that the octets begin with
 pub IsSomeIdentifier-front :

@@ -110,6 +110,7 @@ length-shortest_identifier_le octets c k n p =
       | inr ge ↦ subst (λ s. length s ≤ length octets) (cond_above n 31 short long long ge refl) (long_le octets p ge)
     ]
   where
+    -- identifier octets of a tag number of 31 or above are more than the shortest base-128 octets of the number
     long_le : (octets : List ℕ) → IsIdentifier octets c k n → 31 ≤ n → suc (length (shortest_base128 n)) ≤ length octets
     long_le [] q h = absurd q
     long_le (b ∷ []) q h = absurd (omega (arith, q.0, h))
@@ -128,9 +129,11 @@ length-shortest_length_le (b ∷ octets) n all p =
           subst (λ s. length s ≤ length (b ∷ octets)) (cond_above n 128 (n ∷ []) long long ge refl) (long_le p ge)
     ]
   where
+    -- the octets behind the first length octet are below 256
     below : AllBelowBase 256 octets
     below = (recursion_from_All (λ b. b < 256) (b ∷ octets) all).1
 
+    -- length octets of a length of 128 or above are more than the digits of the length in base 256
     long_le : IsLength (b ∷ octets) n → 128 ≤ n → suc (length (digits_of 256 n)) ≤ suc (length octets)
     long_le (inl (small, _, e)) h = absurd (omega (arith, small, e, h))
     long_le (inr (_, _, e)) h =
@@ -192,9 +195,7 @@ shortest_base128-only octets n all p few =
     length-map octets (λ b. b % 128) ∙ size ∙ sym (length-map short (λ b. b % 128)) in
     let low =
     number_from_digits_after-injective 128 0 0 (map (λ b. b % 128) octets) (map (λ b. b % 128) short)
-    (AllBelowBase-low_bits octets)
-    (AllBelowBase-low_bits short) digits
-    (sym p.value ∙ q.value) in
+    (AllBelowBase-low_bits octets) (AllBelowBase-low_bits short) digits (sym p.value ∙ q.value) in
     IsContinued-same_low_bits octets short p.continued q.continued (recursion_from_All _ _ all) small size low.1
 
 -- no other identifier octets of the same fields are as short
@@ -212,11 +213,13 @@ shortest_identifier-only octets c k n all p few =
           (long_only octets all p ge) few
     ]
   where
+    -- identifier octets that are a single octet are the leading octet with the tag number
     short_only : (octets : List ℕ) → IsIdentifier octets c k n → length octets ≤ 1 → octets ≡ leading_octet c k n ∷ []
     short_only [] q h = absurd q
     short_only (b ∷ []) q h = ap (λ b. b ∷ []) q.1
     short_only (b ∷ d ∷ octets) q h = absurd (omega (arith, h))
 
+    -- identifier octets of a tag number of 31 or above are the shortest if they are no more than these
     long_only : (octets : List ℕ) → All (λ b. b < 256) octets → IsIdentifier octets c k n → 31 ≤ n
         → length octets ≤ suc (length (shortest_base128 n))
         → octets ≡ leading_octet c k 31 ∷ shortest_base128 n
@@ -245,12 +248,14 @@ shortest_length-only (b ∷ octets) n all other p few =
           (length-shortest_length_le (b ∷ octets) n all p) few
     ]
   where
+    -- a single length octet, other than 80 (hexadecimal), is the length itself
     short_only : (octets : List ℕ) → b ∷ octets ≢ 128 ∷ [] → IsLength (b ∷ octets) n → suc (length octets) ≤ 1
         → b ∷ octets ≡ n ∷ []
     short_only [] other (inl (_, _, e)) h = ap (λ b. b ∷ []) (sym e)
     short_only [] other (inr q) h = absurd (other (ap (λ b. b ∷ []) q.0))
     short_only (c ∷ octets) other q h = absurd (omega (arith, h))
 
+    -- length octets of a length of 128 or above are the shortest if they are as many as these
     long_only : IsLength (b ∷ octets) n → 128 ≤ n → suc (length (digits_of 256 n)) ≤ suc (length octets)
         → suc (length octets) ≤ suc (length (digits_of 256 n))
         → b ∷ octets ≡ (128 + length (digits_of 256 n)) ∷ digits_of 256 n
@@ -278,6 +283,7 @@ marked-not_80 (a ∷ ds) rest d some e =
 pub shortest_base128-not_80 : (n : ℕ) (rest : List ℕ) → shortest_base128 n ≢ 128 ∷ rest
 shortest_base128-not_80 n rest = leading (n / 128) (n % 128) (omega arith)
   where
+    -- the digits of a number with bit 8 set, and a last octet below 80 (hexadecimal), do not begin with 80
     leading : (front last : ℕ) → last < 128 → map (λ d. 128 + d) (digits_of 128 front) ++ last ∷ [] ≢ 128 ∷ rest
     leading zero last h e =
         let first : last ≡ 128 = cc in

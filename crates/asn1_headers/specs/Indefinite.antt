@@ -1,7 +1,7 @@
 -- The indefinite form of a length, which BER has, and DER has not (X.690 10.1).
 use Rattle.std.specs.Prelude.{◌==◌, ◌&&◌, ℕ, Bool, false, List, [], ◌∷◌}
 
--- length octets of the indefinite form: the octet 80 (8.1.3.6)
+-- octets begin with the length octet of the indefinite form, which is 80 (8.1.3.6)
 abbrev pub is_indefinite : List ℕ → Bool
 is_indefinite [] = false
 is_indefinite (first ∷ more) = first == 128

@@ -1,6 +1,6 @@
 pub mod Fault
-pub mod Front
 pub mod Header
+pub mod Front
 pub mod HeaderFault
 pub mod Indefinite
 pub mod Names

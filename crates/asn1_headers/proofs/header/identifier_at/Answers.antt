@@ -24,7 +24,5 @@ returns-clause-found c =
     let e = c.in-Some.ensures.cases in
     let f = c.in-Some-last_octet_at.ensures in
     let p = IsSomeIdentifier-long c.args.octets.now c.in-Some.rest.now c.in-Some.first.now c.in-Some-last_octet_at.last
-    e.0
-    (omega arith) c.if-first-ne31.false
-    f.found.0 f.found.1 f.before in
+    e.0 (omega arith) c.if-first-ne31.false f.found.0 f.found.1 f.before in
     (omega arith, omega (arith, e.1, f.found.0), p.0, p.1)

@@ -15,8 +15,7 @@ overflow_add-octet_count g c = grind (arith, common_steps, length-octets_le c.ar
 pub returns : goal.returns
 returns g c =
     let m = g.S.Sink.more c.args.out.now c.push_octet-2.new.self c.push_big_endian.new.out
-    ((128 + c.octet_count.result) ∷ []) (digits_of 256 c.args.n)
-    c.push_octet-2.ensures c.push_big_endian.ensures in
+    ((128 + c.octet_count.result) ∷ []) (digits_of 256 c.args.n) c.push_octet-2.ensures c.push_big_endian.ensures in
     let e : shortest_length c.args.n ≡ (128 + c.octet_count.result) ∷ digits_of 256 c.args.n =
     grind (arith, common_steps) in
     subst (λ z. g.S.Sink.pushes c.args.out.now z c.push_big_endian.new.out) (sym e) m
