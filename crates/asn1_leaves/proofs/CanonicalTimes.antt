@@ -1,4 +1,5 @@
--- Contents octets of a GeneralizedTime that are written as they are, for `contents::generalized_time::are_canonical`.
+-- Contents octets of a GeneralizedTime that are written as they are, for `contents::generalized_time::are_canonical`,
+-- and for `asn1_laws`.
 use Rattle.std.proofs.Common.{◌≡◌, ◌≢◌, ℕ, ◌+◌, ◌-◌, ◌<◌, ◌≤◌, ◌⊎◌, true, List, [], ◌∷◌, ◌++◌, inl, inr, length, get_or, refl, sym, ap, ◌∙◌, arith, length-append}
 use Rattle.std.specs.Char.{is_ascii_digit}
 use Rattle.std.specs.List.{list_all}
@@ -10,11 +11,13 @@ use Rattle.asn1_leaves.proofs.Fractions.{is_ascii_digit-range, IsFraction-digits
 use Rattle.asn1_leaves.proofs.Leaves.GeneralizedTime.{written_fraction-some}
 
 module _ (m : Moment) where
-  whole_size : (end : List ℕ) → length (to_second m ++ end) ≡ 14 + length end
-  whole_size end = length-append (to_second m) end
+  -- a moment to the second is 14 octets, whatever octets follow it
+  pub length-to_second : (end : List ℕ) → length (to_second m ++ end) ≡ 14 + length end
+  length-to_second end = length-append (to_second m) end
 
-  at_point : (d : ℕ) (end : List ℕ) → get_or (to_second m ++ d ∷ end) 14 0 ≡ d
-  at_point d end = get_or-append-add (to_second m) (d ∷ end) 0 0
+  -- the octet behind a moment to the second stands at index 14
+  pub get_or-to_second : (d : ℕ) (end : List ℕ) → get_or (to_second m ++ d ∷ end) 14 0 ≡ d
+  get_or-to_second d end = get_or-append-add (to_second m) (d ∷ end) 0 0
 
   -- the fraction and Z behind the seconds are those that are written
   end_written : (digits end : List ℕ) → list_all is_ascii_digit digits ≡ true →
@@ -25,7 +28,7 @@ module _ (m : Moment) where
   end_written [] end all is (inl e) some few point last = absurd (omega (arith, some, ap length e))
   end_written (d ∷ ds) end all is (inl e) some few point last =
       let (low, high) = is_ascii_digit-range d (and_parts (is_ascii_digit d) (list_all is_ascii_digit ds) all).0 in
-      let first : d ≡ 46 = sym (at_point d (ds ++ 90 ∷ []))
+      let first : d ≡ 46 = sym (get_or-to_second d (ds ++ 90 ∷ []))
       ∙ (ap (λ z. get_or (to_second m ++ z) 14 0) (sym e) ∙ point) in
       absurd (omega (arith, low, first))
   end_written [] end all is (inr e) some few point last = absurd (omega (arith, some, ap length e))
@@ -48,7 +51,7 @@ pub GeneralizedTimeContents-with_fraction :
     length contents ≤ 25 →
     get_or contents 14 0 ≡ 46 → get_or contents (length contents - 2) 0 ≢ 48 → contents ≡ generalized_time_contents m
 GeneralizedTimeContents-with_fraction m contents p some few point last =
-    let size : length contents ≡ 14 + length p.end = ap length p.octets ∙ whole_size m p.end in
+    let size : length contents ≡ 14 + length p.end = ap length p.octets ∙ length-to_second m p.end in
     let end = end_written m p.digits p.end p.is_end.0 p.nanosecond p.is_end.1 (omega (arith, some, size))
     (omega (arith, few, size))
     (ap (λ z. get_or z 14 0) (sym p.octets) ∙ point)

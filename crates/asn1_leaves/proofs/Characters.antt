@@ -33,6 +33,7 @@ all_scalars-octets (c ∷ cs) all =
     let h : c < 256 = All-head (λ b. b < 256) c cs all in
     and_from _ _ (low_scalar c (omega arith)) (all_scalars-octets cs (All-tail (λ b. b < 256) c cs all))
 
+-- a character that is one of some, all below 128, is below 128
 list_any-lt : (c : ℕ) (ds : List ℕ) → list_all (λ d. nat_lt d 128) ds ≡ true → list_any (λ d. c == d) ds ≡ true →
     c < 128
 list_any-lt c [] all e = cc
@@ -56,6 +57,7 @@ is_printable-lt c e = elim (or_cases (is_ascii_alphanumeric c) (list_any (λ d. 
   ]
 ]
 
+-- characters of a PrintableString are ASCII
 pub IsAscii-printable : (cs : List ℕ) → list_all is_printable cs ≡ true → IsAscii cs
 IsAscii-printable [] e = IsAscii-nil
 IsAscii-printable (c ∷ cs) e =
@@ -70,6 +72,7 @@ octet_write_fault-large c cs h = grind (arith, nat_tests, h)
 pub octet_write_fault-octet : (c : ℕ) (cs : List ℕ) → c < 256 → octet_write_fault (c ∷ cs) ≡ octet_write_fault cs
 octet_write_fault-octet c cs h = grind (arith, nat_tests, h)
 
+-- where characters can be written, the first one is below 256, and the rest can be written
 pub octet_write_fault-none_parts : (c : ℕ) (cs : List ℕ) → octet_write_fault (c ∷ cs) ≡ None →
     (c < 256) × (octet_write_fault cs ≡ None)
 octet_write_fault-none_parts c cs e = elim (cases_lt c 256) [

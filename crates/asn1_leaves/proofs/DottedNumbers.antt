@@ -1,6 +1,5 @@
 -- Numbers in decimal with points between them: joined, and cut at the points, for `oid` and `simple_asn1_c`.
-use Rattle.std.proofs.Common.{◌≡◌, ℕ, zero, suc, ◌<◌, ◌≤◌, List, [], ◌∷◌, ◌++◌, length, get_or, All, refl, sym, ap, ◌∙◌}
-use Rattle.std.proofs.Common.{arith, map, false, append-nil, append_assoc, drop}
+use Rattle.std.proofs.Common.{◌≡◌, ℕ, zero, suc, ◌<◌, ◌≤◌, List, [], ◌∷◌, ◌++◌, length, get_or, All, refl, sym, ap, ◌∙◌, arith, map, false, append-nil, append_assoc, drop}
 use Rattle.std.specs.Prelude.{◌==◌, decimal}
 use Rattle.std.specs.Fmt.{HasWritten, IsPlainFormatter}
 use Rattle.std.specs.List.{flat_map, slice_range, slice_split}
@@ -53,6 +52,7 @@ slice_split-dotted_decimal n (m ∷ ns) =
     slice_split_at (λ b. b == 46) (natural_numeral n) 46 (dotted_decimal (m ∷ ns)) (All-natural_numeral-no_point n) refl
     ∙ ap (λ l. natural_numeral n ∷ l) (slice_split-dotted_decimal m ns)
 
+-- a text of numbers in decimal, cut at the points, is the numerals of these numbers
 pub slice_split-IsDottedDecimal : (text ns : List ℕ) → IsDottedDecimal text ns →
     slice_split (λ b. b == 46) text ≡ map natural_numeral ns
 slice_split-IsDottedDecimal text [] dotted = absurd (dotted.1 refl)
@@ -92,6 +92,7 @@ AreWritten took f g octets i =
     × ((done : List ℕ) × (done ++ numbers_after 0 (drop i octets) ≡ numbers_after 0 octets)
     × (IsPlainFormatter f → HasWritten took f (flat_map pointed done) g))
 
+-- once the number of the next subidentifier is written after a point, all before the index behind it are
 pub AreWritten-more : {W : Type 0} (took : W → List ℕ → W → Type 0) (f g h : Formatter W) (octets : List ℕ) (i j n : ℕ)
     → i ≤ j → j ≤ length octets → IsBase128 (slice_range octets i j) n → AreWritten took f g octets i
     → (IsPlainFormatter g → HasWritten took g (pointed n) h)

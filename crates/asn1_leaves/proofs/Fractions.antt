@@ -10,6 +10,7 @@ use Rattle.asn1_leaves.specs.Contents.GeneralizedTime.{fraction_digits, fraction
 use Rattle.asn1_leaves.proofs.Leaves.Digits.{fraction_digits-zero, fraction_digits-step, pow-positive}
 use Rattle.std.proofs.lemmas.List.{get_or-append-add, get_or_append_left}
 
+-- the character of a digit is from 48 to 57
 pub is_ascii_digit-range : (d : ℕ) → is_ascii_digit d ≡ true → (48 ≤ d) × (d ≤ 57)
 is_ascii_digit-range d t = (grind (arith, nat_tests, t), grind (arith, nat_tests, t))
 
@@ -49,11 +50,13 @@ fraction_digits-quotient k unit q m n d ds positive e small some is rest =
     ∙ ap₂ (λ x y. x ∷ y) (ap (λ z. 48 + z) high ∙ sym is)
     (ap (λ j. fraction_digits j (unit / 10) (n % unit)) places ∙ (ap (λ z. fraction_digits k (unit / 10) z) low ∙ rest))
 
+-- at most nine units, and less than one unit more, are below ten units
 mul-add-lt : (q m unit n : ℕ) → q ≤ 9 → n ≡ q * unit + m → m < unit → n < 10 * unit
 mul-add-lt q m unit n few e small =
     let bound : q * unit ≤ 9 * unit = mul-le-mul_right unit few in
     omega (arith, bound, e, small)
 
+-- units and what is left over are above 0 together if one of them is
 mul-add-positive : (q m unit n : ℕ) → 0 < unit → (0 < q) ⊎ (0 < m) → n ≡ q * unit + m → 0 < n
 mul-add-positive q m unit n positive (inl some) e =
     let bound : 1 * unit ≤ q * unit = mul-le-mul_right unit some in

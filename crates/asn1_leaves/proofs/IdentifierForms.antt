@@ -19,6 +19,7 @@ numbers_after-append n (b ∷ c ∷ first) rest p =
     let more = numbers_after-append (n * 128 + b % 128) (c ∷ first) rest p.1 in
     grind (arith, p.0, more)
 
+-- the numbers that are found in subidentifiers are the numbers that they are of
 numbers_after-Subidentifiers : (ns octets : List ℕ) → Subidentifiers ns octets → numbers_after 0 octets ≡ ns
 numbers_after-Subidentifiers [] octets s = ap (numbers_after 0) s
 numbers_after-Subidentifiers (n ∷ ns) octets (first, rest, e, p, s) =
@@ -27,13 +28,16 @@ numbers_after-Subidentifiers (n ∷ ns) octets (first, rest, e, p, s) =
     let others = numbers_after-Subidentifiers ns rest s in
     here ∙ cc
 
+-- the first component that is found in the octet of two components is the first of these
 pub first_component-AreFirstTwo : (x y b : ℕ) → AreFirstTwo x y b → first_component b ≡ x
 first_component-AreFirstTwo x y b (e, p, inl q) = grind (arith, e, p, q)
 first_component-AreFirstTwo x y b (e, p, inr q) = grind (arith, e, p, q)
 
+-- the second component that is found in the octet of two components is the second of these
 pub second_component-AreFirstTwo : (x y b : ℕ) → AreFirstTwo x y b → second_component b ≡ y
 second_component-AreFirstTwo x y b f = omega (arith, first_component-AreFirstTwo x y b f, f.0)
 
+-- the components that are found in contents octets are the components that the octets mean, if any
 pub components_of-contents : (ns contents : List ℕ) → ObjectIdentifierContents ns contents → components_of contents ≡ ns
 components_of-contents [] contents p = absurd p
 components_of-contents (x ∷ []) contents p = absurd p
@@ -87,9 +91,9 @@ pointwise-short_forms x y ms ns r p q e f equal =
     (slice_eq-Decides Decides-eqb ms ns (pointwise (λ m n. m == n) ms ns) refl)
 
 -- components that have a short form are not the same as components that have none
-pub pointwise-other_forms : (ms ns : List ℕ) → HaveShortContents ms → (HaveShortContents ns → ⊥)
+pub pointwise-one_short : (ms ns : List ℕ) → HaveShortContents ms → (HaveShortContents ns → ⊥)
     → (false ≡ pointwise (λ m n. m == n) ms ns) × (false ≡ pointwise (λ m n. m == n) ns ms)
-pointwise-other_forms ms ns short none = (
+pointwise-one_short ms ns short none = (
   same_from_decides false (pointwise (λ m n. m == n) ms ns)
       (λ h. cc, λ e. absurd (none (subst HaveShortContents e short)))
       (slice_eq-Decides Decides-eqb ms ns (pointwise (λ m n. m == n) ms ns) refl),

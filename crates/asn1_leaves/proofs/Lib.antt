@@ -6,4 +6,4 @@ pub mod IdentifierForms
 pub mod PushedNumbers
 pub mod DottedNumbers
 pub mod Fractions
-mod CanonicalTimes
+pub mod CanonicalTimes

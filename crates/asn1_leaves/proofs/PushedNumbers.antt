@@ -41,6 +41,7 @@ ArePushed has is_number before now octets i =
     × ((ns : List ℕ) → AreNumbers has is_number before ns → AreNumbers has is_number now (ns ++ done)))
     × (((ns : List ℕ) → Subidentifiers ns (drop i octets) → ⊥) → (ns : List ℕ) → Subidentifiers ns octets → ⊥)
 
+-- once the number of the next subidentifier is pushed, all before the index behind it are
 pub ArePushed-more : {T : Type 0} (has : ℕ → Type 0) (is_number : T → ℕ → Type 0) (before now new : List T)
     (octets : List ℕ) (i j n : ℕ)
     → i ≤ j → j ≤ length octets → IsBase128 (slice_range octets i j) n → ArePushed has is_number before now octets i

@@ -78,6 +78,7 @@ NoneLeads-subidentifiers [] begins h = ([], refl)
 NoneLeads-subidentifiers (b ∷ octets) begins h =
     by_rest (NoneLeads-subidentifiers octets (nat_lt b 128) h.1) (cases_lt b 128)
   where
+    -- an octet before subidentifiers is one too where bit 8 is clear, and else belongs to the first of them
     by_rest : ((ns : List ℕ) × Subidentifiers ns octets) → (b < 128) ⊎ (128 ≤ b) →
         (ns : List ℕ) × Subidentifiers ns (b ∷ octets)
     by_rest (ns, s) (inl low) =

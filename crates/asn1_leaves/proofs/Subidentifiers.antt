@@ -70,6 +70,7 @@ Subidentifiers-unique (m ∷ ms) (n ∷ ns) octets (first, rest, whole, number, 
     let r : ms ≡ ns = Subidentifiers-unique ms ns rest others (subst (Subidentifiers ns) (sym p.1) others') in
     cc
 
+-- what is left of continued octets behind an octet whose bit 8 is set is continued octets
 IsContinued-tail : (b : ℕ) (first : List ℕ) → 128 ≤ b → IsContinued (b ∷ first) → IsContinued first
 IsContinued-tail b [] high p = absurd (omega (arith, high, p))
 IsContinued-tail b (c ∷ first) high p = p.1
@@ -94,6 +95,7 @@ Subidentifiers-still_none b octets (a ∷ first) rest ms high none whole p other
     record { continued = IsContinued-tail a first (omega (arith, h, high)) p; value = refl } in
     none (low_bits_number first ∷ ms) (first, rest, e, more, others)
 
+-- a single octet whose bit 8 is set is the subidentifiers of no numbers
 Subidentifiers-unfinished : (b : ℕ) (octets : List ℕ) → octets ≡ [] → 128 ≤ b → (ns : List ℕ) →
     Subidentifiers ns (b ∷ octets) →
     ⊥
@@ -101,6 +103,7 @@ Subidentifiers-unfinished b octets none high [] s = omega (arith, ap length s)
 Subidentifiers-unfinished b octets none high (m ∷ ms) (first, rest, whole, number, others) =
     IsContinued-unfinished b octets first rest high none whole number.continued
 
+-- octets that are no subidentifiers are none with an octet before them whose bit 8 is set
 Subidentifiers-none_behind_high : (b : ℕ) (octets : List ℕ) → ((ns : List ℕ) → Subidentifiers ns octets → ⊥) → 128 ≤ b →
     (ns : List ℕ)
     → Subidentifiers ns (b ∷ octets) → ⊥
@@ -129,6 +132,7 @@ Subidentifiers-cons b c octets (n ∷ ns, s) = elim (cases_lt b 128) [
   )
 ]
 
+-- octets that are no subidentifiers are none with any octet before them
 Subidentifiers-none_behind : (b : ℕ) (octets : List ℕ) → ((ns : List ℕ) → Subidentifiers ns octets → ⊥) → (ns : List ℕ)
     → Subidentifiers ns (b ∷ octets) → ⊥
 Subidentifiers-none_behind b octets none = elim (cases_lt b 128) [

@@ -23,6 +23,7 @@ pub IfNone-map : {X P Q : Type 0} (r : Option X) → IfNone r P → (P → Q) �
 IfNone-map None p f = f p
 IfNone-map (Some x) p f = p
 
+-- the characters of the tens and of the units of a number below 100 are its two digits
 pub IsPair-two_digits : (n : ℕ) → n < 100 → IsPair (48 + n / 10) (48 + n % 10) n
 IsPair-two_digits n h = record { small = h; tens = refl; units = refl }
 
@@ -83,8 +84,7 @@ pub Moment-same_fields :
 Moment-same_fields m n a b c d e f g =
     Moment-same_numbers
     m.year n.year m.month n.month m.day n.day m.hour n.hour m.minute n.minute m.second n.second m.nanosecond
-    n.nanosecond
-    a b c d e f g
+    n.nanosecond a b c d e f g
 
 -- digits hold no point
 pub digits_begin_with_no_point : (f r : List ℕ) → list_all is_ascii_digit f ≡ true → f ≡ 46 ∷ r → ⊥
@@ -110,6 +110,7 @@ pub IsEnd-unique : (end f g : List ℕ) → IsEnd f end → IsEnd g end → f �
 IsEnd-unique end f g (a, inl p) t = IsEnd-digits end f f g p (inr (refl, λ r e. digits_begin_with_no_point f r a e)) t
 IsEnd-unique end f g (a, inr p) t = IsEnd-digits end (46 ∷ f) f g p (inl refl) t
 
+-- each power of 10 is above 0
 pub pow-positive : (k : ℕ) → 0 < 10 ^ k
 pow-positive zero = omega arith
 pow-positive (suc k) = omega (arith, pow-positive k, pow-succ' 10 k)
@@ -118,6 +119,7 @@ pow-positive (suc k) = omega (arith, pow-positive k, pow-succ' 10 k)
 pub div-unit-le : (n unit : ℕ) → 0 < unit → n < 10 * unit → n / unit ≤ 9
 div-unit-le n unit p h = omega (arith, (div-lt_iff_lt-mul {k = unit} {x = n} {y = 10} p).1 h)
 
+-- the character of a number up to 9 is a digit
 is_ascii_digit-digit : (d : ℕ) → d ≤ 9 → is_ascii_digit (48 + d) ≡ true
 is_ascii_digit-digit d h = grind (arith, nat_tests)
 
@@ -181,6 +183,7 @@ unit_of_next_place (suc (suc j)) unit h e =
 abbrev pub number_at : List ℕ → ℕ → ℕ
 number_at octets place = pair_number (slice_index octets place) (slice_index octets (place + 1))
 
+-- a number below 100 is read again from the characters of its two digits
 pub mul-add-two_digits : (n : ℕ) → n < 100 → (48 + n / 10 - 48) * 10 + (48 + n % 10 - 48) ≡ n
 mul-add-two_digits n h = omega arith
 
@@ -206,11 +209,12 @@ IsValid-known m from_zero =
       nanosecond = nanosecond;
     }))))))))
 
--- a valid moment can be written
+-- a year from 0 on can be written
 year_write_fault-none : (y : ℤ) → pos 0 ≤ℤ y → year_write_fault y ≡ None
 year_write_fault-none (pos n) h = refl
 year_write_fault-none (negsuc n) h = absurd (omega (arith, ints, h))
 
+-- nothing keeps a valid moment from being written
 pub moment_write_fault-valid : (m : Moment) → IsValid m → moment_write_fault m ≡ None
 moment_write_fault-valid m v = year_write_fault-none m.year v.from_zero
 
@@ -219,6 +223,7 @@ data Last (xs : List ℕ) : Type 0 where
   empty : xs ≡ [] → Last xs
   ends_in : (front : List ℕ) (z : ℕ) → xs ≡ front ++ z ∷ [] → Last xs
 
+-- each list of numbers is empty or has a last element
 Last-total : (xs : List ℕ) → Last xs
 Last-total [] = empty refl
 Last-total (x ∷ xs) = elim (Last-total xs) [
@@ -246,10 +251,11 @@ IsEnd-not_nil : (f : List ℕ) → IsEnd f [] → ⊥
 IsEnd-not_nil f (a, inl q) = omega (arith, ap length q, length-append f (90 ∷ []))
 IsEnd-not_nil f (a, inr q) = omega (arith, ap length q)
 
-IsEnd-ends_in_Z : (front f : List ℕ) (z : ℕ) → (z ≡ 90 → ⊥) → IsEnd f (front ++ z ∷ []) → ⊥
-IsEnd-ends_in_Z front f z n (a, inl q) = n (append_last-same front f z 90 q)
-IsEnd-ends_in_Z front f z n (a, inr q) = n (append_last-same front (46 ∷ f) z 90 q)
+IsEnd-not_without_Z : (front f : List ℕ) (z : ℕ) → (z ≡ 90 → ⊥) → IsEnd f (front ++ z ∷ []) → ⊥
+IsEnd-not_without_Z front f z n (a, inl q) = n (append_last-same front f z 90 q)
+IsEnd-not_without_Z front f z n (a, inr q) = n (append_last-same front (46 ∷ f) z 90 q)
 
+-- digits before Z, with a point before them or none, are the end of a time
 IsEnd-after_point : (end front digits : List ℕ) → list_all is_ascii_digit digits ≡ true → end ≡ front ++ 90 ∷ []
     → FollowsPoint front digits → IsEnd digits end
 IsEnd-after_point end front digits a e (inl p) = (a, inr (e ∙ ap (λ z. z ++ 90 ∷ []) p))
@@ -260,7 +266,7 @@ pub IsEnd-known : (end : List ℕ) → Known ((digits : List ℕ) × IsEnd digit
 IsEnd-known end = elim (Last-total end) [
   | empty e ↦ inr (λ d. IsEnd-not_nil d.0 (subst (IsEnd d.0) e d.1))
   | ends_in front z e ↦ elim (cases_Bool (z == 90)) [
-    | inr n ↦ inr (λ d. IsEnd-ends_in_Z front d.0 z (λ h. false≢true (sym n ∙ ap (λ y. y == 90) h))
+    | inr n ↦ inr (λ d. IsEnd-not_without_Z front d.0 z (λ h. false≢true (sym n ∙ ap (λ y. y == 90) h))
         (subst (IsEnd d.0) e d.1))
     | inl y ↦
         let (digits, follow) = FollowsPoint-some front in

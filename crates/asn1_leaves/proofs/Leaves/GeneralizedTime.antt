@@ -61,17 +61,19 @@ IsSpelled-to_second second high low n m v f e hi lo =
       nanosecond_is = f;
     })
 
--- ASCII stays ASCII in the longer form, and so it is UTF-8
+-- octets of which each is ASCII are ASCII
 pub IsAscii-list_all : (cs : List ℕ) → list_all is_ascii cs ≡ true → IsAscii cs
 IsAscii-list_all [] e = IsAscii-nil
 IsAscii-list_all (c ∷ cs) e =
     let p = and_parts (is_ascii c) (list_all is_ascii cs) e in
     IsAscii-cons c cs (grind (arith, nat_tests, p.0)) (IsAscii-list_all cs p.1)
 
+-- zeros are ASCII, however many
 IsAscii-zeros : (n : ℕ) → IsAscii (replicate n 48)
 IsAscii-zeros zero = IsAscii-nil
 IsAscii-zeros (suc n) = IsAscii-cons 48 (replicate n 48) (omega arith) (IsAscii-zeros n)
 
+-- a text of ASCII is ASCII with a point behind its fourteenth character, unless it has a point
 IsAscii-with_point : (text : List ℕ) → IsAscii text → IsAscii (with_point text)
 IsAscii-with_point text a = elim (list_any (λ c. c == 46) text) as
     (λ b. IsAscii (if b then text else take 14 text ++ (46 ∷ drop 14 text))) [
@@ -80,6 +82,7 @@ IsAscii-with_point text a = elim (list_any (λ c. c == 46) text) as
           (IsAscii-cons 46 (drop 14 text) (omega arith) (IsAscii-drop text 14 a))
     ]
 
+-- a text of ASCII is ASCII with zeros added before its last character
 IsAscii-with_zeros : (text : List ℕ) → IsAscii text → IsAscii (with_zeros text)
 IsAscii-with_zeros text a =
     let last = length text - 1 in
@@ -87,6 +90,7 @@ IsAscii-with_zeros text a =
     (IsAscii-drop text last a) in
     IsAscii-append (take last text) (replicate (25 - length text) 48 ++ drop last text) (IsAscii-take text last a) z
 
+-- a text of ASCII in the longer form, with a point and zeros, is UTF-8
 pub IsUtf8-longer_form : (text : List ℕ) → list_all is_ascii text ≡ true → IsUtf8 (with_zeros (with_point text))
 IsUtf8-longer_form text e =
     IsUtf8-from_ascii (with_zeros (with_point text))
@@ -133,8 +137,7 @@ second_moment-to_second m v =
     let octets = to_second m in
     let sum : y ≡ number_at octets 0 * 100 + number_at octets 2 = omega (arith, high, low) in
     let p : m.year ≡ pos y = omega (arith, ints, v.from_zero) in
-    Moment-same_fields m (second_moment (to_second m) m.nanosecond)
-    (p ∙ ap pos sum)
+    Moment-same_fields m (second_moment (to_second m) m.nanosecond) (p ∙ ap pos sum)
     (sym (mul-add-two_digits m.month (omega (arith, v.month))))
     (sym (mul-add-two_digits m.day (omega (arith, v.day, days_in_month_bounds m.year m.month))))
     (sym (mul-add-two_digits m.hour (omega (arith, v.hour))))
@@ -155,6 +158,7 @@ second_moment-contents m contents digits p d =
     second_moment-to_second m p.valid
     ∙ (ap (λ z. second_moment z m.nanosecond) t ∙ ap (second_moment (take 14 contents)) n)
 
+-- where contents octets mean a moment, the octets behind the first fourteen are the end of a time with its digits
 IsEnd-contents : (m : Moment) (contents : List ℕ) (p : GeneralizedTimeContents m contents) →
     IsEnd p.digits (drop 14 contents)
 IsEnd-contents m contents p = subst (λ z. IsEnd p.digits z) (sym (ap (drop 14) p.octets)) p.is_end
@@ -186,8 +190,7 @@ IsOfReading-generalized_time_fault contents = elim (cases_lt (length contents) 1
       subst IsOfReading (sym e) tt
   | inr h ↦ elim (cases_Bool (is_utf8 contents)) [
     | inr f ↦ subst IsOfReading
-        (utf8_fault-not_utf8 contents h (λ u. false≢true (sym f ∙ is_utf8-from_IsUtf8 contents u)))
-        tt
+        (utf8_fault-not_utf8 contents h (λ u. false≢true (sym f ∙ is_utf8-from_IsUtf8 contents u))) tt
     | inl u ↦ elim (cases_Bool (list_all is_ascii contents)) [
       | inl a ↦ subst IsOfReading (invalid_date_value-ascii contents h (IsUtf8-from_is_utf8 contents u) a) tt
       | inr a ↦ subst IsOfReading (invalid_date_value-not_ascii contents h (IsUtf8-from_is_utf8 contents u) a) tt
@@ -195,15 +198,17 @@ IsOfReading-generalized_time_fault contents = elim (cases_lt (length contents) 1
   ]
 ]
 
+-- each fault of a GeneralizedTime is one of reading
 pub GeneralizedTimeFault-of_reading : (contents : List ℕ) (e : DecodeFault) → GeneralizedTimeFault contents e →
     IsOfReading e
 GeneralizedTimeFault-of_reading contents e f = subst IsOfReading (sym f.1) (IsOfReading-generalized_time_fault contents)
 
--- contents octets mean a moment, or they are at fault
+-- contents octets that mean no moment have a fault
 GeneralizedTimeFault-no_moment : (contents : List ℕ) → ((m : Moment) → GeneralizedTimeContents m contents → ⊥) →
     (e : DecodeFault) × GeneralizedTimeFault contents e
 GeneralizedTimeFault-no_moment contents none = (generalized_time_fault contents, (none, refl))
 
+-- contents octets mean a moment, or have a fault of a GeneralizedTime
 pub GeneralizedTimeContents-or_fault : (contents : List ℕ)
     → ((m : Moment) × GeneralizedTimeContents m contents) ⊎ ((e : DecodeFault) × GeneralizedTimeFault contents e)
 GeneralizedTimeContents-or_fault contents = elim (IsEnd-known (drop 14 contents)) [
@@ -236,10 +241,11 @@ pub moment_write_fault-generalized_time_read : (m : Moment) (contents : List ℕ
     moment_write_fault m ≡ None
 moment_write_fault-generalized_time_read m contents p = moment_write_fault-valid m p.valid
 
--- what is written of a faithful moment means it
+-- a number of nanoseconds that is not 0 is written as a point and its digits without zeros at the end
 pub written_fraction-some : (n : ℕ) → 0 < n → written_fraction n ≡ 46 ∷ fraction_digits 9 tenth n
 written_fraction-some n h = grind (arith, nat_tests, h)
 
+-- the fraction that is written, with Z, is the end of a time whose digits mean the nanoseconds
 IsEnd-written_fraction : (n : ℕ) → n < 1000000000 →
     (digits : List ℕ) × IsEnd digits (written_fraction n ++ (90 ∷ [])) × (n ≡ fraction_number tenth digits)
 IsEnd-written_fraction zero h = ([], (refl, inl refl), refl)
@@ -248,6 +254,7 @@ IsEnd-written_fraction (suc n) h =
     let e = written_fraction-some (suc n) (omega arith) in
     (fraction_digits 9 tenth (suc n), (i.0, inr (ap (λ z. z ++ (90 ∷ [])) e)), sym i.1)
 
+-- contents octets that are written of a faithful moment mean it
 pub GeneralizedTimeContents-written : (m : Moment) → IsFaithfulGeneralizedTime m →
     GeneralizedTimeContents m (generalized_time_contents m)
 GeneralizedTimeContents-written m v =

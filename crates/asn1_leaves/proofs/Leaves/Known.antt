@@ -13,15 +13,18 @@ pub Known-within : {A B : Type 0} → Known A → (B → A) → (A → Known B) 
 Known-within (inl a) f g = g a
 Known-within (inr no_a) f g = inr (λ b. no_a (f b))
 
+-- it is known whether a number is below another
 pub Known-lt : (a b : ℕ) → Known (a < b)
 Known-lt a b = elim (cases_lt a b) [ inl l ↦ inl l | inr g ↦ inr (λ l. omega (arith, l, g)) ]
 
+-- it is known whether a number is in a range
 pub Known-IsInRange : (low high n : ℕ) → Known (IsInRange low high n)
 Known-IsInRange low high n = elim (cases_lt n low) [
   | inl l ↦ inr (λ r. omega (arith, l, r))
   | inr g ↦ elim (cases_lt high n) [ inl m ↦ inr (λ r. omega (arith, m, r)) | inr h ↦ inl (g, h) ]
 ]
 
+-- it is known whether octets are equal to others
 pub Known-octets : (xs ys : List ℕ) → Known (xs ≡ ys)
 Known-octets xs ys = let d = bytes_eq-Decides xs ys in elim (cases_Bool (bytes_eq xs ys)) [
   | inl e ↦ inl (d.0 e)

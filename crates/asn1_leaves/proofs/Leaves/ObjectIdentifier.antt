@@ -1,5 +1,5 @@
--- What is known of the contents octets of an OBJECT IDENTIFIER, for `contents::object_identifier`, `oid` and
--- `asn1_blocks`.
+-- What is known of the contents octets of an OBJECT IDENTIFIER, for `contents::object_identifier` and `oid`,
+-- and for the crates above.
 use Rattle.std.proofs.Common.{◌≡◌, ℕ, ◌+◌, ◌*◌, ◌-◌, ◌<◌, ◌≤◌, ◌⊎◌, List, [], ◌∷◌, length, get_or, None, inl, inr, refl, sym, ◌∙◌, subst, arith}
 use Rattle.std.specs.Prelude.{All}
 use Rattle.std.specs.List.{flat_map}
@@ -54,6 +54,7 @@ AreFirstTwo-some b = elim (cases_lt b 40) [
   ]
 ]
 
+-- contents octets whose first octet stands before no subidentifiers mean no components
 ObjectIdentifierContents-no_subidentifiers : (b : ℕ) (octets : List ℕ) →
     ((ns : List ℕ) → Subidentifiers ns octets → ⊥) → (ns : List ℕ)
     → ObjectIdentifierContents ns (b ∷ octets) → ⊥
@@ -63,6 +64,7 @@ ObjectIdentifierContents-no_subidentifiers b octets none (x ∷ y ∷ ns) (c, re
     let left : rest ≡ octets = cc in
     none ns (subst (Subidentifiers ns) left s)
 
+-- contents octets that are empty mean no components
 ObjectIdentifierContents-not_nil : (ns : List ℕ) → ObjectIdentifierContents ns [] → ⊥
 ObjectIdentifierContents-not_nil [] p = p
 ObjectIdentifierContents-not_nil (x ∷ []) p = p
@@ -76,6 +78,7 @@ ObjectIdentifierContents-ended b octets low =
     let s = Subidentifiers-ended octets low in
     (f.0 ∷ f.1 ∷ s.0, (b, octets, refl, f.2, s.1))
 
+-- an octet, and octets behind it of which the last ends no subidentifier, mean no components
 pub ObjectIdentifierContents-unended : (b : ℕ) (octets : List ℕ) → 128 ≤ get_or octets (length octets - 1) 0 →
     (ns : List ℕ)
     → ObjectIdentifierContents ns (b ∷ octets) → ⊥
@@ -96,6 +99,7 @@ pub ObjectIdentifierFault-of_reading : (contents : List ℕ) (e : DecodeFault) �
     IsOfReading e
 ObjectIdentifierFault-of_reading contents e f = subst IsOfReading (sym f.0) tt
 
+-- components whose first two are of an octet can be written
 object_identifier_write_fault-first_two : (x y b : ℕ) (ns : List ℕ) → b < 256 → AreFirstTwo x y b →
     object_identifier_write_fault (x ∷ y ∷ ns) ≡ None
 object_identifier_write_fault-first_two x y b ns small (e, p, inl q) = grind (arith, e, p, q, small)

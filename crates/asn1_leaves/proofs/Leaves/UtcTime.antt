@@ -29,10 +29,11 @@ utc_time_contents-spelled (a ∷ b ∷ c ∷ d ∷ e ∷ f ∷ g ∷ h ∷ i ∷
     cc)
 utc_time_contents-spelled contents year short m size ends p s q = absurd (omega (arith, size))
 
--- the moment that twelve digits spell
+-- the year that two digits spell: from 1950 to 2049
 full_year : ℕ → ℕ
 full_year n = if nat_lt n 50 then 2000 + n else 1900 + n
 
+-- the moment that twelve digits spell
 abbrev utc_moment : List ℕ → Moment
 utc_moment contents = record {
   year = pos (full_year (number_at contents 0));
@@ -44,18 +45,22 @@ utc_moment contents = record {
   nanosecond = 0;
 }
 
+-- a full year is 1950 or later
 full_year-ge : (n : ℕ) → 1950 ≤ full_year n
 unfolding full_year
 full_year-ge n = grind (arith, nat_tests)
 
+-- the full year of a number below 100 is 2049 or earlier
 full_year-le : (n : ℕ) → n < 100 → full_year n ≤ 2049
 unfolding full_year
 full_year-le n h = grind (arith, nat_tests, h)
 
+-- the full year of a number below 100 has the number as its last two digits
 full_year-ends : (n : ℕ) → n < 100 → full_year n % 100 ≡ n
 unfolding full_year
 full_year-ends n h = grind (arith, nat_tests, h)
 
+-- a year from 1950 to 2049 is the full year of its last two digits
 full_year-mod : (y n : ℕ) → 1950 ≤ y → y ≤ 2049 → n ≡ y % 100 → y ≡ full_year n
 unfolding full_year
 full_year-mod y n a b e = grind (arith, nat_tests, a, b, e)
@@ -88,15 +93,14 @@ utc_moment-utc_time_contents m f =
     let b : y ≤ 2049 = omega (arith, ints, f.to_2049, f.from_1950) in
     let g = full_year-mod y ((48 + y % 100 / 10 - 48) * 10 + (48 + y % 100 % 10 - 48)) a b n in
     let p : m.year ≡ pos y = omega (arith, ints, f.from_1950) in
-    Moment-same_fields m (utc_moment (utc_time_contents m))
-    (p ∙ ap pos g)
+    Moment-same_fields m (utc_moment (utc_time_contents m)) (p ∙ ap pos g)
     (sym (mul-add-two_digits m.month (omega (arith, f.valid.month))))
     (sym (mul-add-two_digits m.day (omega (arith, f.valid.day, days_in_month_bounds m.year m.month))))
     (sym (mul-add-two_digits m.hour (omega (arith, f.valid.hour))))
     (sym (mul-add-two_digits m.minute (omega (arith, f.valid.minute))))
-    (sym (mul-add-two_digits m.second (omega (arith, f.valid.second))))
-    f.whole_second
+    (sym (mul-add-two_digits m.second (omega (arith, f.valid.second)))) f.whole_second
 
+-- the moment that contents octets mean is the moment that their digits spell
 utc_moment-contents : (m : Moment) (contents : List ℕ) → UtcTimeContents m contents → m ≡ utc_moment contents
 utc_moment-contents m contents p = utc_moment-utc_time_contents m p.0 ∙ ap utc_moment (sym p.1)
 
@@ -120,13 +124,14 @@ UtcTimeContents-no_fault m contents e p f = f.0 m p
 pub UtcTimeFault-of_reading : (contents : List ℕ) (e : DecodeFault) → UtcTimeFault contents e → IsOfReading e
 UtcTimeFault-of_reading contents e f = subst IsOfReading (sym f.1) tt
 
--- contents octets mean a moment, or they are at fault
+-- whether a moment from 1950 on without a fraction is faithful as a UTCTime is known
 IsFaithfulUtcTime-known : (m : Moment) → pos 1950 ≤ℤ m.year → m.nanosecond ≡ 0 → Known (IsFaithfulUtcTime m)
 IsFaithfulUtcTime-known m from whole =
     Known-within (IsValid-known m (omega (arith, ints, from))) (λ f. f.valid) (λ valid.
     Known-within (Known-lt (unsigned_abs m.year) 2050) (λ f. omega (arith, ints, f.to_2049, from)) (λ year.
     inl (record { valid = valid; from_1950 = from; to_2049 = omega (arith, ints, year, from); whole_second = whole })))
 
+-- contents octets that do not mean the moment which their digits spell have a fault
 UtcTimeFault-no_moment : (contents : List ℕ) → (UtcTimeContents (utc_moment contents) contents → ⊥) →
     (e : DecodeFault) × UtcTimeFault contents e
 UtcTimeFault-no_moment contents no_m = (
@@ -134,6 +139,7 @@ UtcTimeFault-no_moment contents no_m = (
   ((λ n p. no_m (subst (λ z. UtcTimeContents z contents) (utc_moment-contents n contents p) p)), refl),
 )
 
+-- contents octets mean a moment, or have a fault of a UTCTime
 pub UtcTimeContents-or_fault : (contents : List ℕ) →
     ((m : Moment) × UtcTimeContents m contents) ⊎ ((e : DecodeFault) × UtcTimeFault contents e)
 UtcTimeContents-or_fault contents =

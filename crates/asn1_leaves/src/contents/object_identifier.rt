@@ -1,6 +1,5 @@
 // Contents octets of an OBJECT IDENTIFIER (X.690 8.19).
-ghost use Rattle.std.specs.Prelude.{◌≡◌, ◌↔◌, ◌⊎◌, ◌++◌, ◌∷◌, ◌+◌, ◌<◌, ◌≤◌, ◌^◌, ℕ, List, drop, length};
-ghost use Rattle.std.specs.Prelude.{None, Some, IfOk, IfErr, IsFalse, IsTrue, OnOk, SomeIff};
+ghost use Rattle.std.specs.Prelude.{◌≡◌, ◌↔◌, ◌⊎◌, ◌++◌, ◌∷◌, ◌+◌, ◌<◌, ◌≤◌, ◌^◌, ℕ, List, drop, length, None, Some, IfOk, IfErr, IsFalse, IsTrue, OnOk, SomeIff};
 ghost use Rattle.std.specs.List.{flat_map};
 ghost use Rattle.asn1_numbers.specs.Base128.{shortest_base128};
 ghost use Rattle.asn1_leaves.specs.Contents.ObjectIdentifier.{AreFirstTwo, IsFaithfulObjectIdentifier, ObjectIdentifierContents, ObjectIdentifierFault, Subidentifiers, object_identifier_contents, object_identifier_write_fault};

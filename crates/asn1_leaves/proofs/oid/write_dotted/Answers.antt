@@ -12,7 +12,6 @@ returns g c = λ plain ok.
     let n = c.in-Some.first.now in
     let ns = c.in-Some.rest.now in
     HasWritten-append g.W.Write.write_str_gives c.args.f.now c.write.new.self c.write_pointed.new.f
-    (dotted_decimal c.args.numbers.now)
-    (natural_numeral n) (flat_map pointed ns)
+    (dotted_decimal c.args.numbers.now) (natural_numeral n) (flat_map pointed ns)
     (sym (ap dotted_decimal c.in-Some.ensures.cases.0 ∙ dotted_decimal-cons n ns))
     (search rules) (λ after. c.write_pointed.ensures after ok)

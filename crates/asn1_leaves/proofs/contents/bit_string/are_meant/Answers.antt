@@ -5,15 +5,15 @@ use Rattle.asn1_leaves.specs.Contents.BitString.{BitStringContents}
 use Rattle.asn1_leaves.proofs.contents.bit_string.are_meant.Goals as goal
 
 pub returns-in_default : goal.returns-in_default
-returns-in_default c said =
+returns-in_default c is_true =
     let e : c.args.contents.now ≡ [] = grind (arith, common_steps) in
     (0, [], subst (BitStringContents 0 []) (sym e) (refl, refl))
 
 pub returns-in-Some-checked_mul : goal.returns-in-Some-checked_mul
-returns-in-Some-checked_mul c said =
+returns-in-Some-checked_mul c is_true =
     let u = c.in-Some.unused.now in
     let v = c.in-Some.octets.now in
     let e : c.args.contents.now ≡ u ∷ v = grind (arith, common_steps) in
-    let enough : u ≤ 8 * length v = grind (arith, common_steps, said) in
+    let enough : u ≤ 8 * length v = grind (arith, common_steps, is_true) in
     let fits : 8 * length v < 2 ^ 64 = grind (arith, common_steps) in
     (8 * length v - u, v, subst (BitStringContents (8 * length v - u) v) (sym e) (refl, omega (arith, enough), fits))

@@ -4,7 +4,7 @@ use Rattle.asn1_leaves.proofs.Leaves.Boolean.{BooleanContents-or_fault}
 use Rattle.asn1_leaves.proofs.contents.boolean.are_meant.Goals as goal
 
 pub returns : goal.returns
-returns c said = elim (BooleanContents-or_fault c.args.contents.now) [
+returns c is_true = elim (BooleanContents-or_fault c.args.contents.now) [
   | inl meant ↦ meant
-  | inr (_, fault) ↦ let one : length c.args.contents.now ≡ 1 = grind (arith, said) in absurd (fault.0 one)
+  | inr (_, fault) ↦ let one : length c.args.contents.now ≡ 1 = grind (arith, is_true) in absurd (fault.0 one)
 ]

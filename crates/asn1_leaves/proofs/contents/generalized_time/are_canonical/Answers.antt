@@ -6,7 +6,7 @@ use Rattle.asn1_leaves.proofs.CanonicalTimes.{GeneralizedTimeContents-with_fract
 use Rattle.asn1_leaves.proofs.contents.generalized_time.are_canonical.Goals as goal
 
 pub returns-then-contents-eq46 : goal.returns-then-contents-eq46
-returns-then-contents-eq46 c said m p =
+returns-then-contents-eq46 c is_true m p =
     let contents = c.args.contents.now in
     let point : get_or contents 14 0 ≡ 46 = grind (arith, common_steps) in
     let last : get_or contents (length contents - 2) 0 ≢ 48 = grind (arith, common_steps, nat_tests) in

@@ -23,7 +23,7 @@ returns-in-Some-last-clause-others c high components p =
     ObjectIdentifierContents-unended b rest last components (subst (ObjectIdentifierContents components) e p)
 
 pub returns-in-None-clause-meant : goal.returns-in-None-clause-meant
-returns-in-None-clause-meant c said =
+returns-in-None-clause-meant c is_true =
     let b = c.in-Some.field-0-0.now in
     let rest = c.in-Some.rest.now in
     let e : c.args.contents.now ≡ b ∷ rest = grind (arith, common_steps) in

@@ -8,7 +8,7 @@ use Rattle.asn1_leaves.proofs.ShortSubidentifiers.{NoneLeads, NoneLeads-componen
 use Rattle.asn1_leaves.proofs.contents.object_identifier.are_shortest.Goals as goal
 
 pub returns-then-is_empty-clause-meant : goal.returns-then-is_empty-clause-meant
-returns-then-is_empty-clause-meant c said =
+returns-then-is_empty-clause-meant c is_true =
     let contents = c.args.contents.now in
     let b = c.in-Some.field-0-0.now in
     let rest = c.in-Some.rest.now in
@@ -23,7 +23,7 @@ returns-then-is_empty-clause-meant c said =
     (meant.0, subst (ObjectIdentifierContents meant.0) (sym e) meant.1)
 
 pub returns-then-is_empty-clause-shortest : goal.returns-then-is_empty-clause-shortest
-returns-then-is_empty-clause-shortest c said components p =
+returns-then-is_empty-clause-shortest c is_true components p =
     let contents = c.args.contents.now in
     let all : AreOctets contents =
     All-from_get_or (λ b. b < 256) contents 0 (λ k h. omega (arith, c.type_inv.contents k)) in
@@ -40,7 +40,7 @@ returns-then-is_empty-clause-shortest c said components p =
     (subst (ObjectIdentifierContents components) e p)
 
 pub returns-clause-meant : goal.returns-clause-meant
-returns-clause-meant c said =
+returns-clause-meant c is_true =
     let contents = c.args.contents.now in
     let b = c.in-Some.field-0-0.now in
     let rest = c.in-Some.rest.now in
@@ -48,13 +48,13 @@ returns-clause-meant c said =
     let before : (k : ℕ) → k < length rest →
     get_or rest k 0 ≢ 128 = λ k h. c.loop-octet.invariant k (omega (arith, h, c.loop-octet-test.false)) in
     let ends : IsTrue true = grind (arith) in
-    let last : get_or rest (length rest - 1) 0 < 128 = grind (arith, common_steps, said) in
+    let last : get_or rest (length rest - 1) 0 < 128 = grind (arith, common_steps, is_true) in
     let none : NoneLeads true rest = NoneLeads-without_80 true rest before (λ _. ends) (λ some. last) in
     let meant = NoneLeads-components b rest none in
     (meant.0, subst (ObjectIdentifierContents meant.0) (sym e) meant.1)
 
 pub returns-clause-shortest : goal.returns-clause-shortest
-returns-clause-shortest c said components p =
+returns-clause-shortest c is_true components p =
     let contents = c.args.contents.now in
     let all : AreOctets contents =
     All-from_get_or (λ b. b < 256) contents 0 (λ k h. omega (arith, c.type_inv.contents k)) in
@@ -64,7 +64,7 @@ returns-clause-shortest c said components p =
     let before : (k : ℕ) → k < length rest →
     get_or rest k 0 ≢ 128 = λ k h. c.loop-octet.invariant k (omega (arith, h, c.loop-octet-test.false)) in
     let ends : IsTrue true = grind (arith) in
-    let last : get_or rest (length rest - 1) 0 < 128 = grind (arith, common_steps, said) in
+    let last : get_or rest (length rest - 1) 0 < 128 = grind (arith, common_steps, is_true) in
     let none : NoneLeads true rest = NoneLeads-without_80 true rest before (λ _. ends) (λ some. last) in
     e ∙ NoneLeads-object_identifier_contents components b rest (subst AreOctets e all) none
     (subst (ObjectIdentifierContents components) e p)

@@ -8,7 +8,7 @@ use Rattle.asn1_leaves.proofs.ShortSubidentifiers.{NoneLeads-components, NoneLea
 use Rattle.asn1_leaves.proofs.contents.object_identifier.begin_without_80.Goals as goal
 
 pub returns-clause-meant : goal.returns-clause-meant
-returns-clause-meant c said =
+returns-clause-meant c is_true =
     let contents = c.args.contents.now in
     let b = c.in-Some.field-0-0.now in
     let rest = c.in-Some.rest.now in
@@ -18,12 +18,12 @@ returns-clause-meant c said =
       arith,
       length-drop c.loop-octet.octet-index rest,
       c.loop-octet-test.false,
-    )) said) in
+    )) is_true) in
     let meant = NoneLeads-components b rest none in
     (meant.0, subst (ObjectIdentifierContents meant.0) (sym e) meant.1)
 
 pub returns-clause-shortest : goal.returns-clause-shortest
-returns-clause-shortest c said components p =
+returns-clause-shortest c is_true components p =
     let contents = c.args.contents.now in
     let b = c.in-Some.field-0-0.now in
     let rest = c.in-Some.rest.now in
@@ -35,6 +35,6 @@ returns-clause-shortest c said components p =
       arith,
       length-drop c.loop-octet.octet-index rest,
       c.loop-octet-test.false,
-    )) said) in
+    )) is_true) in
     e ∙ NoneLeads-object_identifier_contents components b rest (subst AreOctets e all) none
     (subst (ObjectIdentifierContents components) e p)

@@ -10,8 +10,7 @@ use Rattle.asn1_leaves.proofs.contents.object_identifier.subidentifiers_size.Goa
 pub returns-in_err-size : goal.returns-in_err-size
 returns-in_err-size c =
     let fits = length-flat_map-take shortest_base128 c.args.components.now c.loop-component.component-index
-    c.component-item.result
-    c.loop-component-test.true in
+    c.component-item.result c.loop-component-test.true in
     let same = ap (λ (n : ℕ). length (shortest_base128 n)) c.component-item.is in
     grind (arith, common_steps, fits, same)
 

@@ -7,19 +7,19 @@ use Rattle.asn1_leaves.specs.Contents.Text.{TextContents, is_printable}
 use Rattle.asn1_leaves.proofs.contents.text.are_meant.Goals as goal
 
 pub returns-in-Utf8 : goal.returns-in-Utf8
-returns-in-Utf8 c said =
+returns-in-Utf8 c is_true =
     let octets = c.args.contents.now in
-    let are : IsUtf8 octets = grind (arith, common_steps, said) in
+    let are : IsUtf8 octets = grind (arith, common_steps, is_true) in
     let (characters, means) = are in
     (characters, subst (λ z. TextContents z characters octets) (sym c.in-Utf8.is) means)
 
 pub returns-in-Printable : goal.returns-in-Printable
-returns-in-Printable c said =
+returns-in-Printable c is_true =
     let octets = c.args.contents.now in
-    let all : list_all is_printable octets ≡ true = grind (arith, common_steps, said) in
+    let all : list_all is_printable octets ≡ true = grind (arith, common_steps, is_true) in
     (octets, subst (λ z. TextContents z octets octets) (sym c.in-Printable.is) (all, refl))
 
 pub returns-in-Octets : goal.returns-in-Octets
-returns-in-Octets c said =
+returns-in-Octets c is_true =
     let octets = c.args.contents.now in
     (octets, subst (λ z. TextContents z octets octets) (sym c.in-Octets.is) refl)

@@ -24,8 +24,7 @@ pub returns-then-c-gt255-clause-refused : goal.returns-then-c-gt255-clause-refus
 returns-then-c-gt255-clause-refused c =
     let cs = chars c.args.text.now in
     let t = YieldsList-turn (YieldsList-from_chars c.args.text.now c.utf8.text cc) c.loop-c.yielded _
-    c.loop-c.yielded_by _ _ c.in-Some.c
-    c.in-Some.is c.next.ensures.steps in
+    c.loop-c.yielded_by _ _ c.in-Some.c c.in-Some.is c.next.ensures.steps in
     sym c.loop-c.invariant.fault ∙ (ap (λ z. octet_write_fault (drop z cs)) c.loop-c.invariant.count
     ∙ (octet_write_fault-drop cs (length c.loop-c.yielded) c.in-Some.c t
     ∙ octet_write_fault-large c.in-Some.c (drop (length c.loop-c.yielded + 1) cs) (omega (arith, c.if-c-gt255.true))))
@@ -34,8 +33,7 @@ pub loop-c-preserved : goal.loop-c-preserved
 loop-c-preserved c =
     let cs = chars c.args.text.now in
     let t = YieldsList-turn (YieldsList-from_chars c.args.text.now c.utf8.text cc) c.loop-c.yielded _
-    c.loop-c.yielded_by _ _ c.in-Some.c
-    c.in-Some.is c.next.ensures.steps in
+    c.loop-c.yielded_by _ _ c.in-Some.c c.in-Some.is c.next.ensures.steps in
     let n = length c.loop-c.yielded in
     let e : octet_write_fault (drop n cs) ≡ octet_write_fault (drop (n + 1) cs) =
     octet_write_fault-drop cs n c.in-Some.c t
@@ -50,15 +48,13 @@ loop-c-preserved c =
 pub returns-clause-size : goal.returns-clause-size
 returns-clause-size c =
     let t = YieldsList-end (YieldsList-from_chars c.args.text.now c.utf8.text cc) c.loop-c.yielded _ c.loop-c.yielded_by
-    _ _
-    c.in-None.is c.next.ensures.steps in
+    _ _ c.in-None.is c.next.ensures.steps in
     omega (arith, c.loop-c.invariant.count, t.1)
 
 pub returns-clause-writable : goal.returns-clause-writable
 returns-clause-writable c =
     let cs = chars c.args.text.now in
     let t = YieldsList-end (YieldsList-from_chars c.args.text.now c.utf8.text cc) c.loop-c.yielded _ c.loop-c.yielded_by
-    _ _
-    c.in-None.is c.next.ensures.steps in
+    _ _ c.in-None.is c.next.ensures.steps in
     sym c.loop-c.invariant.fault
     ∙ ap octet_write_fault (drop_all c.loop-c.count cs (omega (arith, c.loop-c.invariant.count, t.1)))

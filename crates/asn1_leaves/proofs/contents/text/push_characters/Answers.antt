@@ -26,8 +26,7 @@ overflow_cast-c g c =
     let cs = chars c.args.text.now in
     let n = length c.loop-c.yielded in
     let t = YieldsList-turn (YieldsList-from_chars c.args.text.now c.utf8.text cc) c.loop-c.yielded _
-    c.loop-c.yielded_by _ _ c.in-Some.c
-    c.in-Some.is c.next.ensures.steps in
+    c.loop-c.yielded_by _ _ c.in-Some.c c.in-Some.is c.next.ensures.steps in
     let f = octet_write_fault-none_parts c.in-Some.c (drop (n + 1) cs)
     (sym (octet_write_fault-drop cs n c.in-Some.c t) ∙ c.loop-c.invariant.writable) in
     omega (arith, f.0)
@@ -37,8 +36,7 @@ push_octet-requires g c =
     let cs = chars c.args.text.now in
     let n = length c.loop-c.yielded in
     let t = YieldsList-turn (YieldsList-from_chars c.args.text.now c.utf8.text cc) c.loop-c.yielded _
-    c.loop-c.yielded_by _ _ c.in-Some.c
-    c.in-Some.is c.next.ensures.steps in
+    c.loop-c.yielded_by _ _ c.in-Some.c c.in-Some.is c.next.ensures.steps in
     omega (
       arith,
       t.0,
@@ -54,8 +52,7 @@ loop-c-preserved g c =
     let n = length c.loop-c.yielded in
     let x = c.in-Some.c in
     let t = YieldsList-turn (YieldsList-from_chars c.args.text.now c.utf8.text cc) c.loop-c.yielded _
-    c.loop-c.yielded_by _ _ c.in-Some.c
-    c.in-Some.is c.next.ensures.steps in
+    c.loop-c.yielded_by _ _ c.in-Some.c c.in-Some.is c.next.ensures.steps in
     let f = octet_write_fault-none_parts x (drop (n + 1) cs)
     (sym (octet_write_fault-drop cs n x t) ∙ c.loop-c.invariant.writable) in
     let l : length (c.loop-c.yielded ++ x ∷ []) ≡ n + 1 = length_push c.loop-c.yielded x in
@@ -73,7 +70,6 @@ pub returns : goal.returns
 returns g c =
     let cs = chars c.args.text.now in
     let t = YieldsList-end (YieldsList-from_chars c.args.text.now c.utf8.text cc) c.loop-c.yielded _ c.loop-c.yielded_by
-    _ _
-    c.in-None.is c.next.ensures.steps in
+    _ _ c.in-None.is c.next.ensures.steps in
     subst (λ z. g.S.Sink.pushes c.args.out.now z c.loop-c.out)
     (take_all (length c.loop-c.yielded) cs (omega (arith, t.1))) c.loop-c.invariant.pushed

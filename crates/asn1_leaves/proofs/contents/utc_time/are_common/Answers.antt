@@ -8,7 +8,7 @@ use Rattle.asn1_leaves.proofs.Leaves.UtcTime.{UtcTimeContents-of_each_year}
 use Rattle.asn1_leaves.proofs.contents.utc_time.are_common.Goals as goal
 
 pub returns : goal.returns
-returns c said =
+returns c is_true =
     let contents = c.args.contents.now in
     let a = slice_index contents 0 in
     let b = slice_index contents 1 in
@@ -16,4 +16,4 @@ returns c said =
     IsPair-digits a b (grind (arith, common_steps)) (grind (arith, common_steps)) (grind (arith, common_steps))
     (grind (arith, common_steps)) in
     UtcTimeContents-of_each_year contents (pair_number a b) (grind (arith, common_steps)) (grind (arith, common_steps))
-    short (c.are_fields_of_each_year.ensures said)
+    short (c.are_fields_of_each_year.ensures is_true)

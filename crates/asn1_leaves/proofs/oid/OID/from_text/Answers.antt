@@ -1,7 +1,6 @@
 -- For `oid::OID::from_text`: what it returns is right (`none`, `only`, `identifier`).
-use Rattle.std.proofs.Common.{arith}
+use Rattle.std.proofs.Common.{arith, lit<, subst, ap, ◌∙◌, length, ◌<◌, get_or}
 use Rattle.std.proofs.lemmas.Grind.{common_steps}
-use Rattle.std.proofs.Common.{lit<, subst, ap, ◌∙◌, length, ◌<◌, get_or}
 use Rattle.std.proofs.lemmas.Iterator.Consumers.{YieldsList-end, YieldsList-turn}
 use Rattle.std.proofs.lemmas.Iterator.Splits.{YieldsList-from_str_split}
 use Rattle.asn1_leaves.proofs.DottedNumbers.{slice_split-IsDottedDecimal, part_is_numeral, map-natural_numeral-injective}

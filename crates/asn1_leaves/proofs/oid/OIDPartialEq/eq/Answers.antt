@@ -2,7 +2,7 @@
 use Rattle.std.proofs.Common.{◌≡◌, ◌==◌, ap, sym, subst, ◌∙◌}
 use Rattle.std.specs.Cmp.Lexicographic.{pointwise}
 use Rattle.asn1_leaves.specs.Inner.IdentifierForms.{HaveShortContents, IsKeptOnce, IsShortForm, components_of, kept_components}
-use Rattle.asn1_leaves.proofs.IdentifierForms.{pointwise-other_forms, pointwise-short_forms}
+use Rattle.asn1_leaves.proofs.IdentifierForms.{pointwise-one_short, pointwise-short_forms}
 use Rattle.asn1_leaves.proofs.oid.OIDPartialEq.eq.Goals as goal
 
 pub returns-in-Octets-Octets : goal.returns-in-Octets-Octets
@@ -27,7 +27,7 @@ returns-in_default c =
     ap kept_components (sym c.in_default.is-0) ∙ c.self.view_is in
     let others : c.in_default.field-0-1.items ≡ c.args.other.now =
     ap kept_components (sym c.in_default.is-1) ∙ c.other.view_is in
-    (pointwise-other_forms c.args.self.now c.args.other.now (subst HaveShortContents mine here.0)
+    (pointwise-one_short c.args.self.now c.args.other.now (subst HaveShortContents mine here.0)
     (subst (λ ns. HaveShortContents ns → ⊥) others there)).0
 
 pub returns-in_default-2 : goal.returns-in_default-2
@@ -39,5 +39,5 @@ returns-in_default-2 c =
     ap kept_components (sym c.in_default.is-0) ∙ c.self.view_is in
     let others : components_of c.in_default.field-0-1.items ≡ c.args.other.now =
     ap kept_components (sym c.in_default.is-1) ∙ c.other.view_is in
-    (pointwise-other_forms c.args.other.now c.args.self.now (subst HaveShortContents others there.0)
+    (pointwise-one_short c.args.other.now c.args.self.now (subst HaveShortContents others there.0)
     (subst (λ ns. HaveShortContents ns → ⊥) mine here)).1
