@@ -9,15 +9,18 @@ use Rattle.std.proofs.lemmas.Str.Ascii.{IsAscii-cons, IsAscii-nil}
 use Rattle.asn1_headers.specs.declared.tags.TheConstants.{NUMERIC_STRING, VISIBLE_STRING}
 use Rattle.asn1_blocks.specs.UnknownValues.{is_ascii_character, is_general, is_numeric, is_visible}
 
+-- a digit or the space is below 128
 is_numeric-lt : (c : ℕ) → is_numeric c ≡ true → c < 128
 is_numeric-lt c e = elim (or_cases (c == 32) (nat_le 48 c && nat_le c 57) e) [
   | inl a ↦ grind (arith, nat_tests, a)
   | inr a ↦ let p = and_parts (nat_le 48 c) (nat_le c 57) a in grind (arith, nat_tests, p.1)
 ]
 
+-- a printing character of ASCII or the space is below 128
 is_visible-lt : (c : ℕ) → is_visible c ≡ true → c < 128
 is_visible-lt c e = let p = and_parts (nat_le 32 c) (nat_le c 126) e in grind (arith, nat_tests, p.1)
 
+-- a character that is allowed in a GeneralString is below 128
 is_general-lt : (c : ℕ) → is_general c ≡ true → c < 128
 is_general-lt c e =
     let p = and_parts (nat_lt c 128) (not ((c == 14) || (c == 15) || (c == 27))) e in

@@ -9,10 +9,12 @@ abbrev pub tree_count : {O : Type 0} → Trees O → ℕ
 tree_count no_trees = 0
 tree_count (more_trees b bs) = suc (tree_count bs)
 
+-- trees are as many without their offsets as with them
 tree_count-shapes : {O : Type 0} (bs : Trees O) → tree_count (shapes bs) ≡ tree_count bs
 tree_count-shapes no_trees = refl
 tree_count-shapes (more_trees b bs) = ap suc (tree_count-shapes bs)
 
+-- a list of blocks has as many trees as it has blocks
 pub tree_count-views : (bs : List ASN1Block) → tree_count (views bs) ≡ length bs
 tree_count-views [] = refl
 tree_count-views (b ∷ bs) = ap suc (tree_count-views bs)

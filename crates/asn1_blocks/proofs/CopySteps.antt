@@ -60,6 +60,7 @@ tree_count-inside_le b left after done n s =
       length-reverse done,
     )
 
+-- the tree of an explicit block is an explicit tree around the tree of the block that it holds
 pub view-Explicit : (c : ASN1Class) (o n : ℕ) (b : Box ASN1Block Global) →
     view (Explicit c o n b) ≡ explicit c o n (view b.value)
 view-Explicit c o n b = search (rules, the_lemmas)
@@ -73,10 +74,12 @@ view-Explicit_copy c o n held made copy is e =
     let one : view copy ≡ view held.value = cc in
     view-Explicit c o n made ∙ (ap (explicit c o n) (ap view is ∙ one) ∙ sym (view-Explicit c o n held))
 
+-- the tree of a SEQUENCE is a group of the trees of the blocks that it holds
 pub view-Sequence : (o : ℕ) (v : Vec ASN1Block Global) →
     view (Sequence o v) ≡ group o GroupKind.Sequence (views v.items)
 view-Sequence o v = search (rules, the_lemmas)
 
+-- the tree of a SET is a group of the trees of the blocks that it holds
 pub view-Set : (o : ℕ) (v : Vec ASN1Block Global) → view (Set o v) ≡ group o GroupKind.Set (views v.items)
 view-Set o v = search (rules, the_lemmas)
 

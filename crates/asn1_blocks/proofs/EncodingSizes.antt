@@ -1,4 +1,5 @@
--- The size of an encoding, by its header, for `encoding::encoding_size` and `encoding::encoding_at`.
+-- The size of an encoding, by its header, for `encoding::encoding_size` and `encoding::encoding_at`, and
+-- for the crates above.
 use Rattle.std.proofs.Common.{◌≡◌, ℕ, ◌+◌, ◌<◌, ◌≤◌, List, [], ◌++◌, length, take, drop, refl, sym, ap, ◌∙◌, subst, arith, length-append, length-drop, min}
 use Rattle.std.proofs.lemmas.List.{take-append-drop, take_at, length-take-le, drop_at}
 use Rattle.std.proofs.Math.Seq.{take-add}
@@ -32,9 +33,7 @@ split-identifier octets i tag (_, _, t) x rest e p =
     let f = p.encoding in
     let w = append-encoding_parts octets x rest p.class p.constructed p.tag p.contents p.header f e in
     let q = IsIdentifier-unique (take i octets) f.identifier (drop i octets)
-    (f.len ++ (p.contents ++ rest)) _ _ _ _ _ _ t
-    f.identifier_octets
-    (take-append-drop i octets ∙ w) in
+    (f.len ++ (p.contents ++ rest)) _ _ _ _ _ _ t f.identifier_octets (take-append-drop i octets ∙ w) in
     (q.octets, q.rest)
 
 -- no encoding begins where no length octets stand behind identifier octets
@@ -57,8 +56,7 @@ IsEncoding-not_cut_off octets i l m tag t le u few short x rest e p =
     let a = split-identifier octets i tag t x rest e p in
     let f = p.encoding in
     let q = IsLength-unique (take l (drop i octets)) f.len (drop l (drop i octets)) (p.contents ++ rest) m
-    (length p.contents) u f.length_octets
-    (take-append-drop l (drop i octets) ∙ a.1) in
+    (length p.contents) u f.length_octets (take-append-drop l (drop i octets) ∙ a.1) in
     omega (
       arith,
       short,

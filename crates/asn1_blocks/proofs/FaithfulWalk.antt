@@ -21,11 +21,13 @@ IsFaithful-from_parts (group o g bs) f h = h
 IsFaithful-from_parts (explicit c o n b) f h = (f, h.0)
 IsFaithful-from_parts (unknown c k o n v) f h = f
 
+-- two lists of faithful blocks are faithful one after the other
 AreFaithful-append : (xs ys : List ASN1Block) → AreFaithful (views xs) → AreFaithful (views ys) →
     AreFaithful (views (xs ++ ys))
 AreFaithful-append [] ys f h = h
 AreFaithful-append (x ∷ xs) ys f h = (f.0, AreFaithful-append xs ys f.1 h)
 
+-- where all blocks of a list in two parts are faithful, the blocks of each part are
 AreFaithful-split : (xs ys : List ASN1Block) → AreFaithful (views (xs ++ ys)) →
     AreFaithful (views xs) × AreFaithful (views ys)
 AreFaithful-split [] ys f = (tt, f)

@@ -10,7 +10,7 @@ use Rattle.asn1_blocks.specs.Tree.{Leaf, Trees, no_trees, more_trees}
 use Rattle.asn1_blocks.specs.Contents.{leaf_tag, group_tag, IsUnknownTag, LeafContents, LeafFault}
 use Rattle.asn1_blocks.specs.Places.{IsEncoding}
 use Rattle.asn1_headers.specs.HeaderFault.{HeaderFault, no_identifier, no_length, too_far, too_long}
-use Rattle.asn1_blocks.specs.Grammar.{IsBlock, of_other_class, of_unknown_tag, of_leaf, of_group, AreBlocks, no_blocks, more_blocks, EncodesAll, BlocksFaultAt, in_header, in_contents, in_item}
+use Rattle.asn1_blocks.specs.Grammar.{IsBlock, of_not_universal, of_unknown_tag, of_leaf, of_group, AreBlocks, no_blocks, more_blocks, EncodesAll, BlocksFaultAt, in_header, in_contents, in_item}
 use Rattle.asn1_blocks.specs.Inner.BlockFault.{BlockFaultAt, at_header, at_leaf, at_item}
 use Rattle.asn1_blocks.proofs.Leaves.{leaf_tag-not_group_tag, LeafContents-no_fault, LeafFault-is_leaf_tag, is_known_tag-is_leaf_tag, is_leaf_tag-not_group_tag, is_known_tag-unknown}
 use Rattle.asn1_headers.proofs.Prefixes.{Encoding-unique, IsIdentifier-unique, IsLength-unique}
@@ -20,7 +20,7 @@ use Rattle.asn1_blocks.proofs.BlockLists.{tree_count}
 
 -- a block is an encoding
 pub IsEncoding-block : (octets : List ℕ) → IsBlock octets → IsEncoding octets
-IsEncoding-block octets (of_other_class f ne) =
+IsEncoding-block octets (of_not_universal f ne) =
     record { class = _; constructed = _; tag = _; contents = _; header = _; encoding = f }
 IsEncoding-block octets (of_unknown_tag f ne) =
     record { class = _; constructed = _; tag = _; contents = _; header = _; encoding = f }
@@ -75,7 +75,7 @@ pub data UniversalContents (n : ℕ) (contents : List ℕ) : Type 0 where
 pub UniversalContents-block : (x : List ℕ) (k : Bool) (n : ℕ) (contents : List ℕ) (h : ℕ) →
     Encoding x Universal k n contents h → IsBlock x
     → UniversalContents n contents
-UniversalContents-block x k n contents h f (of_other_class g ne) =
+UniversalContents-block x k n contents h f (of_not_universal g ne) =
     let s = Encoding-unique _ _ _ _ _ _ _ _ _ _ _ _ [] [] f g refl in
     absurd (ne (sym s.class))
 UniversalContents-block x k n contents h f (of_unknown_tag g u) =
@@ -124,13 +124,11 @@ HeaderFault-not_encoding offset octets x rest e c' k' n' contents h' (no_identif
     (append-encoding_parts octets x rest _ _ _ _ _ f d ∙ ap (λ z. f.identifier ++ (z ++ (contents ++ rest))) l)
 HeaderFault-not_encoding offset octets x rest e c' k' n' contents h' (no_length s a r c k n t g missing h) small d f =
     let q = IsIdentifier-unique s f.identifier (a ∷ r) (f.len ++ (contents ++ rest)) c c' k k' n n' t
-    f.identifier_octets
-    (sym g ∙ append-encoding_parts octets x rest _ _ _ _ _ f d) in
+    f.identifier_octets (sym g ∙ append-encoding_parts octets x rest _ _ _ _ _ f d) in
     missing f.len (contents ++ rest) (length contents) f.length_octets q.rest
 HeaderFault-not_encoding offset octets x rest e c' k' n' contents h' (too_far s l r c k n m t u g far h) small d f =
     let q = IsIdentifier-unique s f.identifier (l ++ r) (f.len ++ (contents ++ rest)) c c' k k' n n' t
-    f.identifier_octets
-    (sym g ∙ append-encoding_parts octets x rest _ _ _ _ _ f d) in
+    f.identifier_octets (sym g ∙ append-encoding_parts octets x rest _ _ _ _ _ f d) in
     let v = IsLength-unique l f.len r (contents ++ rest) m (length contents) u f.length_octets q.rest in
     omega (
       arith,
@@ -146,8 +144,7 @@ HeaderFault-not_encoding offset octets x rest e c' k' n' contents h' (too_far s 
 HeaderFault-not_encoding offset octets x rest e c' k' n' contents h'
     (too_long s l r c k n m t u g near long) small d f =
     let q = IsIdentifier-unique s f.identifier (l ++ r) (f.len ++ (contents ++ rest)) c c' k k' n n' t
-    f.identifier_octets
-    (sym g ∙ append-encoding_parts octets x rest _ _ _ _ _ f d) in
+    f.identifier_octets (sym g ∙ append-encoding_parts octets x rest _ _ _ _ _ f d) in
     let v = IsLength-unique l f.len r (contents ++ rest) m (length contents) u f.length_octets q.rest in
     omega (arith, long, v.number, ap length v.rest, length-append contents rest)
 

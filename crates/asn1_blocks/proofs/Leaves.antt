@@ -37,6 +37,7 @@ is_string_tag-string_tag ia5 = refl
 is_string_tag-string_tag universal = refl
 is_string_tag-string_tag bmp = refl
 
+-- the tag number of each kind of string is below 64
 pub string_tag-lt : (kind : StringKind) → string_tag kind < 64
 string_tag-lt utf8 = lit< tt
 string_tag-lt printable = lit< tt
@@ -51,6 +52,7 @@ kind_of_tag n =
     if n == UTF8_STRING then utf8 else if n == PRINTABLE_STRING then printable else if n == TELETEX_STRING then teletex
     else if n == IA5_STRING then ia5 else if n == UNIVERSAL_STRING then universal else bmp
 
+-- the kind of a string is found again by its tag number
 kind_of_tag-string_tag : (kind : StringKind) → kind_of_tag (string_tag kind) ≡ kind
 unfolding kind_of_tag
 kind_of_tag-string_tag utf8 = refl
@@ -181,6 +183,7 @@ FaultOf (utc_time m) contents e = UtcTimeFault contents e
 FaultOf (generalized_time m) contents e = GeneralizedTimeFault contents e
 FaultOf (text kind cs) contents e = TextFault (text_form kind) contents e
 
+-- a moment for leaves of which the tag alone matters
 some_moment : Moment
 some_moment = record { year = pos 0; month = 1; day = 1; hour = 0; minute = 0; second = 0; nanosecond = 0 }
 

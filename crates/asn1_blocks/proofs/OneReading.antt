@@ -3,7 +3,7 @@ use Rattle.std.proofs.Common.{◌≡◌, ℕ, ◌+◌, ◌<◌, List, [], ◌++�
 use Rattle.asn1_headers.specs.Header.{Encoding}
 use Rattle.asn1_blocks.specs.Tree.{Tree, Trees, leaf, group, explicit, unknown, no_trees, more_trees}
 use Rattle.asn1_blocks.specs.Contents.{LeafContents}
-use Rattle.asn1_blocks.specs.Grammar.{IsBlock, of_other_class, of_unknown_tag, of_leaf, of_group, AreBlocks, no_blocks, more_blocks, Encodes, EncodesAll}
+use Rattle.asn1_blocks.specs.Grammar.{IsBlock, of_not_universal, of_unknown_tag, of_leaf, of_group, AreBlocks, no_blocks, more_blocks, Encodes, EncodesAll}
 use Rattle.asn1_blocks.specs.Inner.EqualityLaws.{group_tag-injective}
 use Rattle.asn1_blocks.proofs.Leaves.{leaf_tag-not_group_tag, LeafContents-unique}
 use Rattle.asn1_headers.proofs.Prefixes.{Encoding-unique, Encoding-not_empty}
@@ -14,11 +14,11 @@ mutual
   IsBlock-encodes o octets (leaf p l) (_, _, _, _, F, means) = of_leaf F l refl means
   IsBlock-encodes o octets (group p g bs) (_, _, contents, header, F, items) =
       of_group F g refl (AreBlocks-encodes (o + header) contents bs items)
-  IsBlock-encodes o octets (explicit c p n b) (_, other, _, _, F, _) = of_other_class F other
+  IsBlock-encodes o octets (explicit c p n b) (_, other, _, _, F, _) = of_not_universal F other
   IsBlock-encodes o octets (unknown c k p n v) (_, header, F, stays) =
       elim stays [
         | inl (class, tag) ↦ of_unknown_tag (subst (λ d. Encoding octets d k n v header) class F) tag
-        | inr (other, _) ↦ of_other_class F other
+        | inr (other, _) ↦ of_not_universal F other
       ]
 
   -- octets that encode trees are blocks
@@ -43,7 +43,7 @@ Encodes-single o octets b s =
 
 -- a block has octets
 pub IsBlock-not_empty : (octets : List ℕ) → IsBlock octets → 0 < length octets
-IsBlock-not_empty octets (of_other_class f ne) = Encoding-not_empty _ _ _ _ _ _ f
+IsBlock-not_empty octets (of_not_universal f ne) = Encoding-not_empty _ _ _ _ _ _ f
 IsBlock-not_empty octets (of_unknown_tag f ne) = Encoding-not_empty _ _ _ _ _ _ f
 IsBlock-not_empty octets (of_leaf f l e p) = Encoding-not_empty _ _ _ _ _ _ f
 IsBlock-not_empty octets (of_group f g e q) = Encoding-not_empty _ _ _ _ _ _ f

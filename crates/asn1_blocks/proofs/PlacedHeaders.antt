@@ -1,4 +1,5 @@
--- A header at the front of what is left of contents octets, and its place in the document, for `parsed::header_within`.
+-- A header at the front of what is left of contents octets, and its place in the document, for `parsed::header_within`,
+-- and for the crates above.
 use Rattle.std.proofs.Common.{◌≡◌, ℕ, ◌+◌, ◌-◌, ◌<◌, ◌≤◌, ◌^◌, Bool, List, ◌++◌, length, take, drop, length-drop, refl, sym, ap, ◌∙◌, subst, arith, length-append, append_assoc}
 use Rattle.std.proofs.lemmas.List.{length-take-le, take-append-drop, take-take}
 use Rattle.std.specs.List.{slice_range}
@@ -9,6 +10,7 @@ use Rattle.asn1_headers.specs.Header.{IsLength}
 use Rattle.asn1_headers.specs.HeaderFault.{HeaderFault, too_far, too_long}
 use Rattle.asn1_headers.proofs.Prefixes.{IsIdentifier-not_empty}
 use Rattle.asn1_blocks.specs.Places.{HeaderFound}
+use Rattle.asn1_blocks.specs.declared.parsed.PlacedHeader.{PlacedHeader}
 use Rattle.asn1_blocks.proofs.ReadSteps.{slice_range-append, length-slice_range}
 
 module _ (rest : List ℕ) (size announced : ℕ) (class : ASN1Class) (constructed : Bool) (tag : ℕ)
@@ -22,7 +24,8 @@ module _ (rest : List ℕ) (size announced : ℕ) (class : ASN1Class) (construct
     length-take-le size rest front.within,
   )
 
-  append-header_parts : rest ≡ front.identifier ++ (front.len ++ drop size rest)
+  -- octets that begin with a header are its identifier octets, its length octets and what follows them
+  pub append-header_parts : rest ≡ front.identifier ++ (front.len ++ drop size rest)
   append-header_parts =
       sym (take-append-drop size rest)
       ∙ (ap (λ z. z ++ drop size rest) front.front_is ∙ append_assoc front.identifier front.len (drop size rest))
@@ -43,6 +46,19 @@ module _ (rest : List ℕ) (size announced : ℕ) (class : ASN1Class) (construct
       too_long front.identifier front.len (drop size rest) class constructed tag announced front.fields
       front.length_octets append-header_parts
       (omega (arith, e, length-header_parts, near)) (omega (arith, length-drop size rest, long))
+
+module _ (x : List ℕ) (i e : ℕ) (h : PlacedHeader) (f : HeaderFound x i e h) (within : e ≤ length x) where
+  -- the encoding of a header that was found ends no earlier than it begins
+  pub starts_before_end : i ≤ h.end
+  starts_before_end = omega (arith, f.starts_after, f.order)
+
+  -- the octets from a header on are the encoding with this header and the octets behind it
+  pub slice_range-at_header : slice_range x i e ≡ slice_range x i h.end ++ slice_range x h.end e
+  slice_range-at_header = slice_range-append x i h.end e starts_before_end f.ends_within
+
+  -- an encoding has as many octets as lie from the start of its header to the end of its contents octets
+  pub length-slice_range-at_header : length (slice_range x i h.end) ≡ h.end - i
+  length-slice_range-at_header = length-slice_range x i h.end starts_before_end (omega (arith, f.ends_within, within))
 
 -- a header whose contents octets fit into what is left is found
 pub HeaderFound-fits : (octets : List ℕ) (offset limit size announced : ℕ) (class : ASN1Class) (constructed : Bool)

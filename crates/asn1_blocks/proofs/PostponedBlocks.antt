@@ -23,6 +23,7 @@ pub trees_after_all-append_last : (octets : List ℕ) (es : List Postponed) (e :
     → trees_after_all octets (es ++ e ∷ []) s ≡ trees_after octets e (trees_after_all octets es s)
 trees_after_all-append_last octets es e s = trees_after_all-append octets es (e ∷ []) s
 
+-- an attempt goes around the last tree of a list and leaves the trees before it
 around_last-append_last : (a : Attempt) (s : List (Tree ℕ)) (x : Tree ℕ) →
     around_last a (s ++ x ∷ []) ≡ s ++ around a x ∷ []
 around_last-append_last a [] x = refl

@@ -30,10 +30,12 @@ EncodesAll-with_last o octets last (more_trees x xs) b s t = record {
       (subst (λ z. Encodes z last b) (omega (arith, ap length s.whole, length-append s.first s.rest)) t);
 }
 
+-- a slice within the octets is as long as its end is behind its start
 pub length-slice_range : (octets : List ℕ) (i j : ℕ) → i ≤ j → j ≤ length octets →
     length (slice_range octets i j) ≡ j - i
 length-slice_range octets i j h l = omega (arith, length-take (j - i) (drop i octets), length-drop i octets)
 
+-- a slice is its part up to an offset between its ends, and then the part from there on
 pub slice_range-append : (octets : List ℕ) (i j k : ℕ) → i ≤ j → j ≤ k →
     slice_range octets i k ≡ slice_range octets i j ++ slice_range octets j k
 slice_range-append octets i j k h l =
@@ -42,6 +44,7 @@ slice_range-append octets i j k h l =
     ∙ ap (λ r. take (j - i) (drop i octets) ++ take (k - j) r)
     (drop-drop (j - i) i octets ∙ ap (λ n. drop n octets) (omega arith)))
 
+-- the tree of an `Unknown` has its class, constructed bit, offset, tag number and contents octets
 pub view-Unknown : (c : ASN1Class) (k : Bool) (o t : ℕ) (v : Vec ℕ Global) →
     view (Unknown c k o t v) ≡ unknown c k o t v.items
 view-Unknown c k o t v = search (rules, the_lemmas)

@@ -24,12 +24,14 @@ stacked-map_append_last more outer x e =
     ∙ (ap stacked (map_push (λ (b : Bor (List ASN1Block)). b.now) outer x)
     ∙ stacked-append_last (map (λ b. b.now) outer) x.now)
 
+-- a tree has one block more than all trees inside it
 pub blocks_in-inside : (b : Tree ℕ) → blocks_in b ≡ 1 + all_blocks_in (inside b)
 blocks_in-inside (leaf o l) = refl
 blocks_in-inside (group o g bs) = refl
 blocks_in-inside (explicit c o n b) = omega arith
 blocks_in-inside (unknown c k o n v) = refl
 
+-- a list in two parts has as many blocks, at all depths, as both parts together
 all_blocks_in-append : (xs ys : List ASN1Block) →
     all_blocks_in (views (xs ++ ys)) ≡ all_blocks_in (views xs) + all_blocks_in (views ys)
 all_blocks_in-append [] ys = omega arith
@@ -89,6 +91,7 @@ BeginsAtPlace-drop order left i j b e l g h =
     let (after, next, ordered) = subst (λ z. IsInTreeOrder z left) d h in
     record { after = after; next = next; ordered = ordered }
 
+-- trees in order of a list in two parts are the trees of the first part, and then of the second
 all_in_order-append : (xs ys : List ASN1Block) →
     all_in_order (views (xs ++ ys)) ≡ all_in_order (views xs) ++ all_in_order (views ys)
 all_in_order-append [] ys = refl
@@ -96,11 +99,13 @@ all_in_order-append (x ∷ xs) ys =
     ap (λ z. in_order (view x) ++ z) (all_in_order-append xs ys)
     ∙ sym (append_assoc (in_order (view x)) (all_in_order (views xs)) (all_in_order (views ys)))
 
+-- blocks of given trees, with other blocks behind them, have in order these trees and then the others
 all_in_order-held : (held rest : List ASN1Block) (bs : Trees ℕ) → views held ≡ bs
     → all_in_order (views (held ++ rest)) ≡ all_in_order bs ++ all_in_order (views rest)
 all_in_order-held held rest bs e =
     all_in_order-append held rest ∙ ap (λ z. all_in_order z ++ all_in_order (views rest)) e
 
+-- a tree in order is the tree itself, and then the trees inside it in order
 in_order-inside : (b : Tree ℕ) → in_order b ≡ b ∷ all_in_order (inside b)
 in_order-inside (leaf o l) = refl
 in_order-inside (group o g bs) = refl

@@ -5,11 +5,13 @@ use Rattle.asn1_blocks.specs.Tree.{Tree, leaf, group, explicit, unknown}
 use Rattle.asn1_blocks.specs.HeadersBegun.{blocks_in, all_blocks_in}
 use Rattle.asn1_blocks.specs.View.{view, views}
 
+-- a block at the end of a list adds as many blocks, at all depths, as are in it
 pub all_blocks_in-append_last : (bs : List ASN1Block) (b : ASN1Block) →
     all_blocks_in (views (bs ++ b ∷ [])) ≡ all_blocks_in (views bs) + blocks_in (view b)
 all_blocks_in-append_last [] b = omega arith
 all_blocks_in-append_last (a ∷ bs) b = omega (arith, all_blocks_in-append_last bs b)
 
+-- a tree has at least one block
 pub blocks_in-some : (b : Tree ℕ) → 0 < blocks_in b
 blocks_in-some (leaf o l) = omega arith
 blocks_in-some (group o g bs) = omega arith

@@ -13,7 +13,7 @@ use Rattle.asn1_blocks.specs.Contents.{leaf_tag, group_tag, IsUnknownTag, LeafCo
 mutual
   -- the octets are a block
   pub data IsBlock : List ℕ → Type 0 where
-    of_other_class : {octets contents : List ℕ} {class : ASN1Class} {constructed : Bool} {tag header : ℕ}
+    of_not_universal : {octets contents : List ℕ} {class : ASN1Class} {constructed : Bool} {tag header : ℕ}
         → Encoding octets class constructed tag contents header → class ≢ Universal → IsBlock octets
     of_unknown_tag : {octets contents : List ℕ} {constructed : Bool} {tag header : ℕ}
         → Encoding octets Universal constructed tag contents header → IsUnknownTag tag → IsBlock octets

@@ -6,7 +6,7 @@ ghost use Rattle.asn1_headers.specs.Fault.{OutOfMemoryOr, UnlessOutOfMemory};
 ghost use Rattle.asn1_headers.specs.Reading.{OutOfMemoryOrAt, ReadsEach, ReadsEachLocated, RejectsAt, RejectsWith};
 ghost use Rattle.asn1_blocks.specs.Grammar.{IsDocument, FirstFault, FirstFaultAt};
 ghost use Rattle.asn1_blocks.specs.HeadersBegun.{HeadersBegun};
-ghost use Rattle.asn1_blocks.specs.Inner.OpenFrames.{IsAttemptAlone, around};
+ghost use Rattle.asn1_blocks.specs.Inner.OpenFrames.{around};
 ghost use Rattle.asn1_blocks.specs.Inner.Postponed.{trees_after_all};
 ghost use Rattle.asn1_blocks.specs.Inner.TreeBuilding.{IsAddedAsItCame, IsPostponed, IsAdded, builder_holds};
 ghost use Rattle.asn1_blocks.specs.View.{view, views};
@@ -15,11 +15,12 @@ use crate::block::ASN1Block;
 use crate::contents::leaf_block;
 use crate::encoding::encoding_count;
 use crate::held::HeldBlocks;
-use crate::parsed::{PlacedHeader, header_within};
+use crate::parsed::PlacedHeader;
 use crate::postponed::{Postponed, build, explicit_block, group_block, unknown_block};
 use crate::read_loop::{Attempt, Builder, Extent, FrameKind, out_of_memory, read_into};
 use asn1_headers::error::{ASN1DecodeErr, LocatedErr};
 use asn1_headers::header::{ASN1Class, HeaderCount};
+use asn1_numbers::number::big_uint::BigUint;
 use std::alloc::{AllocError, Global};
 
 // Contents octets up to this length are copied at once, also inside an open attempt, where longer ones are postponed:
@@ -160,13 +161,8 @@ fn read_blocks(
     ensures grown { count.old ≤ count.new }
     ensures bounded { count.new ≤ count.old + length i.now }
 {
-    let Ok(first) = HeldBlocks::with_capacity(alloc, encoding_count(i)) else {
+    let Ok(items) = document_items(alloc, i) else {
         return Err(out_of_memory(0));
-    };
-    let items = FrameBlocks {
-        first,
-        postponed_before: 0,
-        postponed_count: 0,
     };
     let builder = TreeBuilder {
         postponed: Vec::new(alloc),
@@ -179,6 +175,23 @@ fn read_blocks(
         },
         Err(located) => Err(located),
     }
+}
+
+// The items of the document's frame, before which no header stands.
+fn document_items(alloc: Global, i: &[u8]) -> Result<FrameBlocks, AllocError>
+    ensures first { IfOk result (λ items. items.first ≡ []) }
+    ensures before { IfOk result (λ items. items.postponed_before ≡ 0) }
+    ensures count { IfOk result (λ items. items.postponed_count ≡ 0) }
+{
+    let first = HeldBlocks::with_capacity(alloc, encoding_count(i))?;
+    let tag = BigUint::from_u64(alloc, 0)?;
+    Ok(FrameBlocks {
+        first,
+        class: ASN1Class::Universal,
+        tag,
+        postponed_before: 0,
+        postponed_count: 0,
+    })
 }
 
 // The blocks of the document, which was read to its end.
@@ -198,10 +211,12 @@ fn all_blocks(
 }
 
 // The blocks of a frame: the first of them, and how many more are postponed. These stand behind so many postponed
-// blocks of the frames around it.
+// blocks of the frames around it. The class and the tag number are those of its header, which is read once.
 #[derive(Drop)]
 struct FrameBlocks {
     first: HeldBlocks,
+    class: ASN1Class,
+    tag: BigUint,
     postponed_before: usize,
     postponed_count: usize,
 }
@@ -231,11 +246,14 @@ impl Builder for TreeBuilder {
     ) -> Result<FrameBlocks, AllocError> {
         let contents = &octets[header.start..header.end];
         let first = HeldBlocks::with_capacity(alloc, encoding_count(contents))?;
+        let tag = header.tag.clone(alloc)?;
         if !matches!(header.class, ASN1Class::Universal) && self.outermost.is_none() {
             self.outermost = Some(depth);
         }
         Ok(FrameBlocks {
             first,
+            class: header.class,
+            tag,
             postponed_before: self.postponed.len(),
             postponed_count: 0,
         })
@@ -274,6 +292,8 @@ impl Builder for TreeBuilder {
         } = extent;
         let FrameBlocks {
             first,
+            class,
+            tag,
             postponed_before,
             postponed_count,
         } = items;
@@ -289,7 +309,7 @@ impl Builder for TreeBuilder {
                 self.push_block(parent, group_block(group, offset, first))
             }
             FrameKind::Attempt => {
-                let attempt = attempt_at(alloc, octets, offset, end)?;
+                let attempt = Attempt { class, offset, tag };
                 let inside = leave(&mut self.outermost, depth);
                 if postponed_count == 1 && first.len() == 0 {
                     return self.postpone(parent, Postponed::Explicit(attempt));
@@ -320,9 +340,15 @@ impl Builder for TreeBuilder {
             end,
             ..
         } = extent;
-        let attempt = attempt_at(alloc, octets, offset, end)?;
+        let FrameBlocks {
+            class,
+            tag,
+            postponed_before,
+            ..
+        } = items;
+        let attempt = Attempt { class, offset, tag };
         let inside = leave(&mut self.outermost, depth);
-        self.postponed.truncate(items.postponed_before);
+        self.postponed.truncate(postponed_before);
         self.push_as_it_came(alloc, octets, parent, inside, attempt, start, end)
     }
 }
@@ -376,24 +402,6 @@ impl TreeBuilder {
         }
         let block = unknown_block(alloc, attempt, &octets[start..end])?;
         self.push_block(items, block)
-    }
-}
-
-// The attempt whose header is at the offset, and whose contents octets end at `end`.
-fn attempt_at(
-    alloc: Global,
-    octets: &[u8],
-    offset: usize,
-    end: usize,
-) -> Result<Attempt, AllocError>
-    requires some { offset < end }
-    requires within { end ≤ length octets.now }
-    ensures { IfOk result (IsAttemptAlone octets.now offset end) }
-{
-    let mut count = HeaderCount::new();
-    match header_within(alloc, octets, 0, end, offset, &mut count) {
-        Ok(PlacedHeader { class, tag, .. }) => Ok(Attempt { class, offset, tag }),
-        Err(_) => Err(AllocError),
     }
 }
 

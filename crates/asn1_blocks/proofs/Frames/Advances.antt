@@ -21,6 +21,7 @@ pub record Follows (octets : List ℕ) (f : Frame) (p q : ℕ) (t : Tree ℕ) (n
 abbrev pub with_tree : Frame → Tree ℕ → Frame
 with_tree f t = record { extent = f.extent; trees = f.trees ++ t ∷ [] }
 
+-- a list with one more item at its end has one more tree at the end of its trees
 trees_of-append_last : (ts : List (Tree ℕ)) (t : Tree ℕ) → trees_of (ts ++ t ∷ []) ≡ with_last (trees_of ts) t
 trees_of-append_last [] t = refl
 trees_of-append_last (x ∷ ts) t = ap (more_trees x) (trees_of-append_last ts t)

@@ -8,7 +8,7 @@ use Rattle.asn1_blocks.specs.declared.read_loop.Attempt as declared
 use Rattle.asn1_blocks.specs.declared.read_loop.FrameKind.{FrameKind}
 use Rattle.asn1_blocks.specs.declared.read_loop.FrameKind.TheVariants.{Attempt, Group, Whole}
 use Rattle.asn1_blocks.specs.Contents.{group_tag}
-use Rattle.asn1_blocks.specs.Grammar.{Encodes, EncodesAll, IsBlock, of_group, of_other_class}
+use Rattle.asn1_blocks.specs.Grammar.{Encodes, EncodesAll, IsBlock, of_group, of_not_universal}
 use Rattle.asn1_headers.specs.Header.{Encoding}
 use Rattle.asn1_blocks.specs.HeadersBegun.{HeadersBegun}
 use Rattle.asn1_blocks.specs.Inner.OpenFrames.{AreOpen, Frame, IsAttemptAt, IsEnded, IsHeaded, around, as_it_came, attempt_tree}
@@ -97,7 +97,7 @@ IsClosed-attempt octets f g gs n a t here H means o =
         encoded = means all (s - a.offset) H.other F
             (subst (λ i. EncodesAll i contents (trees_of f.trees)) at o.read.encoded);
         begun = HeadersBegun-read_inside all a.class true a.tag contents (s - a.offset) o.own F (inr (H.other, refl))
-            (of_other_class F H.other) o.read.begun;
+            (of_not_universal F H.other) o.read.begun;
       };
       total = o.total;
     }
@@ -107,6 +107,7 @@ Means-one : (a : declared.Attempt) (contents : List ℕ) (t : Tree ℕ) → Mean
 Means-one a contents t all h ne F s =
     (refl, ne, contents, h, F, Encodes-single (a.offset + h) contents t s)
 
+-- the trees of a list are as many as the list is long
 tree_count-trees_of : (ts : List (Tree ℕ)) → tree_count (trees_of ts) ≡ length ts
 tree_count-trees_of [] = refl
 tree_count-trees_of (t ∷ ts) = ap suc (tree_count-trees_of ts)
@@ -147,6 +148,7 @@ pub IsClosed-frame : (octets : List ℕ) (f g : Frame) (gs : List Frame) (n : �
     → AreOpen octets f (g ∷ gs) f.extent.end n → IsClosed octets g gs f.extent.end t n
 IsClosed-frame octets f g gs n t is o = go f.extent.kind refl
   where
+    -- whatever the kind of a frame that has ended, its tree follows in the frame around it
     go : (kind : FrameKind) → f.extent.kind ≡ kind → IsClosed octets g gs f.extent.end t n
     go Whole d = absurd (AreOpen-not_whole octets f g gs f.extent.end n o d)
     go (Group y) d =

@@ -1,4 +1,4 @@
--- A header in a frame, and what it leads: a frame inside, or a leaf, for `read_loop`, `read::attempt_at` and
+-- A header in a frame, and what it leads: a frame inside, or a leaf, for `read_loop`, `read::TreeBuilderBuilder` and
 -- `faithful::is_block`.
 use Rattle.std.proofs.Common.{◌≡◌, ℕ, ◌+◌, ◌-◌, ◌<◌, ◌≤◌, ◌^◌, true, List, [], ◌∷◌, inl, inr, length, refl, sym, ap, ◌∙◌, subst, append-nil, arith}
 use Rattle.std.specs.List.{slice_range}
@@ -16,9 +16,8 @@ use Rattle.asn1_headers.specs.HeaderFault.{HeaderFault}
 use Rattle.asn1_blocks.specs.Grammar.{Encodes, EncodesAll}
 use Rattle.asn1_blocks.specs.Inner.BlockFault.{BlockFaultAt, at_header, at_leaf}
 use Rattle.asn1_blocks.specs.HeadersBegun.{IsReadInside, begun_none, begun_some, nothing_inside, nothing_after}
-use Rattle.asn1_blocks.specs.Inner.OpenFrames.{Frame, IsAttemptAt, IsHeaded, AreOpen, IsStopping}
+use Rattle.asn1_blocks.specs.Inner.OpenFrames.{Frame, IsAttemptAt, IsHeaded, AreOpen, IsStopping, IsKindOf}
 use Rattle.asn1_blocks.specs.Places.{IsEncodingBetween, HeaderFound}
-use Rattle.asn1_blocks.specs.Inner.OpenFrames.{IsKindOf}
 use Rattle.asn1_blocks.specs.Tree.{Tree, trees_of}
 use Rattle.asn1_blocks.proofs.Faults.{BlockFaultAt-not_block, HeaderFault-not_encoding}
 use Rattle.asn1_blocks.proofs.Frames.Advances.{Follows, AreOpen-places}

@@ -9,6 +9,7 @@ slice_range-empty octets i e h =
     let zero : e - i ≡ 0 = omega (arith, h) in
     ap (λ n. take n (drop i octets)) zero
 
+-- the slice of octets from 0 to their length is all of them
 pub slice_range-all : (octets : List ℕ) → slice_range octets 0 (length octets) ≡ octets
 slice_range-all octets =
     let z : length octets - 0 ≡ length octets = omega arith in

@@ -7,7 +7,7 @@ use Rattle.asn1_blocks.specs.declared.read_loop.Attempt as declared
 use Rattle.asn1_blocks.specs.declared.read_loop.FrameKind.{FrameKind}
 use Rattle.asn1_blocks.specs.declared.read_loop.FrameKind.TheVariants.{Whole, Group, Attempt}
 use Rattle.asn1_headers.specs.Fault.{DecodeFault}
-use Rattle.asn1_blocks.specs.Grammar.{AreBlocks, BlocksFaultAt, IsBlock, of_other_class}
+use Rattle.asn1_blocks.specs.Grammar.{AreBlocks, BlocksFaultAt, IsBlock, of_not_universal}
 use Rattle.asn1_blocks.specs.Inner.BlockFault.{BlockFaultAt, at_item}
 use Rattle.asn1_blocks.specs.HeadersBegun.{HeadersBegun, begun_some, inside_first, nothing_after}
 use Rattle.asn1_blocks.specs.Inner.OpenFrames.{AreOpen, Frame, IsAttemptAt, IsGroupAt, IsHeaded, IsReadTo, IsStopping, StopsAt, as_it_came}
@@ -105,6 +105,7 @@ pub IsStopping-leave_frame : (octets : List ℕ) (f g : Frame) (gs : List Frame)
     → (f.extent.kind ≡ Attempt → ⊥) → IsStopping octets f (g ∷ gs) e offset n → IsStopping octets g gs e offset n
 IsStopping-leave_frame octets f g gs e offset n small other w = go f.extent.kind refl
   where
+    -- a fault goes out of a frame that is no attempt, whatever its kind, to the frame around it
     go : (k : FrameKind) → f.extent.kind ≡ k → IsStopping octets g gs e offset n
     go Whole d = absurd (subst (λ z. IsHeaded octets z f.extent.offset f.extent.start f.extent.end) d w.opened.headed)
     go (Group y) d = IsStopping-leave_group octets f g gs e offset n y small d w
@@ -158,7 +159,7 @@ IsClosed-failed_attempt octets f g gs e offset n a small here H w =
         to = o.ends_within;
         encoded = (refl, s - a.offset, F, inr (H.other, no_block));
         begun = HeadersBegun-read_inside (slice_range octets a.offset z) a.class true a.tag contents (s - a.offset) m F
-            (inr (H.other, refl)) (of_other_class F H.other)
+            (inr (H.other, refl)) (of_not_universal F H.other)
             r.begun;
       };
       total = omega (arith, w.total, o.total);

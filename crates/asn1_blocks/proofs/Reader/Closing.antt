@@ -126,6 +126,7 @@ module _ {B I : Type 0} (Holds : Holding B I) (octets : List ℕ) where
       HasEnded Holds octets r n
   HasEnded-document r n w = go w.outer w.matched w.holds w.opened
     where
+      -- where no trees of other frames are held, the outermost frame that was read to its end is the document
       go : (outer : List (List (Tree ℕ))) → 0 ≡ length outer → Holds octets r.builder (r.inner ∷ []) (w.trees ∷ outer)
           → AreOpen octets (frame r.inner w.trees) (frames {I = I} [] outer) r.inner.extent.end n →
           HasEnded Holds octets r n

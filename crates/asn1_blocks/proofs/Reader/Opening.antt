@@ -89,8 +89,7 @@ module _ {B I : Type 0} (Holds : Holding B I) (octets : List ℕ) where
         builder =
             b;
         fault = a.fault;
-      }) (n + 1)
-      (work_left (length octets) a.index a.outer.items)
+      }) (n + 1) (work_left (length octets) a.index a.outer.items)
   GoesOn-leaf a h n depth b j d found shut leaf w =
       let gs = reverse a.outer.items in
       let v = IsReading-places a n w in
@@ -153,12 +152,10 @@ module _ {B I : Type 0} (Holds : Holding B I) (octets : List ℕ) where
         builder =
             b;
         fault = a.fault;
-      }) e (n + 1)
-      (work_left (length octets) a.index a.outer.items)
+      }) e (n + 1) (work_left (length octets) a.index a.outer.items)
   IsFaulty-leaf a h e n b j small found shut is w =
       let stops = IsStopping-leaf octets (frame a.inner w.trees) (frames (reverse a.outer.items) w.outer) a.index n h e
-      small found w.opened shut is.class
-      is.fault in
+      small found w.opened shut is.class is.fault in
       let Faulty = λ (c : B) (k : I). IsFaulty Holds octets
       (record {
         inner = record { extent = a.inner.extent; items = k };
@@ -167,7 +164,6 @@ module _ {B I : Type 0} (Holds : Holding B I) (octets : List ℕ) where
         builder =
             c;
         fault = a.fault;
-      }) e (n + 1)
-      (work_left (length octets) a.index a.outer.items) in
+      }) e (n + 1) (work_left (length octets) a.index a.outer.items) in
       subst (λ z. Faulty z j) (sym is.builder)
       (subst (λ z. Faulty a.builder z) (sym is.items) (IsFaulty-still a e n (n + 1) w stops))

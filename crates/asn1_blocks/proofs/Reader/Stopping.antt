@@ -26,6 +26,7 @@ pub HasAttempt-headed : (octets : List ℕ) (e : Extent) → is_attempt e.kind �
     IsHeaded octets e.kind e.offset e.start e.end → HasAttempt octets e
 HasAttempt-headed octets e tries H = go e.kind refl
   where
+    -- for each kind that a frame could have, it has the header of an attempt if it is one
     go : (kind : FrameKind) → e.kind ≡ kind → HasAttempt octets e
     go Whole d = absurd (subst (λ z. IsHeaded octets z e.offset e.start e.end) d H)
     go (Group y) d = absurd (false≢true (sym (ap is_attempt d) ∙ tries))
@@ -150,7 +151,6 @@ module _ {B I : Type 0} (Holds : Holding B I) (octets : List ℕ) (b : B) where
         (omega (arith, d, length-reverse outer.items)) r.dropped a.offset a.headed none Holds-enclosing in
         let closed =
         IsClosed-failed_attempt octets (frame k r.trees) (frame h enclosing.next)
-        (frames gs enclosing.others) e offset n a.attempt
-        small a.offset a.headed IsStopping-enclosing in
+        (frames gs enclosing.others) e offset n a.attempt small a.offset a.headed IsStopping-enclosing in
         GoesOn-follows Holds octets h.extent j outer k.extent.end c fault enclosing.next enclosing.others _ n most near
         enclosing.count after closed

@@ -12,7 +12,7 @@ use Rattle.asn1_blocks.specs.declared.read.FrameBlocks.{FrameBlocks}
 use Rattle.asn1_blocks.specs.declared.read.TreeBuilder.{TreeBuilder}
 use Rattle.asn1_blocks.specs.Inner.OpenFrames.{around, as_it_came}
 use Rattle.asn1_blocks.specs.Inner.Postponed.{Builds}
-use Rattle.asn1_blocks.specs.Inner.TreeBuilding.{AllHold, IsAddedAsItCame, IsPostponed, IsAdded}
+use Rattle.asn1_blocks.specs.Inner.TreeBuilding.{AllHold, HasHeader, IsAddedAsItCame, IsPostponed, IsAdded}
 use Rattle.asn1_blocks.specs.Inner.ReaderSteps.{in_frame}
 use Rattle.asn1_blocks.specs.Tree.{Tree, group, trees_of}
 use Rattle.asn1_blocks.specs.View.{view}
@@ -70,6 +70,12 @@ AddsTree-explicit octets es n x a k =
           λ ds us h. Builds-explicit octets ds (drop n es) us x a h k;
     }
 
+-- a frame whose items keep the class and the tag number keeps its header
+HasHeader-same_fields : (octets : List ℕ) (e : Extent) (i j : FrameBlocks) → j.class ≡ i.class → j.tag ≡ i.tag →
+    HasHeader octets (in_frame e i) → HasHeader octets (in_frame e j)
+HasHeader-same_fields octets e i j class tag header after b start here at =
+    (λ k. record { class = class k; offset = e.offset; tag = tag k }) ∙ header after b start here at
+
 -- the builder a became r, and the items of the frame were i and are j
 module _ (octets : List ℕ) (a r : TreeBuilder) (i j : FrameBlocks) (e : Extent) (gs : List (OpenFrame FrameBlocks))
     (ts : List (Tree ℕ))
@@ -82,7 +88,13 @@ module _ (octets : List ℕ) (a r : TreeBuilder) (i j : FrameBlocks) (e : Extent
   AllHold-add_postponed es o t u grown h =
       let all = a.postponed.items ++ o ∷ [] in
       let owing : PostponesTree octets es all (in_frame e i) (in_frame e j) t =
-      record { before = u.before; first = u.first; count = u.count; grown = grown } in
+      record {
+        before = u.before;
+        first = u.first;
+        count = u.count;
+        header = HasHeader-same_fields octets e i j u.class u.tag;
+        grown = grown;
+      } in
       subst (λ z. AllHold octets z (in_frame e j) gs (ts ++ t ∷ []) rest) (sym u.postponed)
       (AllHold-postpone octets es all (in_frame e i) (in_frame e j) gs ts rest t owing h)
 
@@ -91,8 +103,13 @@ module _ (octets : List ℕ) (a r : TreeBuilder) (i j : FrameBlocks) (e : Extent
       → AllHold octets a.postponed.items (in_frame e i) gs ts rest →
       AllHold octets r.postponed.items (in_frame e j) gs (ts ++ view b ∷ []) rest
   AllHold-add_block b (inl u) h =
-      let pushing : PushesBlock (in_frame e i) (in_frame e j) b =
-      record { before = u.before; first = u.first; count = u.count; none = u.none } in
+      let pushing : PushesBlock octets (in_frame e i) (in_frame e j) b = record {
+        before = u.before;
+        first = u.first;
+        count = u.count;
+        header = HasHeader-same_fields octets e i j u.class u.tag;
+        none = u.none;
+      } in
       subst (λ z. AllHold octets z (in_frame e j) gs (ts ++ view b ∷ []) rest) (sym u.postponed)
       (AllHold-push octets a.postponed.items (in_frame e i) (in_frame e j) gs ts rest b pushing h)
   AllHold-add_block b (inr u) h =

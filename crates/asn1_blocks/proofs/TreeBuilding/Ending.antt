@@ -1,6 +1,6 @@
 -- A frame of trees ends: its blocks are one of the frame around it, for `read::TreeBuilderBuilder` and
 -- `read::read_blocks`.
-use Rattle.std.proofs.Common.{◌≡◌, ℕ, ◌+◌, List, [], ◌∷◌, ◌++◌, Global, Vec, length, map, take, drop, refl, sym, ap, ◌∙◌, subst, arith, append-nil, length-append}
+use Rattle.std.proofs.Common.{◌≡◌, ℕ, ◌+◌, ◌<◌, List, [], ◌∷◌, ◌++◌, Global, Vec, length, map, take, drop, refl, sym, ap, ◌∙◌, subst, arith, append-nil, length-append}
 use Rattle.std.proofs.lemmas.List.{length-map, take-append-drop, take-append-le, nil_from_length}
 use Rattle.asn1_blocks.specs.declared.block.ASN1Block.{ASN1Block}
 use Rattle.asn1_blocks.specs.declared.block.GroupKind.{GroupKind}
@@ -17,9 +17,11 @@ use Rattle.asn1_blocks.specs.declared.read_loop.OpenFrame.{OpenFrame}
 use Rattle.asn1_blocks.specs.Inner.OpenFrames.{IsAttemptAlone, IsEnded, around, as_it_came, attempt_tree}
 use Rattle.asn1_blocks.specs.Inner.Postponed.{Builds, trees_after_all}
 use Rattle.asn1_blocks.specs.Inner.ReaderSteps.{HasEndedIn, HasKept, HasOpened, in_frame, opened_at}
-use Rattle.asn1_blocks.specs.Inner.TreeBuilding.{AllHold, Holds, IsAddedAsItCame, IsPostponed, IsAdded, all_hold, builder_holds}
+use Rattle.asn1_blocks.specs.Inner.TreeBuilding.{AllHold, HasHeader, Holds, IsAddedAsItCame, IsPostponed, IsAdded, all_hold, attempt_of, builder_holds}
 use Rattle.asn1_blocks.specs.Tree.{Tree, group, trees_of}
 use Rattle.asn1_blocks.specs.View.{view, views}
+use Rattle.asn1_blocks.specs.Places.{HeaderFound}
+use Rattle.asn1_blocks.proofs.Frames.Opening.{HeaderFound-same_attempt, attempt_with}
 use Rattle.asn1_blocks.proofs.HeldFronts.{HoldAround, HoldFront-inside}
 use Rattle.asn1_blocks.proofs.TreeBuilding.Adding.{AddsTree-explicit, AddsTree-group, AllHold-add_as_it_came, AllHold-add_postponed, AllHold-add_tree}
 use Rattle.asn1_blocks.proofs.TreeBuilding.Holding.{AddsTree, AllHold-open, HasNothingPostponed-ended}
@@ -105,11 +107,22 @@ AllHold-around_attempt octets es inside f g gs lost ts us rest m a =
     let front : take n es ≡ take n w.front = ap (take n) w.whole ∙ take-append-le n w.front w.more w.holds.0.before in
     subst (λ z. AllHold octets z g gs us rest) (sym front) w.holds.1
 
+-- the header of an attempt was kept, whatever frames are open inside it
+HasHeader-attempt :
+    (octets : List ℕ) (es : List Postponed) (inside : List (OpenFrame FrameBlocks)) (f g : OpenFrame FrameBlocks)
+    (gs : List (OpenFrame FrameBlocks)) (lost : List (List (Tree ℕ))) (ts us : List (Tree ℕ))
+    (rest : List (List (Tree ℕ))) →
+    length inside ≡ length lost → all_hold octets es (inside ++ f ∷ g ∷ gs) (lost ++ ts ∷ us ∷ rest) →
+    HasHeader octets f
+HasHeader-attempt octets es inside f g gs lost ts us rest m a =
+    let w = HoldFront-inside (all_hold octets) (all_hold-around octets) es inside f (g ∷ gs) lost ts (us ∷ rest) m a in
+    w.holds.0.header
+
 -- at first a builder holds no trees in the frame of the document
 pub AllHold-empty : (octets : List ℕ) (e : Extent) (b : TreeBuilder) (i : FrameBlocks) → b.postponed.items ≡ [] →
-    i.postponed_before ≡ 0 → i.postponed_count ≡ 0 → i.first ≡ []
+    i.postponed_before ≡ 0 → i.postponed_count ≡ 0 → i.first ≡ [] → e.start ≡ 0
     → AllHold octets b.postponed.items (record { extent = e; items = i }) [] [] []
-AllHold-empty octets e b i none before count first =
+AllHold-empty octets e b i none before count first start_is =
     let f : OpenFrame FrameBlocks = record { extent = e; items = i } in
     let start : Holds octets [] f [] = record {
       before = omega (arith, before);
@@ -117,6 +130,7 @@ AllHold-empty octets e b i none before count first =
       leads = λ s. ap (λ n. trees_after_all octets (drop n []) s) before ∙ sym (append-nil s);
       count = count;
       trees = sym (ap (λ v. map view v ++ []) first);
+      header = λ after. absurd (omega (arith, after, start_is));
     } in
     subst (λ z. AllHold octets z f [] [] []) (sym none) (start, before)
 
@@ -124,22 +138,32 @@ AllHold-empty octets e b i none before count first =
 all_hold-open : (octets : List ℕ) (es : List Postponed) (f g : OpenFrame FrameBlocks)
     (gs : List (OpenFrame FrameBlocks))
     (trees : List (List (Tree ℕ)))
-    → f.items.postponed_before ≡ length es → f.items.postponed_count ≡ 0 → f.items.first ≡ [] →
+    → f.items.postponed_before ≡ length es → f.items.postponed_count ≡ 0 → f.items.first ≡ [] → HasHeader octets f →
     all_hold octets es (g ∷ gs) trees
     → all_hold octets es (f ∷ g ∷ gs) ([] ∷ trees)
-all_hold-open octets es f g gs [] before count first h = absurd h
-all_hold-open octets es f g gs (ts ∷ rest) before count first h =
-    AllHold-open octets es f g gs ts rest before count first h
+all_hold-open octets es f g gs [] before count first header h = absurd h
+all_hold-open octets es f g gs (ts ∷ rest) before count first header h =
+    AllHold-open octets es f g gs ts rest before count first header h
 
 -- the builder of trees holds a new frame, which is empty
 pub HasOpened-tree_builder :
     (octets : List ℕ) (h : PlacedHeader) (offset depth : ℕ) (a b : TreeBuilder) (i : FrameBlocks) →
     b.postponed ≡ a.postponed →
     i.postponed_before ≡ length b.postponed.items →
-    i.postponed_count ≡ 0 → i.first ≡ [] → HasOpened builder_holds octets h offset depth a i b
-HasOpened-tree_builder octets h offset depth a b i same before count first = record {
+    i.postponed_count ≡ 0 → i.first ≡ [] → i.class ≡ h.class → i.tag ≡ h.tag →
+    (limit : ℕ) → HeaderFound octets offset limit h → HasOpened builder_holds octets h offset depth a i b
+HasOpened-tree_builder octets h offset depth a b i same before count first class tag limit found = record {
   holds = λ kind f fs trees d is w.
+      let alone : IsAttemptAlone octets offset h.end (attempt_with i.class offset i.tag) =
+      λ c start here at. (λ k. attempt_with (class k) offset (tag k))
+      ∙ HeaderFound-same_attempt octets offset h.end h (record {
+        encoding = found.encoding;
+        starts_after = found.starts_after;
+        order = found.order;
+        ends_within = omega arith;
+      }) c start here at in
       all_hold-open octets b.postponed.items (in_frame (opened_at offset kind h) i) f fs trees before count first
+      (λ after. alone)
       (subst (λ (z : Vec Postponed Global). all_hold octets z.items (f ∷ fs) trees) (sym same) w);
 }
 
@@ -189,30 +213,34 @@ module _ (octets : List ℕ) (a r : TreeBuilder) (i j : FrameBlocks) (f : OpenFr
     }
 
     -- an attempt around one postponed block ends as a postponed explicit one
-    pub HasEndedIn-explicit_postponed : (k : declared.Attempt) → f.extent.kind ≡ Attempt →
-        IsAttemptAlone octets f.extent.offset f.extent.end k → f.items.postponed_count ≡ 1 → length f.items.first ≡ 0
-        → IsPostponed c i (PostponedAs.Explicit k) r j → HasEndedIn builder_holds octets f depth a i r j
-    HasEndedIn-explicit_postponed k kind alone one none u = record {
+    pub HasEndedIn-explicit_postponed : f.extent.kind ≡ Attempt →
+        f.items.postponed_count ≡ 1 → length f.items.first ≡ 0
+        → IsPostponed c i (PostponedAs.Explicit (attempt_of f)) r j → HasEndedIn builder_holds octets f depth a i r j
+    HasEndedIn-explicit_postponed kind one none u = record {
       holds = λ e fs ts us rest t d is w.
+          let k = attempt_of f in
+          let alone = w.0.header is.after in
           let n = f.items.postponed_before in
           let (x, leads, are) = Builds-one_tree octets a.postponed.items f ts w.0 one none in
           let this = IsEnded-attempt octets f.extent k ts t kind alone is.tree in
           let tree : around k x ≡ t = sym (this ∙ ap (attempt_tree octets k f.extent.start f.extent.end) are) in
           let grown =
           subst (λ z. AddsTree octets (take n a.postponed.items) (a.postponed.items ++ PostponedAs.Explicit k ∷ []) z)
-          tree
-          (AddsTree-explicit octets a.postponed.items n x k leads) in
+          tree (AddsTree-explicit octets a.postponed.items n x k leads) in
           AllHold-add_postponed octets c r i j e fs us rest (take n a.postponed.items) (PostponedAs.Explicit k) t u
           (same_postponed (λ z. AddsTree octets (take n a.postponed.items) (z ++ PostponedAs.Explicit k ∷ []) t) grown)
           w.1;
     }
 
     -- an attempt around one block ends as an explicit block
-    pub HasEndedIn-explicit_pushed : (k : declared.Attempt) (b item : ASN1Block) → f.extent.kind ≡ Attempt →
-        IsAttemptAlone octets f.extent.offset f.extent.end k → f.items.postponed_count ≡ 0 → f.items.first ≡ item ∷ []
-        → view b ≡ around k (view item) → IsAdded c i b r j → HasEndedIn builder_holds octets f depth a i r j
-    HasEndedIn-explicit_pushed k b item kind alone none one means u = record {
+    pub HasEndedIn-explicit_pushed : (b item : ASN1Block) → f.extent.kind ≡ Attempt →
+        f.items.postponed_count ≡ 0 → f.items.first ≡ item ∷ []
+        → view b ≡ around (attempt_of f) (view item) → IsAdded c i b r j →
+        HasEndedIn builder_holds octets f depth a i r j
+    HasEndedIn-explicit_pushed b item kind none one means u = record {
       holds = λ e fs ts us rest t d is w.
+          let k = attempt_of f in
+          let alone = w.0.header is.after in
           let clean = HasNothingPostponed-ended octets a.postponed.items f (in_frame e i) fs ts us rest none w.0 w.1 in
           let are : ts ≡ view item ∷ [] = clean.trees ∙ ap (map view) one in
           let this = IsEnded-attempt octets f.extent k ts t kind alone is.tree in
@@ -222,14 +250,15 @@ module _ (octets : List ℕ) (a r : TreeBuilder) (i j : FrameBlocks) (f : OpenFr
     }
 
   -- the postponed blocks of a failed attempt go, and its encoding stays as it came
-  module _ (k : declared.Attempt) (alone : IsAttemptAlone octets f.extent.offset f.extent.end k)
-      (cut : c.postponed.items ≡ take f.items.postponed_before a.postponed.items) where
+  module _ (cut : c.postponed.items ≡ take f.items.postponed_before a.postponed.items) where
     -- an attempt with any number of blocks but one stays as it came
     pub HasEndedIn-as_it_came : f.extent.kind ≡ Attempt → (length f.items.first + f.items.postponed_count ≡ 1 → ⊥) →
-        IsAddedAsItCame octets c i k f.extent.start f.extent.end r j
+        IsAddedAsItCame octets c i (attempt_of f) f.extent.start f.extent.end r j
         → HasEndedIn builder_holds octets f depth a i r j
     HasEndedIn-as_it_came kind many u = record {
       holds = λ e fs ts us rest t d is w.
+          let k = attempt_of f in
+          let alone = w.0.header is.after in
           let this = IsEnded-attempt octets f.extent k ts t kind alone is.tree in
           let tree = as_it_came-not_one octets k f.extent.start f.extent.end ts t _
           (length-trees octets a.postponed.items f ts w.0) many this in
@@ -239,10 +268,13 @@ module _ (octets : List ℕ) (a r : TreeBuilder) (i j : FrameBlocks) (f : OpenFr
     }
 
     -- an attempt that a fault ended stays as it came
-    pub HasKept-as_it_came : IsAddedAsItCame octets c i k f.extent.start f.extent.end r j →
+    pub HasKept-as_it_came : f.extent.offset < f.extent.start →
+        IsAddedAsItCame octets c i (attempt_of f) f.extent.start f.extent.end r j →
         HasKept builder_holds octets f depth a i r j
-    HasKept-as_it_came u = record {
+    HasKept-as_it_came after u = record {
       holds = λ inside lost e fs ts us rest l d m here at none w.
+          let k = attempt_of f in
+          let alone = HasHeader-attempt octets a.postponed.items inside f (in_frame e i) fs lost ts us rest m w after in
           let same : k ≡ l = alone l f.extent.start here at in
           let before = AllHold-around_attempt octets a.postponed.items inside f (in_frame e i) fs lost ts us rest m w in
           let more = AllHold-add_as_it_came octets c r i j e fs us rest k f.extent.start f.extent.end u

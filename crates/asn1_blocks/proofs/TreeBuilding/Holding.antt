@@ -9,7 +9,7 @@ use Rattle.asn1_blocks.specs.declared.read.FrameBlocks.{FrameBlocks}
 use Rattle.asn1_blocks.specs.Tree.{Tree}
 use Rattle.asn1_blocks.specs.View.{view}
 use Rattle.asn1_blocks.specs.Inner.Postponed.{trees_after_all, Builds}
-use Rattle.asn1_blocks.specs.Inner.TreeBuilding.{AllHold, Holds}
+use Rattle.asn1_blocks.specs.Inner.TreeBuilding.{AllHold, HasHeader, Holds}
 use Rattle.asn1_blocks.proofs.PostponedBlocks.{Builds-append_nothing}
 
 -- more blocks are postponed, which build one tree more
@@ -25,13 +25,15 @@ pub record PostponesTree (octets : List ℕ) (es fs : List Postponed) (f g : Ope
   pub before : g.items.postponed_before ≡ f.items.postponed_before
   pub first : g.items.first ≡ f.items.first
   pub count : g.items.postponed_count ≡ f.items.postponed_count + 1
+  pub header : HasHeader octets f → HasHeader octets g
   pub grown : AddsTree octets es fs t
 
 -- a frame has one block more, and nothing is postponed
-pub record PushesBlock (f g : OpenFrame FrameBlocks) (b : ASN1Block) : Type 0 where
+pub record PushesBlock (octets : List ℕ) (f g : OpenFrame FrameBlocks) (b : ASN1Block) : Type 0 where
   pub before : g.items.postponed_before ≡ f.items.postponed_before
   pub first : g.items.first ≡ f.items.first ++ b ∷ []
   pub count : g.items.postponed_count ≡ f.items.postponed_count
+  pub header : HasHeader octets f → HasHeader octets g
   pub none : f.items.postponed_count ≡ 0
 
 -- a frame holds one tree more by a postponed block
@@ -53,12 +55,13 @@ Holds-postpone octets es fs f g ts t w h =
           (w.grown.leads (drop f.items.postponed_before es) h.postponed h.leads);
       count = omega (arith, w.count, h.count, length-append h.postponed (t ∷ []));
       trees = ap (λ z. z ++ t ∷ []) h.trees ∙ (seen ∙ ap (λ z. map view z ++ (h.postponed ++ t ∷ [])) (sym w.first));
+      header = w.header h.header;
     }
 
 -- a frame holds one tree more by a block
 Holds-push : (octets : List ℕ) (es : List Postponed) (f g : OpenFrame FrameBlocks) (ts : List (Tree ℕ))
     (b : ASN1Block) →
-    PushesBlock f g b → Holds octets es f ts
+    PushesBlock octets f g b → Holds octets es f ts
     → Holds octets es g (ts ++ view b ∷ [])
 Holds-push octets es f g ts b w h =
     let none : h.postponed ≡ [] = nil_from_length h.postponed (sym (sym w.none ∙ h.count)) in
@@ -74,6 +77,7 @@ Holds-push octets es f g ts b w h =
       leads = subst (λ n. Builds octets (drop n es) h.postponed) (sym w.before) h.leads;
       count = w.count ∙ h.count;
       trees = ap (λ z. z ++ view b ∷ []) before ∙ (sym seen ∙ sym own);
+      header = w.header h.header;
     }
 
 -- the frames around hold what they did, whatever is postponed behind their own
@@ -102,7 +106,7 @@ pub AllHold-push : (octets : List ℕ) (es : List Postponed) (f g : OpenFrame Fr
     (hs : List (OpenFrame FrameBlocks))
     (ts : List (Tree ℕ))
     (rest : List (List (Tree ℕ))) (b : ASN1Block)
-    → PushesBlock f g b → AllHold octets es f hs ts rest → AllHold octets es g hs (ts ++ view b ∷ []) rest
+    → PushesBlock octets f g b → AllHold octets es f hs ts rest → AllHold octets es g hs (ts ++ view b ∷ []) rest
 AllHold-push octets es f g [] ts [] b w a = (Holds-push octets es f g ts b w a.0, w.before ∙ a.1)
 AllHold-push octets es f g [] ts (us ∷ rest) b w a = absurd a
 AllHold-push octets es f g (h ∷ hs) ts [] b w a = absurd a
@@ -122,6 +126,7 @@ Holds-append_nothing octets es fs f ts k h =
           (Builds-append_nothing octets (drop f.items.postponed_before es) fs h.postponed h.leads k);
       count = h.count;
       trees = h.trees;
+      header = h.header;
     }
 
 -- frames hold what they did where more is postponed that builds nothing
@@ -171,10 +176,10 @@ HasNothingPostponed-ended octets es f g hs ts us rest z own around =
 pub AllHold-open : (octets : List ℕ) (es : List Postponed) (f g : OpenFrame FrameBlocks)
     (hs : List (OpenFrame FrameBlocks))
     (us : List (Tree ℕ)) (rest : List (List (Tree ℕ)))
-    → f.items.postponed_before ≡ length es → f.items.postponed_count ≡ 0 → f.items.first ≡ [] →
+    → f.items.postponed_before ≡ length es → f.items.postponed_count ≡ 0 → f.items.first ≡ [] → HasHeader octets f →
     AllHold octets es g hs us rest →
     AllHold octets es f (g ∷ hs) [] (us ∷ rest)
-AllHold-open octets es f g hs us rest b z i a =
+AllHold-open octets es f g hs us rest b z i header a =
     let all : take f.items.postponed_before es ≡ es = ap (λ n. take n es) b ∙ take-length es in
     let none : drop f.items.postponed_before es ≡ [] = ap (λ n. drop n es) b ∙ drop-length es in (
       record {
@@ -183,6 +188,7 @@ AllHold-open octets es f g hs us rest b z i a =
         leads = λ s. ap (λ v. trees_after_all octets v s) none ∙ sym (append-nil s);
         count = z;
         trees = sym (ap (λ v. map view v ++ []) i);
+        header = header;
       },
       subst (λ v. AllHold octets v g hs us rest) (sym all) a,
     )

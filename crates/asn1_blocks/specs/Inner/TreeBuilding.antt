@@ -1,5 +1,5 @@
 -- What the builder of trees holds, and what its steps do.
-use Rattle.std.specs.Prelude.{◌≡◌, ℕ, ◌+◌, ◌≤◌, ◌⊎◌, ◌++◌, List, [], ◌∷◌, length, map, take, drop}
+use Rattle.std.specs.Prelude.{◌≡◌, ℕ, ◌+◌, ◌<◌, ◌≤◌, ◌⊎◌, ◌++◌, List, [], ◌∷◌, length, map, take, drop}
 use Rattle.asn1_blocks.specs.declared.block.ASN1Block.{ASN1Block}
 use Rattle.asn1_blocks.specs.declared.read_loop.Attempt.{Attempt}
 use Rattle.asn1_blocks.specs.declared.read_loop.OpenFrame.{OpenFrame}
@@ -7,10 +7,19 @@ use Rattle.asn1_blocks.specs.declared.postponed.Postponed.{Postponed}
 use Rattle.asn1_blocks.specs.declared.postponed.Postponed.TheVariants.{Ready, AsItCame}
 use Rattle.asn1_blocks.specs.declared.read.FrameBlocks.{FrameBlocks}
 use Rattle.asn1_blocks.specs.declared.read.TreeBuilder.{TreeBuilder}
-use Rattle.asn1_blocks.specs.Inner.OpenFrames.{as_it_came}
+use Rattle.asn1_blocks.specs.Inner.OpenFrames.{IsAttemptAlone, as_it_came}
 use Rattle.asn1_blocks.specs.Inner.Postponed.{Builds}
 use Rattle.asn1_blocks.specs.Tree.{Tree}
 use Rattle.asn1_blocks.specs.View.{view}
+
+-- the attempt that the frame is, by the header that was kept, if it is one
+abbrev pub attempt_of : OpenFrame FrameBlocks → Attempt
+attempt_of f = record { class = f.items.class; offset = f.extent.offset; tag = f.items.tag }
+
+-- the header was kept: where one stands before the contents octets, the attempt is by it
+abbrev pub HasHeader : List ℕ → OpenFrame FrameBlocks → Type 0
+HasHeader octets f =
+    f.extent.offset < f.extent.start → IsAttemptAlone octets f.extent.offset f.extent.end (attempt_of f)
 
 -- the frame has read these trees: its blocks, and those that its postponed blocks build, which are the last of these
 pub record Holds (octets : List ℕ) (es : List Postponed) (f : OpenFrame FrameBlocks)
@@ -20,6 +29,7 @@ pub record Holds (octets : List ℕ) (es : List Postponed) (f : OpenFrame FrameB
   pub leads : Builds octets (drop f.items.postponed_before es) postponed
   pub count : f.items.postponed_count ≡ length postponed
   pub trees : ts ≡ map view f.items.first ++ postponed
+  pub header : HasHeader octets f
 
 -- the innermost frame has read its trees, and so has each frame around it, whose postponed blocks stand before
 abbrev pub AllHold : List ℕ → List Postponed → OpenFrame FrameBlocks → List (OpenFrame FrameBlocks)
@@ -46,6 +56,8 @@ pub record IsPushed (a : TreeBuilder) (i : FrameBlocks) (b : ASN1Block) (r : Tre
   pub count : j.postponed_count ≡ i.postponed_count
   pub none : i.postponed_count ≡ 0
   pub first : j.first ≡ i.first ++ b ∷ []
+  pub class : j.class ≡ i.class
+  pub tag : j.tag ≡ i.tag
   pub postponed : r.postponed.items ≡ a.postponed.items
 
 -- the frame has one tree more, which is postponed
@@ -54,6 +66,8 @@ pub record IsPostponed (a : TreeBuilder) (i : FrameBlocks) (e : Postponed) (r : 
   pub before : j.postponed_before ≡ i.postponed_before
   pub count : j.postponed_count ≡ i.postponed_count + 1
   pub first : j.first ≡ i.first
+  pub class : j.class ≡ i.class
+  pub tag : j.tag ≡ i.tag
   pub postponed : r.postponed.items ≡ a.postponed.items ++ e ∷ []
 
 -- a block was added, as one that is ready or as a postponed one

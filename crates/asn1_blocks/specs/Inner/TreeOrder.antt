@@ -2,8 +2,7 @@
 use Rattle.std.specs.Prelude.{◌≡◌, List, [], ◌∷◌, ◌++◌, map}
 use Rattle.asn1_blocks.specs.declared.block.ASN1Block.{ASN1Block}
 use Rattle.asn1_blocks.specs.declared.tree_walk.TreeWalk.{TreeWalk}
-use Rattle.asn1_blocks.specs.Tree.{Tree, Trees, leaf, group, explicit, unknown, null}
-use Rattle.asn1_blocks.specs.Tree.{no_trees, more_trees}
+use Rattle.asn1_blocks.specs.Tree.{Tree, Trees, leaf, group, explicit, unknown, null, no_trees, more_trees}
 use Rattle.asn1_blocks.specs.View.{view, views}
 
 -- the trees that a tree holds

@@ -33,8 +33,7 @@ returns-in-Universal-clause-encoded c =
     IsSingleAt offset octets =
     λ d e. subst (λ z. (IsReadInside z h.constructed h.tag → ⊥) → IsNoLeafOrMeant h.tag c.args.contents.now
     → (offset : ℕ) (octets : List ℕ) (i : ℕ) → Encoding octets z h.constructed h.tag c.args.contents.now i →
-    IsSingleAt offset octets) (sym e)
-    (IsSingleAt-universal h.constructed h.tag c.args.contents.now)
+    IsSingleAt offset octets) (sym e) (IsSingleAt-universal h.constructed h.tag c.args.contents.now)
     in
     on_ok_weaker c.check_leaf.result (all h.class c.in-Universal.is c.requires.closed) c.check_leaf.ensures.found
 

@@ -16,16 +16,16 @@ use Rattle.asn1_blocks.specs.View.{view}
 use Rattle.asn1_blocks.proofs.contents.leaf_block.Goals as goal
 
 -- an encoding of another class whose contents are not read as blocks stays as it came
-Encodes-other_class : (c : ASN1Class) (k : Bool) (n : ℕ) (contents : List ℕ) (o : ℕ)
+Encodes-not_universal : (c : ASN1Class) (k : Bool) (n : ℕ) (contents : List ℕ) (o : ℕ)
     (r : Result ASN1Block ASN1DecodeErr) →
     c ≢ Universal
     → (IsReadInside c k n → ⊥)
     → IfOk r (λ b. view b ≡ unknown c k o n contents)
     → IfOk r (λ b. (octets : List ℕ) (h : ℕ) → Encoding octets c k n contents h → Encodes o octets (view b))
-Encodes-other_class c k n contents o (Ok b) other shut kept =
+Encodes-not_universal c k n contents o (Ok b) other shut kept =
     λ octets h f. subst (Encodes o octets) (sym kept)
     (refl, h, f, inr (other, λ z. shut (inr (other, z.0))))
-Encodes-other_class c k n contents o (Err e) other shut kept = tt
+Encodes-not_universal c k n contents o (Err e) other shut kept = tt
 
 -- an encoding of class Universal whose tag has no rule stays as it came
 Encodes-unknown_tag : (c : ASN1Class) (k : Bool) (n : ℕ) (contents : List ℕ) (o : ℕ)
@@ -44,15 +44,12 @@ pub returns-in-None-clause-encoded : goal.returns-in-None-clause-encoded
 returns-in-None-clause-encoded c =
     let none : is_leaf_tag c.args.header.tag ≡ false = search rules in
     Encodes-unknown_tag c.args.header.class c.args.header.constructed c.args.header.tag c.args.contents.now
-    c.args.offset
-    c.unknown_block.result
-    c.in-Universal.is c.requires.closed none c.unknown_block.ensures.kept
+    c.args.offset c.unknown_block.result c.in-Universal.is c.requires.closed none c.unknown_block.ensures.kept
 
 pub returns-in_default-clause-encoded : goal.returns-in_default-clause-encoded
 returns-in_default-clause-encoded c =
-    Encodes-other_class c.args.header.class c.args.header.constructed c.args.header.tag c.args.contents.now
-    c.args.offset
-    c.unknown_block-in_default.result
+    Encodes-not_universal c.args.header.class c.args.header.constructed c.args.header.tag c.args.contents.now
+    c.args.offset c.unknown_block-in_default.result
     c.in_default.not-Universal c.requires.closed c.unknown_block-in_default.ensures.kept
 
 pub returns-in_default-clause-refused : goal.returns-in_default-clause-refused

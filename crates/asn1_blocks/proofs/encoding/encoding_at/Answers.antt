@@ -31,8 +31,7 @@ pub returns-clause-found : goal.returns-clause-found
 returns-clause-found c =
     let (_, _, are) = c.in-Some.ensures.found in
     EncodingAt-front c.args.document.now c.args.offset c.in-Some.size _ _ c.split_at.ensures.back
-    c.split_at-2.ensures.front
-    are
+    c.split_at-2.ensures.front are
 
 pub returns-clause-block : goal.returns-clause-block
 returns-clause-block c octets t =

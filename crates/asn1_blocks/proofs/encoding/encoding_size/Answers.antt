@@ -43,8 +43,7 @@ returns-then-size-octets-clause-found c =
     let s : n ≡ i + l + m = omega (arith, c.in-Some-checked_add.ensures) in
     let fits : n ≤ length octets = omega arith in
     let p : IsEncoding (take (i + l + m) octets) =
-    IsEncoding-front octets i l m tag t le (subst (λ z. IsLength (take l z) m) e u.1) few
-    (omega (arith, s, fits)) in
+    IsEncoding-front octets i l m tag t le (subst (λ z. IsLength (take l z) m) e u.1) few (omega (arith, s, fits)) in
     let q : IsEncoding (take n octets) = subst (λ z. IsEncoding (take z octets)) (sym s) p in
     (omega (arith, IsEncoding-two_le (take n octets) q, length-take-le n octets fits), fits, q)
 

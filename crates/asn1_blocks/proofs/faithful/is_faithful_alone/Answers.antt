@@ -14,6 +14,5 @@ returns-in-Unknown c =
     let e : view c.args.b.now ≡ unknown u.class u.constructed u.field-2 u.tag u.contents.items = ap view u.is ∙
     view-Unknown u.class u.constructed u.field-2 u.tag u.contents in
     let s = subst (λ z. IfOk c.stays_as_it_came.result (λ r. IsTrue r ↔ StaysAsItCame u.class u.constructed u.tag z))
-    c.deref.ensures.value
-    c.stays_as_it_came.ensures in
+    c.deref.ensures.value c.stays_as_it_came.ensures in
     subst (λ z. IfOk c.stays_as_it_came.result (λ r. IsTrue r ↔ IsFaithfulAlone z)) (sym e) s

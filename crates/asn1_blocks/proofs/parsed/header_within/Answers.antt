@@ -16,8 +16,7 @@ returns-then-announced-rest-clause-refused c =
       | inl near ↦
           inr (subst (HeaderFault offset rest) (sym (c.too_long.ensures.near near))
           (HeaderFault-too_long rest h.size h.announced h.class h.constructed h.tag c.in_ok-header.ensures.found before
-          offset refl
-          near
+          offset refl near
           (omega (arith, c.if-announced-rest.true))))
       | inr far ↦
           inr (subst (HeaderFault offset rest) (sym (c.too_long.ensures.far far))

@@ -8,5 +8,4 @@ pub read_into-requires-clause-empty : goal.read_into-requires-clause-empty
 read_into-requires-clause-empty c =
     AllHold-empty c.args.i.now (record { kind = Whole; offset = 0; start = 0; end = length c.args.i.now })
     (record { postponed = c.new.result; outermost = None })
-    (record { first = c.in-Ok.first; postponed_before = 0; postponed_count = 0 })
-    c.new.ensures.items refl refl c.in-Ok.ensures
+    c.in-Ok.items c.new.ensures.items c.in-Ok.ensures.before c.in-Ok.ensures.count c.in-Ok.ensures.first refl

@@ -32,8 +32,7 @@ close-requires g c =
     let h = c.replace-items.new.dest in
     let n = c.requires.reading.0 in
     let w = Reads-taken g.B.Builder.holds c.args.octets.now r k c.args.parent h n c.replace-items.ensures.value
-    c.replace-items.ensures.after
-    c.requires.reading.1 in
+    c.replace-items.ensures.after c.requires.reading.1 in
     let depth : c.len-depth.result ≡ length r.outer.items = grind (arith, common_steps) in
     CanEnd-inside g.B.Builder.holds c.args.octets.now r.builder k h r.outer n w c.len-depth.result depth
 

@@ -18,8 +18,7 @@ pub turns-init : goal.turns-init
 turns-init g c = (
   0,
   subst (λ e. Reads g.B.Builder.holds c.args.octets.now c.args.builder (record { extent = e; items = c.args.items })
-      (reverse c.in-Ok.outer.items) 0 0)
-      (sym c.whole_extent.ensures)
+      (reverse c.in-Ok.outer.items) 0 0) (sym c.whole_extent.ensures)
       (Reads-first g.B.Builder.holds c.args.octets.now c.args.builder c.args.items c.in-Ok.outer.items
       c.in-Ok.ensures.items c.requires.empty),
   omega arith,
@@ -71,8 +70,7 @@ turns-smaller-in-Some-Ok g c =
     let (n, w, e) = c.turns.invariant in
     let t = c.take_step.ensures.stepped n c.args.count.now w e in
     let on = IsStepped-goes_on g.B.Builder.holds c.args.octets.now c.take_step.result _ c.take_step.new.reader t.begun _
-    (c.in-Some-Ok.is ∙ ap Some c.in-Some-Ok.field-0-is)
-    t.stepped in
+    (c.in-Some-Ok.is ∙ ap Some c.in-Some-Ok.field-0-is) t.stepped in
     on.nearer
 
 pub turns-preserved-in-Some-Ok : goal.turns-preserved-in-Some-Ok
@@ -80,8 +78,7 @@ turns-preserved-in-Some-Ok g c =
     let (n, w, e) = c.turns.invariant in
     let t = c.take_step.ensures.stepped n c.args.count.now w e in
     let on = IsStepped-goes_on g.B.Builder.holds c.args.octets.now c.take_step.result _ c.take_step.new.reader t.begun _
-    (c.in-Some-Ok.is ∙ ap Some c.in-Some-Ok.field-0-is)
-    t.stepped in
+    (c.in-Some-Ok.is ∙ ap Some c.in-Some-Ok.field-0-is) t.stepped in
     (t.begun, on.reading, t.counted)
 
 pub recover-requires-clause-failed : goal.recover-requires-clause-failed
@@ -90,8 +87,7 @@ recover-requires-clause-failed g c =
     let t = c.take_step.ensures.stepped n c.args.count.now w e in
     let wrong =
     IsStepped-fault g.B.Builder.holds c.args.octets.now c.take_step.result _ c.take_step.new.reader t.begun _
-    (c.in-Some-Err.is ∙ ap Some c.in-Some-Err.field-0-is)
-    t.stepped in
+    (c.in-Some-Err.is ∙ ap Some c.in-Some-Err.field-0-is) t.stepped in
     (t.begun, _, wrong)
 
 pub returns-then-not-recover-clause-refused : goal.returns-then-not-recover-clause-refused
@@ -100,8 +96,7 @@ returns-then-not-recover-clause-refused g c =
     let t = c.take_step.ensures.stepped n c.args.count.now w e in
     let wrong =
     IsStepped-fault g.B.Builder.holds c.args.octets.now c.take_step.result _ c.take_step.new.reader t.begun _
-    (c.in-Some-Err.is ∙ ap Some c.in-Some-Err.field-0-is)
-    t.stepped in
+    (c.in-Some-Err.is ∙ ap Some c.in-Some-Err.field-0-is) t.stepped in
     let stops : c.recover.result ≡ false = grind (arith, common_steps) in
     let s = HasRecovered-stops g.B.Builder.holds c.args.octets.now c.recover.result c.recover.new.reader t.begun _ stops
     (c.recover.ensures.recovered t.begun _ wrong) in
@@ -113,8 +108,7 @@ returns-then-not-recover-clause-counted g c =
     let t = c.take_step.ensures.stepped n c.args.count.now w e in
     let wrong =
     IsStepped-fault g.B.Builder.holds c.args.octets.now c.take_step.result _ c.take_step.new.reader t.begun _
-    (c.in-Some-Err.is ∙ ap Some c.in-Some-Err.field-0-is)
-    t.stepped in
+    (c.in-Some-Err.is ∙ ap Some c.in-Some-Err.field-0-is) t.stepped in
     let stops : c.recover.result ≡ false = grind (arith, common_steps) in
     let s = HasRecovered-stops g.B.Builder.holds c.args.octets.now c.recover.result c.recover.new.reader t.begun _ stops
     (c.recover.ensures.recovered t.begun _ wrong) in
@@ -138,8 +132,7 @@ turns-smaller g c =
     let t = c.take_step.ensures.stepped n c.args.count.now w e in
     let wrong =
     IsStepped-fault g.B.Builder.holds c.args.octets.now c.take_step.result _ c.take_step.new.reader t.begun _
-    (c.in-Some-Err.is ∙ ap Some c.in-Some-Err.field-0-is)
-    t.stepped in
+    (c.in-Some-Err.is ∙ ap Some c.in-Some-Err.field-0-is) t.stepped in
     let goes : c.recover.result ≡ true = grind (arith, common_steps) in
     let on =
     HasRecovered-goes_on g.B.Builder.holds c.args.octets.now c.recover.result c.recover.new.reader t.begun _ goes
@@ -152,8 +145,7 @@ turns-preserved g c =
     let t = c.take_step.ensures.stepped n c.args.count.now w e in
     let wrong =
     IsStepped-fault g.B.Builder.holds c.args.octets.now c.take_step.result _ c.take_step.new.reader t.begun _
-    (c.in-Some-Err.is ∙ ap Some c.in-Some-Err.field-0-is)
-    t.stepped in
+    (c.in-Some-Err.is ∙ ap Some c.in-Some-Err.field-0-is) t.stepped in
     let goes : c.recover.result ≡ true = grind (arith, common_steps) in
     let on =
     HasRecovered-goes_on g.B.Builder.holds c.args.octets.now c.recover.result c.recover.new.reader t.begun _ goes

@@ -78,5 +78,4 @@ returns-clause-stepped g c n w =
     let leaf : IsReadInside h.class h.constructed h.tag → ⊥ = grind (arith, common_steps) in
     let depth : c.len-depth.result ≡ length a.outer.items = grind (arith, common_steps) in
     GoesOn-leaf g.B.Builder.holds c.args.octets.now a h n c.len-depth.result c.leaf.new.self c.leaf.new.items depth
-    c.in_ok-header.ensures.found leaf
-    c.in_ok-leaf.ensures.built w
+    c.in_ok-header.ensures.found leaf c.in_ok-leaf.ensures.built w

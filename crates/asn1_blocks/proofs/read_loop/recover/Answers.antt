@@ -1,7 +1,6 @@
 -- For `read_loop::recover`: what it returns is right and `refuse` may be called.
-use Rattle.std.proofs.Common.{◌≡◌}
+use Rattle.std.proofs.Common.{◌≡◌, arith}
 use Rattle.std.proofs.lemmas.Grind.{common_steps}
-use Rattle.std.proofs.Common.{arith}
 use Rattle.asn1_headers.specs.declared.error.ASN1DecodeErr.TheVariants.{OutOfMemory}
 use Rattle.asn1_blocks.specs.Inner.ReaderSteps.{IsFaulty}
 use Rattle.asn1_blocks.proofs.Frames.Opening.{OutOfMemoryOr-fault}

@@ -18,8 +18,7 @@ loop-parent-preserved g c =
           let is = c.in-Some.ensures.items in
           let before = c.loop-parent.invariant.faulty n most w in
           let taken = IsRefused-taken g.B.Builder.holds octets r.builder r.inner k c.in-Some.parent h r.outer.items
-          after.items _ r.index n own
-          c.replace-items.ensures.after is before.refused in
+          after.items _ r.index n own c.replace-items.ensures.after is before.refused in
           let no : is_attempt k.extent.kind ≡ true → ⊥ = grind (arith, common_steps) in
           record {
             refused =
@@ -45,8 +44,7 @@ keep-requires g c =
     let before = c.loop-parent.invariant.faulty n most w in
     let taken =
     IsRefused-taken g.B.Builder.holds octets r.builder r.inner k c.in-Some.parent h r.outer.items after.items
-    _ r.index n
-    c.replace-items.ensures.value c.replace-items.ensures.after c.in-Some.ensures.items before.refused in
+    _ r.index n c.replace-items.ensures.value c.replace-items.ensures.after c.in-Some.ensures.items before.refused in
     let yes : is_attempt k.extent.kind ≡ true = grind (arith, common_steps) in
     let a = HasAttempt-inside g.B.Builder.holds octets r.builder k h after _ r.index n c.requires.small taken yes in
     CanBeKept-inside g.B.Builder.holds octets r.builder k h after _ r.index n c.requires.small taken a
@@ -64,8 +62,7 @@ returns-in-Some g c =
           let is = c.in-Some.ensures.items in
           let before = c.loop-parent.invariant.faulty n most w in
           let taken = IsRefused-taken g.B.Builder.holds octets r.builder r.inner k c.in-Some.parent h r.outer.items
-          after.items _ r.index n own
-          c.replace-items.ensures.after is before.refused in
+          after.items _ r.index n own c.replace-items.ensures.after is before.refused in
           let yes : is_attempt k.extent.kind ≡ true = grind (arith, common_steps) in
           let a =
           HasAttempt-inside g.B.Builder.holds octets r.builder k h after _ r.index n c.requires.small taken yes in

@@ -28,5 +28,4 @@ loop-walk-preserved c =
 pub returns : goal.returns
 returns c =
     IsInTreeOrder-found (map (λ x. x.now) c.loop-walk.order.items) (ahead c.loop-walk.walk) c.args.blocks.now
-    c.loop-walk.invariant
-    (rw c.in_default.is at c.in_ok-block.ensures)
+    c.loop-walk.invariant (rw c.in_default.is at c.in_ok-block.ensures)

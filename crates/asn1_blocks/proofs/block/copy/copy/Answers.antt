@@ -58,7 +58,6 @@ loop-i-preserved c =
       copied = λ left h.
           let p = BeginsAtPlace-drop order left i (i - 1) c.index-block.result.now.now (omega arith) l g h in
           let k = IsTaken-held c.index-block.result.now.now left p.after c.loop-i.copies c.in_ok-held.held
-          c.take_back.new.copies p.next
-          (c.loop-i.invariant.copied p.after p.ordered) n t in
+          c.take_back.new.copies p.next (c.loop-i.invariant.copied p.after p.ordered) n t in
           ap (λ z. views (reverse z)) c.in_ok-push.ensures ∙ k.copied c.in_ok-copy.copy c.in_ok-copy.ensures;
     }

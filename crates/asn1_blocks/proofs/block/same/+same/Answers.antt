@@ -35,8 +35,7 @@ pub same_all-returns-then-not-same_own : goal.same_all-returns-then-not-same_own
 same_all-returns-then-not-same_own t c =
     let l =
     AreSame-by_lasts c.loop-x.v.now c.loop-x.w.now c.in-Some.v_front.now c.in-Some-split_last.w_front.now
-    c.in-Some.x.now
-    c.in-Some-split_last.y.now
+    c.in-Some.x.now c.in-Some-split_last.y.now
     c.in-Some.ensures.cases.0 c.in-Some-split_last.ensures.cases.0 in (
       λ h. absurd (false≢true h),
       λ s. absurd (false≢true (c.if-not-same_own.ensures.1 (l.own (c.loop-x.invariant.same.1 s)))),
@@ -51,8 +50,7 @@ pub same_all-returns-then-not-same_each : goal.same_all-returns-then-not-same_ea
 same_all-returns-then-not-same_each t c =
     let l =
     AreSame-by_lasts c.loop-x.v.now c.loop-x.w.now c.in-Some.v_front.now c.in-Some-split_last.w_front.now
-    c.in-Some.x.now
-    c.in-Some-split_last.y.now
+    c.in-Some.x.now c.in-Some-split_last.y.now
     c.in-Some.ensures.cases.0 c.in-Some-split_last.ensures.cases.0 in (
       λ h. absurd (false≢true h),
       λ s. absurd (false≢true (c.if-not-same_each.ensures.1 (l.fronts (c.loop-x.invariant.same.1 s)))),
@@ -68,8 +66,7 @@ same_all-loop-x-preserved t c =
     let x = c.in-Some.x.now in
     let y = c.in-Some-split_last.y.now in
     let l = AreSame-by_lasts c.loop-x.v.now c.loop-x.w.now c.in-Some.v_front.now c.in-Some-split_last.w_front.now x y
-    c.in-Some.ensures.cases.0
-    c.in-Some-split_last.ensures.cases.0 in
+    c.in-Some.ensures.cases.0 c.in-Some-split_last.ensures.cases.0 in
     let f = all_blocks_in-last_lt c.loop-x.v.now c.in-Some.v_front.now x c.in-Some.ensures.cases.0 in
     let a = ap shapes c.blocks_inside-v.ensures in
     let b = ap shapes c.blocks_inside-w.ensures in

@@ -1,6 +1,5 @@
 -- For `postponed::Postponed::build`: what it returns is right.
-use Rattle.std.proofs.Common.{◌≡◌, ◌-◌, true, [], ◌∷◌, ◌++◌, map, length, ap, sym, ◌∙◌}
-use Rattle.std.proofs.Common.{arith}
+use Rattle.std.proofs.Common.{◌≡◌, ◌-◌, true, [], ◌∷◌, ◌++◌, map, length, ap, sym, ◌∙◌, arith}
 use Rattle.std.proofs.lemmas.Grind.{common_steps}
 use Rattle.asn1_blocks.specs.Inner.OpenFrames.{as_it_came}
 use Rattle.asn1_blocks.specs.Inner.Postponed.{trees_after, around_last}
@@ -34,8 +33,7 @@ returns c =
           let split = w.in_ok-others-in-Group.ensures in
           let own = ap view w.block-is ∙ w.group_block-block.ensures in
           trees_after-group octets old kept w.in_ok-others-in-Group.others w.append.new.self w.in-Group.kind
-          w.in-Group.offset
-          w.in-Group.behind
+          w.in-Group.offset w.in-Group.behind
           w.saturating_sub.result w.in-Group.first block n (w.blocks-is ∙ split.kept) split.parted
           w.in_ok-append-in-Group.ensures own ∙ sym order
       | in-Explicit+in-Some+in_ok-block-in-Explicit w ↦

@@ -8,7 +8,6 @@ pub returns : goal.returns
 returns c =
     on_ok_weaker c.push_as_it_came.result
     (HasKept-as_it_came c.args.octets.now c.args.self.now c.push_as_it_came.new.self c.args.parent.now
-    c.push_as_it_came.new.items
-    (in_frame c.args.extent c.args.items) c.args.depth
-    (record { postponed = c.truncate.new.self; outermost = c.leave-inside.new.outermost }) c.in_ok-attempt.attempt
-    c.in_ok-attempt.ensures c.truncate.ensures.items) c.push_as_it_came.ensures
+    c.push_as_it_came.new.items (in_frame c.args.extent c.args.items) c.args.depth
+    (record { postponed = c.truncate.new.self; outermost = c.leave-inside.new.outermost }) c.truncate.ensures.items
+    c.requires.after) c.push_as_it_came.ensures

@@ -13,7 +13,13 @@ returns c =
       | then-not-matches+then-is_none w ↦ ap (λ (z : TreeBuilder). z.postponed) w.self-is
       | else-not-matches w ↦ ap (λ (z : TreeBuilder). z.postponed) w.self-is
     ] in
+    let (limit, found, within) = c.requires.found in
     let before : c.len.result ≡ length b.postponed.items = grind (arith, common_steps) in
     HasOpened-tree_builder c.args.octets.now c.args.header.now c.args._offset c.args.depth c.args.self.now b
-    (record { first = c.in_ok-first.first; postponed_before = c.len.result; postponed_count = 0 }) same before refl
-    c.in_ok-first.ensures
+    (record {
+      first = c.in_ok-first.first;
+      class = c.args.header.now.class;
+      tag = c.in_ok-tag.tag;
+      postponed_before = c.len.result;
+      postponed_count = 0;
+    }) same before refl c.in_ok-first.ensures refl c.in_ok-tag.ensures limit found
