@@ -8,7 +8,7 @@ use Rattle.asn1_headers.proofs.Prefixes.{Encoding-unique, Encoding-not_empty}
 use Rattle.asn1_headers.proofs.Shortest.{IsIdentifier-shortest, IsLength-shortest}
 use Rattle.asn1_headers.specs.declared.tags.TheConstants.{SET}
 use Rattle.asn1_blocks.specs.Places.{IsEncoding}
-use Rattle.asn1_der.specs.Der.{AreDerEncodings, IsDerEncoding, IsInOrder, IsRightAlone, IsShortest, more_encodings, no_encodings, of_other_constructed, of_other_primitive, of_primitive_type, of_sequence, of_set}
+use Rattle.asn1_der.specs.Der.{AreDerEncodings, IsDerEncoding, IsInOrder, IsRightAlone, IsShortest, more_encodings, no_encodings, of_constructed_not_universal, of_primitive_not_universal, of_primitive_type, of_sequence, of_set}
 use Rattle.asn1_der.specs.Steps.{IsWhole, AreDer}
 
 -- octets in the shortest form are an encoding
@@ -38,15 +38,16 @@ pub record HasShortestForm (x : List ℕ) : Type 0 where
   pub v : List ℕ
   pub shortest : IsShortest x c k n v
 
+-- an encoding of DER is in the shortest form, with some fields
 HasShortestForm-der : (x : List ℕ) → IsDerEncoding x → HasShortestForm x
 HasShortestForm-der x (of_primitive_type {tag = n} s r t h) =
     record { c = Universal; k = false; n = n; v = _; shortest = s }
 HasShortestForm-der x (of_sequence {tag = n} s t other items d) =
     record { c = Universal; k = true; n = n; v = _; shortest = s }
 HasShortestForm-der x (of_set s items d o) = record { c = Universal; k = true; n = SET; v = _; shortest = s }
-HasShortestForm-der x (of_other_constructed {class = c} {tag = n} other s items d) =
+HasShortestForm-der x (of_constructed_not_universal {class = c} {tag = n} other s items d) =
     record { c = c; k = true; n = n; v = _; shortest = s }
-HasShortestForm-der x (of_other_primitive {class = c} {tag = n} other s) =
+HasShortestForm-der x (of_primitive_not_universal {class = c} {tag = n} other s) =
     record { c = c; k = false; n = n; v = _; shortest = s }
 
 -- an encoding of DER is an encoding
@@ -62,6 +63,7 @@ pub record IsLengthShortest (x : List ℕ) : Type 0 where
   pub found : IsEncoding x
   pub shortest : found.encoding.len ≡ shortest_length (length found.contents)
 
+-- an encoding of DER of fewer than 2^64 octets is an encoding whose length octets are the shortest
 pub IsLengthShortest-der : (x : List ℕ) → length x < 2 ^ 64 → IsDerEncoding x → IsLengthShortest x
 IsLengthShortest-der x small d =
     let s = HasShortestForm-der x d in
@@ -113,11 +115,12 @@ AreDerEncodings-unique x y is js small e (more_encodings {first = f} {rest = r} 
     let more : fs ≡ gs = AreDerEncodings-unique r q fs gs (omega (arith, long, small)) same.rest ds bs in
     cc
 
-IsRightAlone-other_class : (c : ASN1Class) (k : Bool) (n : ℕ) (v : List ℕ) → c ≢ Universal → IsRightAlone c k n v
-IsRightAlone-other_class Universal k n v other = absurd (other refl)
-IsRightAlone-other_class Application k n v other = tt
-IsRightAlone-other_class ContextSpecific k n v other = tt
-IsRightAlone-other_class Private k n v other = tt
+-- of another class than Universal no form, tag number or contents octets are asked for
+IsRightAlone-not_universal : (c : ASN1Class) (k : Bool) (n : ℕ) (v : List ℕ) → c ≢ Universal → IsRightAlone c k n v
+IsRightAlone-not_universal Universal k n v other = absurd (other refl)
+IsRightAlone-not_universal Application k n v other = tt
+IsRightAlone-not_universal ContextSpecific k n v other = tt
+IsRightAlone-not_universal Private k n v other = tt
 
 -- what is asked of an encoding of DER holds with equal fields too
 IsWhole-same_fields :
@@ -129,6 +132,7 @@ IsWhole-same_fields x c c' k k' n n' v v' ec ek en ev w =
     (subst (λ z. IsWhole x c' k' z v) (sym en)
     (subst (λ z. IsWhole x c' k' n' z) (sym ev) w)))
 
+-- an encoding of DER of fewer than 2^64 octets meets `IsWhole` with some fields
 IsWhole-some_fields : (x : List ℕ) → length x < 2 ^ 64 → IsDerEncoding x →
     (c : ASN1Class) × (k : Bool) × (n : ℕ) × (v : List ℕ) × IsWhole x c k n v
 IsWhole-some_fields x small (of_primitive_type {contents = v} {tag = n} s r t h) =
@@ -149,10 +153,10 @@ IsWhole-some_fields x small (of_set {contents = v} s items d o) =
         items = λ e. (items, d);
       },
     )
-IsWhole-some_fields x small (of_other_constructed {contents = v} {class = c} {tag = n} other s items d) =
-    (c, true, n, v, record { alone = (s, IsRightAlone-other_class c true n v other); items = λ e. (items, d) })
-IsWhole-some_fields x small (of_other_primitive {contents = v} {class = c} {tag = n} other s) =
-    (c, false, n, v, record { alone = (s, IsRightAlone-other_class c false n v other); items = λ e. absurd cc })
+IsWhole-some_fields x small (of_constructed_not_universal {contents = v} {class = c} {tag = n} other s items d) =
+    (c, true, n, v, record { alone = (s, IsRightAlone-not_universal c true n v other); items = λ e. (items, d) })
+IsWhole-some_fields x small (of_primitive_not_universal {contents = v} {class = c} {tag = n} other s) =
+    (c, false, n, v, record { alone = (s, IsRightAlone-not_universal c false n v other); items = λ e. absurd cc })
 
 -- an encoding of DER meets `IsWhole` with the fields of its header
 pub IsWhole-der :
@@ -182,20 +186,21 @@ IsDerEncoding-whole x Universal true n v w =
       ]
     ]
 IsDerEncoding-whole x Application true n v w = let (items, d) =
-    w.items refl in of_other_constructed (λ e. cc) w.alone.0 items d
+    w.items refl in of_constructed_not_universal (λ e. cc) w.alone.0 items d
 IsDerEncoding-whole x ContextSpecific true n v w = let (items, d) =
-    w.items refl in of_other_constructed (λ e. cc) w.alone.0 items d
+    w.items refl in of_constructed_not_universal (λ e. cc) w.alone.0 items d
 IsDerEncoding-whole x Private true n v w = let (items, d) =
-    w.items refl in of_other_constructed (λ e. cc) w.alone.0 items d
-IsDerEncoding-whole x Application false n v w = of_other_primitive (λ e. cc) w.alone.0
-IsDerEncoding-whole x ContextSpecific false n v w = of_other_primitive (λ e. cc) w.alone.0
-IsDerEncoding-whole x Private false n v w = of_other_primitive (λ e. cc) w.alone.0
+    w.items refl in of_constructed_not_universal (λ e. cc) w.alone.0 items d
+IsDerEncoding-whole x Application false n v w = of_primitive_not_universal (λ e. cc) w.alone.0
+IsDerEncoding-whole x ContextSpecific false n v w = of_primitive_not_universal (λ e. cc) w.alone.0
+IsDerEncoding-whole x Private false n v w = of_primitive_not_universal (λ e. cc) w.alone.0
 
 -- the first of encodings of DER is an encoding of DER, and the rest are encodings of DER
 pub record IsDerInFront (first rest : List ℕ) : Type 0 where
   pub der : IsDerEncoding first
   pub more : AreDer rest
 
+-- where fewer than 2^64 octets are encodings of DER, an encoding in front is of DER, and the rest are encodings of DER
 pub AreDer-first :
     (x first rest : List ℕ) (c : ASN1Class) (k : Bool) (n : ℕ) (v : List ℕ) (h : ℕ) → Encoding first c k n v h →
     x ≡ first ++ rest →

@@ -15,6 +15,7 @@ pub record AreItems (x : List ℕ) (items : List (List ℕ)) : Type 0 where
   pub all : All IsEncoding items
   pub whole : x ≡ concat items
 
+-- where fewer than 2^64 octets are encodings of DER, each of these is an encoding, and joined they are the octets
 pub AreItems-der : (x : List ℕ) (items : List (List ℕ)) → length x < 2 ^ 64 → AreDerEncodings x items → AreItems x items
 AreItems-der x items small no_encodings = record { all = All-nil IsEncoding; whole = refl }
 AreItems-der x items small (more_encodings {first = f} {rest = r} {items = is} w d ds) =
@@ -30,6 +31,7 @@ record IsFirst (part after : List ℕ) (later : List (List ℕ)) : Type 0 where
   is : later ≡ part ∷ more
   whole : after ≡ concat more
 
+-- an encoding at the front of joined encodings is the first of them, and what follows it is the rest, joined
 IsFirst-front :
     (rest part after : List ℕ) (later : List (List ℕ)) → All IsEncoding later → rest ≡ concat later → IsEncoding part →
     rest ≡ part ++ after → IsFirst part after later
@@ -45,8 +47,7 @@ IsFirst-front rest part after (p ∷ ps) all e i w =
     let j = All-head IsEncoding p ps all in
     let same =
     Encoding-unique part p i.class j.class i.constructed j.constructed i.tag j.tag i.contents j.contents i.header
-    j.header
-    after (concat ps) i.encoding j.encoding (sym w ∙ e) in
+    j.header after (concat ps) i.encoding j.encoding (sym w ∙ e) in
     record { more = ps; is = ap (λ z. z ∷ ps) (sym same.octets); whole = same.rest }
 
 -- the items ascend exactly if the last one passed and those that are left do
@@ -56,6 +57,7 @@ pub record IsLeft (order : Order) (items : List (List ℕ)) (before : Option (Li
   pub whole : rest ≡ concat later
   pub same : Ascend (MayStandBefore order) items ↔ Ascend (MayStandBefore order) (behind before later)
 
+-- once an encoding is passed that may follow the one before it, the items ascend exactly if it and the rest do
 pub IsLeft-next :
     (order : Order) (items : List (List ℕ)) (before : Option (List ℕ)) (rest part after : List ℕ) →
     IsLeft order items before rest → IsEncoding part → rest ≡ part ++ after →
@@ -108,6 +110,7 @@ Ascend-not_may_follow order items (Some first) rest part after d i w never a =
     let f = IsFirst-front rest part after d.later (All-drop IsEncoding 1 (first ∷ d.later) d.all) d.whole i w in
     never (subst (λ z. Ascend (MayStandBefore order) (first ∷ z)) f.is (d.same.0 a)).0
 
+-- an encoding by itself, or none, ascends in each order
 Ascend-behind_nil : (order : Order) (before : Option (List ℕ)) → Ascend (MayStandBefore order) (behind before [])
 Ascend-behind_nil order None = tt
 Ascend-behind_nil order (Some first) = tt
@@ -118,11 +121,13 @@ pub Ascend-none_left :
     IsLeft order items before rest → HasNoEncodingAt rest 0 → Ascend (MayStandBefore order) items
 Ascend-none_left order items before rest d none = d.same.1 (none_later d.later (later_all before d.later d.all) d.whole)
   where
+    -- where all of a list with perhaps an item before it are encodings, all of the list are
     later_all : (before : Option (List ℕ)) (later : List (List ℕ)) → All IsEncoding (behind before later)
         → All IsEncoding later
     later_all None later all = all
     later_all (Some first) later all = All-drop IsEncoding 1 (first ∷ later) all
 
+    -- encodings that join to octets where none begins are none, and what is before them ascends by itself
     none_later : (later : List (List ℕ)) → All IsEncoding later → rest ≡ concat later
         → Ascend (MayStandBefore order) (behind before later)
     none_later [] all e = Ascend-behind_nil order before

@@ -61,6 +61,7 @@ pub IsHeaderOf-short :
 IsHeaderOf-short front c k n m h short =
     h.whole ∙ of_parts h.identifier h.len h.identifier_octets h.length_octets (sym (ap is_short h.whole) ∙ short)
   where
+    -- identifier and length octets that are one octet each, in the short forms, are the shortest
     of_parts : (id len : List ℕ) → IsIdentifier id c k n → IsLength len m → is_short (id ++ len) ≡ true
         → id ++ len ≡ shortest_identifier c k n ++ shortest_length m
     of_parts [] len p q t = absurd p

@@ -18,11 +18,13 @@ use Rattle.asn1_der.specs.Der.{HasLessTag, is_less_tag}
 use Rattle.asn1_der.specs.Steps.{IsFront}
 use Rattle.asn1_headers.proofs.Shortest.{length-shortest_base128}
 
+-- a second comparison that finds equality leaves the first as it is
 ordering_then-Equal : (r : Ordering) → ordering_then r Equal ≡ r
 ordering_then-Equal Less = refl
 ordering_then-Equal Equal = refl
 ordering_then-Equal Greater = refl
 
+-- three comparisons in turn give one result, whichever two are taken together
 ordering_then-assoc : (r s t : Ordering) → ordering_then r (ordering_then s t) ≡ ordering_then (ordering_then r s) t
 ordering_then-assoc Less s t = refl
 ordering_then-assoc Equal s t = refl
@@ -32,6 +34,7 @@ ordering_then-assoc Greater s t = refl
 nat_cmp-add : (k x y : ℕ) → nat_cmp (k + x) (k + y) ≡ nat_cmp x y
 nat_cmp-add k x y = sym (by_rank (nat_cmp x y) refl (ranked x y (nat_cmp x y) refl))
   where
+    -- however two numbers compare, they compare alike with another number added to both
     by_rank : (r : Ordering) → r ≡ nat_cmp x y → MatchOrdering r (x < y) (x ≡ y) (y < x)
         → nat_cmp x y ≡ nat_cmp (k + x) (k + y)
     by_rank Less e h = sym e ∙ nat_cmp_is (k + x) (k + y) Less (omega (arith, h))
@@ -43,12 +46,14 @@ nat_cmp-div-mod : (m n : ℕ) → ordering_then (nat_cmp (m / 128) (n / 128)) (n
 nat_cmp-div-mod m n =
     by_quotient (nat_cmp (m / 128) (n / 128)) (ranked (m / 128) (n / 128) (nat_cmp (m / 128) (n / 128)) refl)
   where
+    -- numbers whose quotients by 128 are equal compare as their remainders do
     by_rest : (s : Ordering) → m / 128 ≡ n / 128
         → MatchOrdering s (m % 128 < n % 128) (m % 128 ≡ n % 128) (n % 128 < m % 128) → s ≡ nat_cmp m n
     by_rest Less e h = nat_cmp_is m n Less (omega (arith, e, h))
     by_rest Equal e h = nat_cmp_is m n Equal (omega (arith, e, h))
     by_rest Greater e h = nat_cmp_is m n Greater (omega (arith, e, h))
 
+    -- numbers compare by their quotients by 128, and by their remainders where the quotients are equal
     by_quotient : (r : Ordering) → MatchOrdering r (m / 128 < n / 128) (m / 128 ≡ n / 128) (n / 128 < m / 128)
         → ordering_then r (nat_cmp (m % 128) (n % 128)) ≡ nat_cmp m n
     by_quotient Less h = nat_cmp_is m n Less (omega (arith, h))
@@ -78,35 +83,44 @@ nat_cmp-shortest_base128 m n =
     ∙ by_length (nat_cmp (length ds) (length es)) refl
     (ranked (length ds) (length es) (nat_cmp (length ds) (length es)) refl)
   where
+    -- the base-128 digits of m before its last digit
     ds : List ℕ
     ds = digits_of 128 (m / 128)
 
+    -- the base-128 digits of n before its last digit
     es : List ℕ
     es = digits_of 128 (n / 128)
 
+    -- the shortest octets of m and n compare in number as their digits before the last do
     lengths : nat_cmp (length (shortest_base128 m)) (length (shortest_base128 n)) ≡ nat_cmp (length ds) (length es)
     lengths = ap (λ z. nat_cmp z (length (shortest_base128 n))) (length-shortest_base128 m)
         ∙ (ap (λ z. nat_cmp (1 + length ds) z) (length-shortest_base128 n) ∙ nat_cmp-add 1 (length ds) (length es))
 
+    -- the digits of m before its last have the number m / 128
     fronts : base128_number ds ≡ m / 128
     fronts = number_digits_of 128 (m / 128) (omega arith)
 
+    -- the digits of n before its last have the number n / 128
     ends : base128_number es ≡ n / 128
     ends = number_digits_of 128 (n / 128) (omega arith)
 
+    -- digits before the last, compared by their number and then one by one, compare as m / 128 and n / 128 do
     order : ordering_then (nat_cmp (length ds) (length es)) (slice_cmp nat_cmp ds es) ≡ nat_cmp (m / 128) (n / 128)
     order = ordering_then-digits ds es (sym (ap (digits_of 128) fronts)) (sym (ap (digits_of 128) ends))
         ∙ (ap (λ z. nat_cmp z (base128_number es)) fronts ∙ ap (λ z. nat_cmp (m / 128) z) ends)
 
+    -- how the last digits of m and n compare
     lows : Ordering
     lows = nat_cmp (m % 128) (n % 128)
 
+    -- m and n compare by how many digits are before the last, then by these digits, then by the last digits
     by_digits : (r : Ordering) → r ≡ nat_cmp (length ds) (length es)
         → ordering_then (ordering_then r (slice_cmp nat_cmp ds es)) lows ≡ nat_cmp m n
     by_digits r e =
         ap (λ z. ordering_then z lows) (ap (λ z. ordering_then z (slice_cmp nat_cmp ds es)) e ∙ order)
         ∙ nat_cmp-div-mod m n
 
+    -- m and n compare by how many digits are before the last, and then by their shortest octets
     by_length : (r : Ordering) → r ≡ nat_cmp (length ds) (length es)
         → MatchOrdering r (length ds < length es) (length ds ≡ length es) (length es < length ds)
         → ordering_then r (slice_cmp nat_cmp (shortest_base128 m) (shortest_base128 n)) ≡ nat_cmp m n
@@ -163,11 +177,13 @@ nat_cmp-by_octets m n xs ys a b r e f h i j =
     (slice_cmp nat_cmp (shortest_base128 m) z)) f
     ∙ nat_cmp-shortest_base128 m n))))
 
+-- where the comparison of two numbers is `Less`, the test whether the first is below the second is true
 pub is_less_number-Less : (m n : ℕ) (r : Ordering) → r ≡ nat_cmp m n → r ≡ Less → true ≡ nat_lt m n
 is_less_number-Less m n r e h =
     let lt : m < n = ranked m n Less (sym h ∙ e) in
     grind (arith, lt)
 
+-- where the comparison of two numbers is not `Less`, the test whether the first is below the second is false
 pub is_less_number-not_Less : (m n : ℕ) (r : Ordering) → r ≡ nat_cmp m n → (r ≡ Less → ⊥) → false ≡ nat_lt m n
 is_less_number-not_Less m n r e h = elim (cases_lt m n) [
   | inl lt ↦ absurd (h (e ∙ sym (nat_cmp_is m n Less lt)))

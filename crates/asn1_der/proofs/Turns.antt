@@ -8,7 +8,8 @@ use Rattle.asn1_headers.proofs.Prefixes.{Encoding-unique}
 use Rattle.asn1_blocks.specs.Places.{HeaderFound}
 use Rattle.asn1_blocks.specs.declared.parsed.PlacedHeader.{PlacedHeader}
 use Rattle.asn1_blocks.proofs.Faults.{HeaderFault-not_encoding}
-use Rattle.asn1_blocks.proofs.ReadSteps.{slice_range-append, length-slice_range}
+use Rattle.asn1_blocks.proofs.PlacedHeaders.{length-slice_range-at_header, slice_range-at_header, starts_before_end}
+use Rattle.asn1_blocks.proofs.ReadSteps.{length-slice_range}
 use Rattle.asn1_der.specs.Der.{AreDerEncodings, IsDerEncoding, more_encodings, no_encodings}
 use Rattle.asn1_der.specs.Steps.{AreDer, AreDerUpTo, AreEnds, IsDerAlone, IsWhole}
 use Rattle.asn1_der.proofs.Encodings.{Encoding-der, IsWhole-der, IsDerEncoding-whole}
@@ -22,6 +23,7 @@ record FirstOfDer (x : List ℕ) : Type 0 where
   der : IsDerEncoding first
   more : AreDer rest
 
+-- encodings of DER, one or more, are one in front and encodings of DER behind it
 FirstOfDer-some : (x : List ℕ) (items : List (List ℕ)) → 0 < length x → AreDerEncodings x items → FirstOfDer x
 FirstOfDer-some x items some no_encodings = absurd (omega (arith, some))
 FirstOfDer-some x items some (more_encodings {first = f} {rest = r} {items = is} w d ds) =
@@ -34,43 +36,37 @@ pub record IsAhead (x : List ℕ) (e : ℕ) (i : ℕ) (h : PlacedHeader) : Type 
 
 module _ (x : List ℕ) (small : length x < 2 ^ 64) (i e : ℕ) (within : e ≤ length x) where
   module _ (h : PlacedHeader) (f : HeaderFound x i e h) where
-    before : i ≤ h.end
-    before = omega (arith, f.starts_after, f.order)
-
-    join : slice_range x i e ≡ slice_range x i h.end ++ slice_range x h.end e
-    join = slice_range-append x i h.end e before f.ends_within
-
-    size : length (slice_range x i h.end) ≡ h.end - i
-    size = length-slice_range x i h.end before (omega (arith, f.ends_within, within))
-
+    -- the octets left are as many as their end is behind the offset
     all_size : length (slice_range x i e) ≡ e - i
-    all_size = length-slice_range x i e (omega (arith, before, f.ends_within)) within
+    all_size = length-slice_range x i e (omega (arith, starts_before_end x i e h f within, f.ends_within)) within
 
+    -- where the octets left are DER, the encoding with the header is of DER, and what follows it is DER
     pub IsAhead-der : AreDer (slice_range x i e) → IsAhead x e i h
     IsAhead-der (items, ds) =
         let s = FirstOfDer-some (slice_range x i e) items
-        (omega (arith, all_size, f.starts_after, f.order, f.ends_within))
-        ds in
+        (omega (arith, all_size, f.starts_after, f.order, f.ends_within)) ds in
         let long : length s.first ≤ length x =
         omega (arith, all_size, within, ap length s.whole, length-append s.first s.rest) in
         let (c, k, n, v, g, p) = Encoding-der s.first (omega (arith, long, small)) s.der in
         let same =
         Encoding-unique (slice_range x i h.end) s.first h.class c h.constructed k h.tag n
         (slice_range x h.start h.end) v (h.start - i) g
-        (slice_range x h.end e) s.rest f.encoding p (sym join ∙ s.whole) in
+        (slice_range x h.end e) s.rest f.encoding p (sym (slice_range-at_header x i e h f within) ∙ s.whole) in
         let der : IsDerEncoding (slice_range x i h.end) = subst IsDerEncoding (sym same.octets) s.der in
         record {
           whole = IsWhole-der (slice_range x i h.end) h.class h.constructed h.tag (slice_range x h.start h.end)
               (h.start - i)
-              (omega (arith, size, small, within, f.ends_within)) f.encoding der;
+              (omega (arith, length-slice_range-at_header x i e h f within, small, within, f.ends_within))
+              f.encoding der;
           behind = subst AreDer (sym same.rest) s.more;
         }
 
+    -- where the encoding with the header is of DER, and what follows it is DER, the octets left are DER
     pub AreDer-ahead : IsAhead x e i h → AreDer (slice_range x i e)
     AreDer-ahead a =
         let (items, ds) = a.behind in (
           slice_range x i h.end ∷ items,
-          more_encodings join
+          more_encodings (slice_range-at_header x i e h f within)
               (IsDerEncoding-whole (slice_range x i h.end) h.class h.constructed h.tag (slice_range x h.start h.end)
               a.whole) ds,
         )
@@ -114,6 +110,7 @@ AreDerUpTo-opened x i e es h small within f constructed alone = (
   ),
 )
 
+-- where a primitive encoding that is right by itself is passed, the octets left are DER exactly if what follows it is
 pub AreDerUpTo-passed :
     (x : List ℕ) (i e : ℕ) (es : List ℕ) (h : PlacedHeader) → length x < 2 ^ 64 → e ≤ length x → HeaderFound x i e h →
     (h.constructed ≡ true → ⊥) →

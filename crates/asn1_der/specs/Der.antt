@@ -77,11 +77,11 @@ mutual
         → (items : List (List ℕ)) → AreDerEncodings contents items → IsInOrder items → IsDerEncoding octets
     -- another class: constructed around encodings (8.14), as explicit tags are and SEQUENCE and SET behind implicit
     -- ones
-    of_other_constructed : {octets contents : List ℕ} {class : ASN1Class} {tag : ℕ}
+    of_constructed_not_universal : {octets contents : List ℕ} {class : ASN1Class} {tag : ℕ}
         → class ≢ Universal → IsShortest octets class true tag contents
         → (items : List (List ℕ)) → AreDerEncodings contents items → IsDerEncoding octets
     -- another class, primitive: the type is not known, and any octets are right
-    of_other_primitive : {octets contents : List ℕ} {class : ASN1Class} {tag : ℕ}
+    of_primitive_not_universal : {octets contents : List ℕ} {class : ASN1Class} {tag : ℕ}
         → class ≢ Universal → IsShortest octets class false tag contents → IsDerEncoding octets
 
   -- the octets are these encodings of DER, one after another, also none

@@ -2,23 +2,15 @@
 ghost use Rattle.std.specs.Prelude.{◌≡◌};
 ghost use Rattle.asn1_der.specs.Padding.{has_padded_component as has_padded_component_is, has_padded_fraction as has_padded_fraction_is, is_padded_number as is_padded_number_is, last_octet as last_octet_is};
 
+use asn1_leaves::contents::integer::is_shortest_integer;
+
 // Where the point of a GeneralizedTime stands that has a fraction of a second.
 const POINT: usize = 14;
 
 pub fn is_padded_number(contents: &[u8]) -> bool
     ensures { result ≡ is_padded_number_is contents.now }
 {
-    match contents {
-        [] => true,
-        [_] => false,
-        [first, next, ..] => {
-            if *next < 128 {
-                *first == 0
-            } else {
-                *first == 0xFF
-            }
-        }
-    }
+    !is_shortest_integer(contents)
 }
 
 pub fn has_padded_component(contents: &[u8]) -> bool

@@ -8,8 +8,7 @@ is_shortest-requires-clause-read c =
     let h = c.args.header.now in
     let f = c.requires.found in
     IsHeaderOf-front c.args.octets.now c.args.offset h.start h.end h.class h.constructed h.tag
-    (omega (arith, f.starts_after)) f.order
-    (omega (arith, f.ends_within, c.requires.within)) f.encoding
+    (omega (arith, f.starts_after)) f.order (omega (arith, f.ends_within, c.requires.within)) f.encoding
 
 pub returns-then-is_shortest-clause-right : goal.returns-then-is_shortest-clause-right
 returns-then-is_shortest-clause-right c right =

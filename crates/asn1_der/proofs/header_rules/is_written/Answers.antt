@@ -1,9 +1,8 @@
 -- For `header_rules::is_written`: what it returns is right.
 use Rattle.std.proofs.Common.{◌≡◌, ◌-◌, ◌++◌, arith, length, length-append, refl, true}
-use Rattle.asn1_numbers.specs.Inner.Comparisons.{compared_more}
+use Rattle.asn1_numbers.specs.Inner.Comparisons.{compared_more, compared_all}
 use Rattle.asn1_numbers.specs.declared.sink.Comparison.{Comparison}
 use Rattle.asn1_headers.specs.Header.{shortest_identifier, shortest_length}
-use Rattle.asn1_numbers.specs.Inner.Comparisons.{compared_all}
 use Rattle.asn1_der.proofs.header_rules.is_written.Goals as goal
 
 pub returns : goal.returns

@@ -17,8 +17,7 @@ loop-encoding-preserved c items all whole =
     EncodingAt-append rest part after found (c.split_at.ensures.back ∙ ap (λ m. drop m rest) c.min.ensures) in
     let left = c.loop-encoding.invariant items all whole in
     let may =
-    (c.may_follow.ensures (All-behind order items before rest part left found.encoding)).0
-    c.if-not-may_follow.false in
+    (c.may_follow.ensures (All-behind order items before rest part left found.encoding)).0 c.if-not-may_follow.false in
     IsLeft-next order items before rest part after left found.encoding split may
 
 pub returns-then-not-may_follow : goal.returns-then-not-may_follow

@@ -13,8 +13,7 @@ returns-in-Some c identifier front =
     let (some, within, number, (other, bit, found)) = c.in-Some.ensures.found in
     let same =
     IsIdentifier-unique (take size octets) identifier (drop size octets) front.rest other class bit constructed number
-    front.tag found is
-    (take-append-drop size octets ∙ front.whole)
+    front.tag found is (take-append-drop size octets ∙ front.whole)
     in
     c.split_at.ensures.front ∙ same.octets
 
