@@ -25,9 +25,11 @@ Found-unique Asked rule f g (kept a) (broken b) = absurd (b a)
 Found-unique Asked rule f g (broken a) (kept b) = absurd (a b)
 Found-unique Asked rule f g (broken a) (broken b) = refl
 
+-- the rule that length octets are found to break has one answer
 LengthFound-unique : (len : List ℕ) (n : ℕ) (f g : Option Rule) → LengthFound len n f → LengthFound len n g → f ≡ g
 LengthFound-unique len n f g p q = by_form (is_indefinite len) p q
   where
+    -- two rules found for length octets are equal, whether the octets are of the indefinite form or not
     by_form :
         (b : Bool) →
         MatchBool b (f ≡ Some IndefiniteLength) (Found (len ≡ shortest_length n) LongLength f) →
@@ -35,6 +37,7 @@ LengthFound-unique len n f g p q = by_form (is_indefinite len) p q
     by_form true p q = p ∙ sym q
     by_form false p q = Found-unique (len ≡ shortest_length n) LongLength f g p q
 
+-- the rule that the tag, the form or the contents octets are found to break has one answer
 TypeFound-unique :
     (b : Bool) (c : ASN1Class) (k : Bool) (n : ℕ) (v : List ℕ) (f g : Option Rule) → TypeFound b c k n v f →
     TypeFound b c k n v g → f ≡ g
@@ -115,19 +118,13 @@ module _ (u o : ℕ) (found : List Departure) where
   Lists-next x first rest m (encoding_listed {first = f} {rest = q} {inside = inside} {later = later} n r i ls all) =
       let e : first ++ rest ≡ f ++ q = sym m.whole ∙ n.whole in
       let same = Encoding-unique first f m.class n.class m.constructed n.constructed m.tag n.tag m.contents n.contents
-      m.header n.header rest q
-      m.encoding n.encoding e in
+      m.header n.header rest q m.encoding n.encoding e in
       let id = identifier-same_encoding first f m.class n.class m.constructed n.constructed m.tag n.tag m.contents
-      n.contents
-      m.header n.header
-      m.encoding n.encoding same.octets in
+      n.contents m.header n.header m.encoding n.encoding same.octets in
       let len = len-same_encoding first f m.class n.class m.constructed n.constructed m.tag n.tag m.contents n.contents
-      m.header n.header rest q
-      m.encoding n.encoding e in
+      m.header n.header rest q m.encoding n.encoding e in
       ListsFrom-same_fields m.encoding.identifier n.encoding.identifier m.encoding.len n.encoding.len m.class n.class
-      m.constructed
-      n.constructed m.tag n.tag
-      m.contents n.contents m.header n.header (length first) (length f) rest q
+      m.constructed n.constructed m.tag n.tag m.contents n.contents m.header n.header (length first) (length f) rest q
       id len same.class same.constructed same.tag same.contents same.header (ap length same.octets) same.rest
       (record { own = r; inside = inside; later = later; inside_is = i; later_is = ls; all = all })
   Lists-next x first rest m (end_listed more e ls) =
@@ -189,6 +186,7 @@ mutual
   Lists-unique u o x xs ys (end_listed {fewer = fewer} {rest = rest} more e ls) l =
       Lists-unique fewer (o + 2) rest xs ys ls (Lists-end_of_contents u o ys x rest fewer more e l)
 
+  -- an encoding has at most one list of departures inside it
   ListsInside-unique :
       (o s : ℕ) (b : Bool) (v : List ℕ) (xs ys : List Departure) → ListsInside o s b v xs → ListsInside o s b v ys →
       xs ≡ ys
@@ -237,6 +235,7 @@ AreEncodings-no_fault x place e small some a (inl f) = omega (arith, some, ap le
 AreEncodings-no_fault x place e small some a (inr f) =
     AreEncodings-no_fault_behind 0 0 place x e (omega (arith, small)) a f
 
+-- in octets that are DER no header is at fault
 pub IsDer-no_fault : (x : List ℕ) (place : ℕ) (e : DecodeFault) → length x < 2 ^ 64 → IsDer x →
     NoEncodingsFault x place e → ⊥
 IsDer-no_fault x place e small d f =
@@ -251,12 +250,9 @@ HeaderFaultBehind-same_next :
 HeaderFaultBehind-same_next u o q x first rest e n f r m h =
     let w : first ++ rest ≡ f ++ r = sym n.whole ∙ m.whole in
     let same = Encoding-unique first f n.class m.class n.constructed m.constructed n.tag m.tag n.contents m.contents
-    n.header m.header rest r
-    n.encoding m.encoding w in
+    n.header m.header rest r n.encoding m.encoding w in
     let len = len-same_encoding first f n.class m.class n.constructed m.constructed n.tag m.tag n.contents m.contents
-    n.header
-    m.header rest r
-    n.encoding m.encoding w in
+    n.header m.header rest r n.encoding m.encoding w in
     subst (λ z. HeaderFaultBehind (unended_behind u n.constructed n.encoding.len) (o + length z) rest q e)
     (sym same.octets)
     (subst (λ z. HeaderFaultBehind (unended_behind u n.constructed n.encoding.len) (o + length f) z q e) (sym same.rest)
@@ -274,17 +270,20 @@ IsNext-not_nil u x first rest n none =
       length-append first rest,
     )
 
+-- where the header in front is at fault, no encoding stands in front
 HeaderFault-not_next : (u o : ℕ) (x first rest : List ℕ) (e : DecodeFault) → o + length x < 2 ^ 64 → HeaderFault o x e →
     IsNext u x first rest → ⊥
 HeaderFault-not_next u o x first rest e small f n =
     HeaderFault-not_encoding o x first rest e n.class n.constructed n.tag n.contents n.header f small n.whole n.encoding
 
+-- octets whose header in front is at fault do not begin with end-of-contents octets
 HeaderFault-not_end_of_contents : (o : ℕ) (x rest : List ℕ) (e : DecodeFault) → o + length x < 2 ^ 64 →
     HeaderFault o x e →
     x ≡ 0 ∷ 0 ∷ rest → ⊥
 HeaderFault-not_end_of_contents o x rest e small f w =
     HeaderFault-not_encoding o x (0 ∷ 0 ∷ []) rest e Universal false 0 [] 2 f small w Encoding-end_of_contents
 
+-- while an encoding is open, octets with an encoding in front do not begin with end-of-contents octets
 IsNext-not_end_of_contents : (u fewer : ℕ) (x first rest later : List ℕ) → IsNext u x first rest → u ≡ fewer + 1 →
     x ≡ 0 ∷ 0 ∷ later →
     ⊥
@@ -346,6 +345,7 @@ HeaderFaultBehind-not_nil none (unended_at_end some e) = omega (arith, some)
 HeaderFaultBehind-not_nil {x = x} none (behind {first = first} {rest = rest} n f) = IsNext-not_nil 0 x first rest n none
 HeaderFaultBehind-not_nil none (behind_end_of_contents more w f) = omega (arith, ap length w, ap length none)
 
+-- at most one fault, at one offset, makes octets no encodings one after another
 pub NoEncodingsFault-unique :
     (x : List ℕ) (p q : ℕ) (e d : DecodeFault) → length x < 2 ^ 64 → NoEncodingsFault x p e → NoEncodingsFault x q d →
     (p ≡ q) × (e ≡ d)

@@ -1,7 +1,7 @@
 -- What encodings one after another begin with, an encoding or end-of-contents octets, for `encodings`, `listing` and
 -- `laws::law_departures`.
 use Rattle.std.proofs.Common.{◌≡◌, ℕ, ◌+◌, ◌-◌, ◌<◌, ◌≤◌, ◌^◌, Bool, true, false, List, [], ◌∷◌, ◌++◌, drop, inl, inr, length, refl, sym, ap, ◌∙◌, subst, arith, append_assoc, length-append}
-use Rattle.std.proofs.lemmas.Bool.{cases_lt, cond_below}
+use Rattle.std.proofs.lemmas.Bool.{and_parts, cases_lt, cond_below}
 use Rattle.std.specs.Prelude.{◌&&◌, nat_lt, suc, if◌then◌else◌}
 use Rattle.std.specs.Int.Digits.{digits_of}
 use Rattle.std.proofs.lemmas.Int.Digits.{length-digits_of_step}
@@ -34,8 +34,7 @@ len-same_encoding xs ys c d j k m n v w g h r q F G e =
     ap (λ z. z ++ q) G.whole
     ∙ (append_assoc G.identifier (G.len ++ w) q ∙ ap (λ z. G.identifier ++ z) (append_assoc G.len w q)) in
     let i = IsIdentifier-unique F.identifier G.identifier (F.len ++ (v ++ r)) (G.len ++ (w ++ q)) c d j k m n
-    F.identifier_octets G.identifier_octets
-    (sym one ∙ (e ∙ two)) in
+    F.identifier_octets G.identifier_octets (sym one ∙ (e ∙ two)) in
     (IsLength-unique F.len G.len (v ++ r) (w ++ q) (length v) (length w) F.length_octets G.length_octets i.rest).octets
 
 -- end-of-contents octets are an encoding
@@ -72,12 +71,9 @@ AreEncodings-behind_next u x first rest n (no_more z e) =
 AreEncodings-behind_next u x first rest n (next {first = f} {rest = r} m a) =
     let e : first ++ rest ≡ f ++ r = sym n.whole ∙ m.whole in
     let same = Encoding-unique first f n.class m.class n.constructed m.constructed n.tag m.tag n.contents m.contents
-    n.header m.header rest r
-    n.encoding m.encoding e in
+    n.header m.header rest r n.encoding m.encoding e in
     let len = len-same_encoding first f n.class m.class n.constructed m.constructed n.tag m.tag n.contents m.contents
-    n.header
-    m.header rest r
-    n.encoding m.encoding e in
+    n.header m.header rest r n.encoding m.encoding e in
     subst (λ z. AreEncodings (unended_behind u n.constructed n.encoding.len) z) (sym same.rest)
     (subst (λ z. AreEncodings (unended_behind u n.constructed z) r) (sym len)
     (subst (λ z. AreEncodings (unended_behind u z m.encoding.len) r) (sym same.constructed) a))
@@ -85,6 +81,7 @@ AreEncodings-behind_next u x first rest n (end_of_contents {fewer = f} more z a)
     absurd (n.no_end (omega (arith, more))
     (Encoding-is_end_of_contents x first rest _ n.class n.constructed n.tag n.contents n.header n.encoding n.whole z))
 
+-- where end-of-contents octets close an encoding, there are encodings behind them, with one open encoding fewer
 pub AreEncodings-behind_end :
     (u fewer : ℕ) (x rest : List ℕ) → u ≡ fewer + 1 → x ≡ 0 ∷ 0 ∷ rest → AreEncodings u x → AreEncodings fewer rest
 AreEncodings-behind_end u fewer x rest more e (no_more z none) = absurd (omega (arith, more, z))
@@ -154,13 +151,11 @@ AreDerEncodings-are_encodings x items small (more_encodings {first = f} {rest = 
     (sym (unended_behind-definite 0 s.found.constructed s.found.encoding.len definite))
     (AreDerEncodings-are_encodings r is (omega (arith, small, size)) ds))
 
+-- where end-of-contents octets close an encoding, an encoding is open, and the octets begin with them
 pub is_at_end-parts : (u : ℕ) (x : List ℕ) → is_at_end u x ≡ true → (0 < u) × (begins_with_end x ≡ true)
-is_at_end-parts u x t = (grind (arith, t), second (nat_lt 0 u) (begins_with_end x) t)
-  where
-    second : (a b : Bool) → (a && b) ≡ true → b ≡ true
-    second true b t = t
-    second false b t = absurd cc
+is_at_end-parts u x t = (grind (arith, t), (and_parts (nat_lt 0 u) (begins_with_end x) t).1)
 
+-- where an encoding is open but none is closed in front, the octets do not begin with end-of-contents octets
 pub begins_with_end-not_at_end : (u : ℕ) (x : List ℕ) → is_at_end u x ≡ false → 0 < u → begins_with_end x ≡ false
 begins_with_end-not_at_end u x t some =
     let yes : nat_lt 0 u ≡ true = grind (arith, some) in
@@ -175,6 +170,7 @@ is_at_end-none_in_front u x first rest w t some is =
     let no : begins_with_end x ≡ false = begins_with_end-not_at_end u x t some in
     absurd cc
 
+-- where end-of-contents octets close an encoding, the octets are encodings exactly if the ones behind these two are
 pub IsStep-end : (u : ℕ) (x behind : List ℕ) → is_at_end u x ≡ true → behind ≡ drop 2 x → IsStep u x (u - 1) behind
 IsStep-end u x behind t is =
     let (some, front) = is_at_end-parts u x t in
@@ -188,10 +184,13 @@ IsStep-end u x behind t is =
       room = omega (arith, ap length whole);
     }
 
+-- behind an encoding at most one encoding more is open than before it
 pub unended-le : (o : Bool) (u v : ℕ) → v ≡ (if o then suc u else u) → v ≤ u + 1
 unended-le true u v e = omega (arith, e)
 unended-le false u v e = omega (arith, e)
 
+-- where an encoding stands in front, and no end-of-contents octets that close one, the octets are encodings exactly if
+-- the ones behind it are
 pub IsStep-next :
     (u v : ℕ) (x part behind : List ℕ) (e : IsEncoding part) (o : Bool) → x ≡ part ++ behind → is_at_end u x ≡ false →
     o ≡ is_open e.constructed e.encoding.len → v ≡ (if o then suc u else u) → IsStep u x v behind
@@ -217,6 +216,7 @@ IsStep-next u v x part behind e o w t is count =
       room = omega (arith, some, ap length w, length-append part behind, unended-le o u v count);
     }
 
+-- octets, one or more, with no encoding in front and no end-of-contents octets that close one are no encodings
 pub AreEncodings-some_here :
     (u : ℕ) (x : List ℕ) → HasNoEncodingAt x 0 → is_at_end u x ≡ false → 0 < length x → AreEncodings u x → ⊥
 AreEncodings-some_here u x none t some a =
@@ -236,5 +236,4 @@ AreEncodings-some_here u x none t some a =
     (λ fewer rest more e.
     let yes : begins_with_end x ≡ true = ap begins_with_end e in
     let no : begins_with_end x ≡ false = begins_with_end-not_at_end u x t (omega (arith, more)) in
-    absurd cc)
-    a
+    absurd cc) a

@@ -26,33 +26,40 @@ nil_from_append-second : (xs ys : List Departure) → xs ++ ys ≡ [] → ys ≡
 nil_from_append-second [] ys e = e
 nil_from_append-second (x ∷ xs) ys e = absurd cc
 
+-- where no departure is listed for a rule that may be broken, none is broken
 listed-nil : (o : ℕ) (r : Option Rule) → listed o r ≡ [] → r ≡ None
 listed-nil o None e = refl
 listed-nil o (Some rule) e = absurd cc
 
+-- what a rule asks holds if the rule is not found to be broken
 Found-none_asked : (Asked : Type 0) (rule : Rule) (found : Option Rule) → Found Asked rule found → found ≡ None → Asked
 Found-none_asked Asked rule found (kept a) e = a
 Found-none_asked Asked rule found (broken b) e = absurd cc
 
+-- a rule is not found to be broken if what it asks holds
 Found-asked_none : (Asked : Type 0) (rule : Rule) (found : Option Rule) → Found Asked rule found → Asked → found ≡ None
 Found-asked_none Asked rule found (kept a) e = refl
 Found-asked_none Asked rule found (broken b) e = absurd (b e)
 
+-- length octets that are found to break no rule are of the definite form, and what is found of that form holds
 LengthFound-definite : (b : Bool) (found : Option Rule) (P : Type 0) → MatchBool b (found ≡ Some IndefiniteLength) P →
     found ≡ None → (b ≡ false) × P
 LengthFound-definite true found P h e = absurd cc
 LengthFound-definite false found P h e = (refl, h)
 
-MatchBool-false : (b : Bool) (found : Option Rule) (P : Type 0) → b ≡ false →
+-- where length octets are not of the indefinite form, what is found of the definite form holds
+MatchBool-false_case : (b : Bool) (found : Option Rule) (P : Type 0) → b ≡ false →
     MatchBool b (found ≡ Some IndefiniteLength) P →
     P
-MatchBool-false true found P e h = absurd cc
-MatchBool-false false found P e h = h
+MatchBool-false_case true found P e h = absurd cc
+MatchBool-false_case false found P e h = h
 
+-- an encoding of the definite form is looked into exactly if it is constructed
 is_looked_into-definite : (k : Bool) (len : List ℕ) → is_indefinite len ≡ false → is_looked_into k len ≡ k
 is_looked_into-definite true len e = ap not e
 is_looked_into-definite false len e = refl
 
+-- an encoding of the definite form is right by itself if its tag, form and contents octets are found to break no rule
 TypeFound-none_right : (c : ASN1Class) (k : Bool) (n : ℕ) (v : List ℕ) (found : Option Rule) →
     TypeFound false c k n v found →
     found ≡ None → IsRightAlone c k n v
@@ -62,6 +69,7 @@ TypeFound-none_right Application k n v found h e = tt
 TypeFound-none_right ContextSpecific k n v found h e = tt
 TypeFound-none_right Private k n v found h e = tt
 
+-- an encoding of the definite form that is right by itself breaks no rule by its tag, form or contents octets
 TypeFound-right_none : (c : ASN1Class) (k : Bool) (n : ℕ) (v : List ℕ) (found : Option Rule) →
     TypeFound false c k n v found →
     IsRightAlone c k n v → found ≡ None
@@ -76,6 +84,7 @@ record IsAlone (x id len : List ℕ) (c : ASN1Class) (k : Bool) (n : ℕ) (v : L
   definite : is_indefinite len ≡ false
   alone : IsDerAlone x c k n v
 
+-- an encoding with no departures of its own is of the definite form and breaks no rule by itself
 IsAlone-no_departures :
     (o : ℕ) (x id len : List ℕ) (c : ASN1Class) (k : Bool) (n : ℕ) (v : List ℕ) (r : OwnRules id len c k n v) →
     x ≡ id ++ (len ++ v) → own_departures o r ≡ [] → IsAlone x id len c k n v
@@ -83,15 +92,12 @@ IsAlone-no_departures o x id len c k n v r w e =
     let id_none = listed-nil o r.of_identifier
     (nil_from_append-first (listed o r.of_identifier) (listed o r.of_length ++ listed o r.of_type) e) in
     let more = nil_from_append-second (listed o r.of_identifier) (listed o r.of_length ++ listed o r.of_type) e in
-    let len_none = listed-nil o r.of_length
-    (nil_from_append-first (listed o r.of_length) (listed o r.of_type) more) in
-    let type_none = listed-nil o r.of_type
-    (nil_from_append-second (listed o r.of_length) (listed o r.of_type) more) in
+    let len_none = listed-nil o r.of_length (nil_from_append-first (listed o r.of_length) (listed o r.of_type) more) in
+    let type_none = listed-nil o r.of_type (nil_from_append-second (listed o r.of_length) (listed o r.of_type) more) in
     let i = Found-none_asked (id ≡ shortest_identifier c k n) (identifier_rule n) r.of_identifier r.identifier_found
     id_none in
     let l = LengthFound-definite (is_indefinite len) r.of_length
-    (Found (len ≡ shortest_length (length v)) LongLength r.of_length)
-    r.length_found len_none in
+    (Found (len ≡ shortest_length (length v)) LongLength r.of_length) r.length_found len_none in
     let s = Found-none_asked (len ≡ shortest_length (length v)) LongLength r.of_length l.1 len_none in
     let t = TypeFound-none_right c k n v r.of_type (subst (λ z. TypeFound z c k n v r.of_type) l.0 r.type_found)
     type_none in
@@ -117,9 +123,7 @@ mutual
       let all : own ++ (inside ++ later) ≡ [] = sym f ∙ none in
       let more = nil_from_append-second own (inside ++ later) all in
       let a = IsAlone-no_departures o first n.encoding.identifier n.encoding.len n.class n.constructed n.tag n.contents
-      r
-      n.encoding.whole
-      (nil_from_append-first own (inside ++ later) all) in
+      r n.encoding.whole (nil_from_append-first own (inside ++ later) all) in
       let size : length x ≡ length first + length rest = ap length n.whole ∙ length-append first rest in
       let part : length first ≡ length n.encoding.identifier + (length n.encoding.len + length n.contents) =
       omega (
@@ -129,8 +133,7 @@ mutual
         length-append n.encoding.len n.contents,
       ) in
       let (items, ds) = AreDer-none_listed (unended_behind u n.constructed n.encoding.len) (o + length first) rest later
-      ls
-      (unended_behind-definite u n.constructed n.encoding.len a.definite ∙ zero) (omega (arith, small, size))
+      ls (unended_behind-definite u n.constructed n.encoding.len a.definite ∙ zero) (omega (arith, small, size))
       (nil_from_append-second inside later more) in
       let d : IsDerEncoding first = IsDerEncoding-whole first n.class n.constructed n.tag n.contents (record {
         alone = a.alone;
@@ -142,6 +145,7 @@ mutual
       (first ∷ items, more_encodings n.whole d ds)
   AreDer-none_listed u o x found (end_listed more e ls) zero small none = absurd (omega (arith, more, zero))
 
+  -- where no departures are listed inside a constructed encoding of the definite form, its contents octets are DER
   AreDer-none_inside :
       (o s : ℕ) (b : Bool) (v : List ℕ) (found : List Departure) → ListsInside o s b v found → (k : Bool) → b ≡ k →
       length v < 2 ^ 64 → found ≡ [] → k ≡ true → AreDer v
@@ -155,6 +159,7 @@ record HasShortest (id len : List ℕ) (c : ASN1Class) (k : Bool) (n : ℕ) (siz
   identifier : id ≡ shortest_identifier c k n
   len_is : len ≡ shortest_length size
 
+-- where an encoding is of the shortest form, its identifier octets and its length octets are the shortest
 HasShortest-encoding :
     (x : List ℕ) (c : ASN1Class) (k : Bool) (n : ℕ) (v : List ℕ) (h : ℕ) (e : Encoding x c k n v h) →
     length x < 2 ^ 64 →
@@ -165,17 +170,18 @@ HasShortest-encoding x c k n v h e small s =
     let size : length v < 2 ^ 64 =
     omega (arith, small, ap length s.whole, length-append i (l ++ v), length-append l v) in
     let a = IsIdentifier-unique e.identifier i (e.len ++ v) (l ++ v) c c k k n n e.identifier_octets
-    (IsIdentifier-shortest c k n)
-    (sym e.whole ∙ s.whole) in
+    (IsIdentifier-shortest c k n) (sym e.whole ∙ s.whole) in
     let b =
     IsLength-unique e.len l v v (length v) (length v) e.length_octets (IsLength-shortest (length v) size) a.rest in
     record { identifier = a.octets; len_is = b.octets }
 
+-- of octets that are DER, the encoding in front is DER, and the octets behind it are DER
 AreDer-next : (x first rest : List ℕ) (n : IsNext 0 x first rest) → length x < 2 ^ 64 → AreDer x →
     IsDerInFront first rest
 AreDer-next x first rest n small d =
     AreDer-first x first rest n.class n.constructed n.tag n.contents n.header n.encoding n.whole small d
 
+-- an encoding of shortest identifier and length octets that is right by itself has no departures of its own
 own_departures-right_alone :
     (o : ℕ) (id len : List ℕ) (c : ASN1Class) (k : Bool) (n : ℕ) (v : List ℕ) (r : OwnRules id len c k n v) →
     id ≡ shortest_identifier c k n → len ≡ shortest_length (length v) → IsRightAlone c k n v → own_departures o r ≡ []
@@ -184,7 +190,8 @@ own_departures-right_alone o id len c k n v r i l t =
     let a : r.of_identifier ≡ None =
     Found-asked_none (id ≡ shortest_identifier c k n) (identifier_rule n) r.of_identifier r.identifier_found i in
     let b : r.of_length ≡ None = Found-asked_none (len ≡ shortest_length (length v)) LongLength r.of_length
-    (MatchBool-false (is_indefinite len) r.of_length (Found (len ≡ shortest_length (length v)) LongLength r.of_length)
+    (MatchBool-false_case (is_indefinite len) r.of_length
+    (Found (len ≡ shortest_length (length v)) LongLength r.of_length)
     definite r.length_found) l in
     let d : r.of_type ≡ None =
     TypeFound-right_none c k n v r.of_type (subst (λ z. TypeFound z c k n v r.of_type) definite r.type_found) t in
@@ -216,8 +223,7 @@ mutual
       ap is_indefinite short.len_is ∙ is_indefinite-shortest_length (length n.contents) in
       let own : own_departures o r ≡ [] =
       own_departures-right_alone o n.encoding.identifier n.encoding.len n.class n.constructed n.tag n.contents r
-      short.identifier
-      short.len_is w.alone.1 in
+      short.identifier short.len_is w.alone.1 in
       let within : inside ≡ [] =
       ListsInside-der o (o + n.header) (is_looked_into n.constructed n.encoding.len) n.contents inside i n.constructed
       (is_looked_into-definite n.constructed n.encoding.len definite) (omega (arith, small, size, part)) w.items in
@@ -227,6 +233,7 @@ mutual
       f ∙ (ap (λ z. z ++ (inside ++ later)) own ∙ (ap (λ z. z ++ later) within ∙ behind))
   Lists-der u o x found (end_listed more e ls) zero small d = absurd (omega (arith, more, zero))
 
+  -- no departures are listed inside an encoding of the definite form whose contents octets are DER if it is constructed
   ListsInside-der :
       (o s : ℕ) (b : Bool) (v : List ℕ) (found : List Departure) → ListsInside o s b v found → (k : Bool) → b ≡ k →
       length v < 2 ^ 64 → (k ≡ true → AreDer v) → found ≡ []

@@ -9,6 +9,7 @@ use Rattle.asn1_headers.proofs.IndefiniteForms.{begins_with_end-cons}
 use Rattle.asn1_headers.specs.Header.{Encoding, IsLength}
 use Rattle.asn1_blocks.specs.Places.{HeaderFound}
 use Rattle.asn1_blocks.specs.declared.parsed.PlacedHeader.{PlacedHeader}
+use Rattle.asn1_blocks.proofs.PlacedHeaders.{length-slice_range-at_header, slice_range-at_header, starts_before_end}
 use Rattle.asn1_blocks.proofs.ReadSteps.{slice_range-append, length-slice_range}
 use Rattle.asn1_departures.specs.Departures.{HeaderFaultBehind, IsNext, Lists, behind, behind_end_of_contents, ListsInside, OwnRules, encoding_listed, encodings_inside, end_listed, is_looked_into, is_open, none_left, own_departures, unended_behind}
 use Rattle.asn1_departures.specs.Steps.{AreExtents, IsParted, ListsUpTo, is_at_end, rest_of}
@@ -23,15 +24,6 @@ AreExtents-le i [] n h = omega (arith, h)
 AreExtents-le i (e ∷ es) n h = omega (arith, h.order, AreExtents-le e.end es n h.around)
 
 module _ (x : List ℕ) (i e : ℕ) (h : PlacedHeader) (f : HeaderFound x i e h) (within : e ≤ length x) where
-  starts_before_end : i ≤ h.end
-  starts_before_end = omega (arith, f.starts_after, f.order)
-
-  pub slice_range-at_header : slice_range x i e ≡ slice_range x i h.end ++ slice_range x h.end e
-  slice_range-at_header = slice_range-append x i h.end e starts_before_end f.ends_within
-
-  pub length-slice_range-at_header : length (slice_range x i h.end) ≡ h.end - i
-  length-slice_range-at_header = length-slice_range x i h.end starts_before_end (omega (arith, f.ends_within, within))
-
   module _ (id len : List ℕ)
       (p : IsParted (slice_range x i h.start) id len h.class h.constructed h.tag (h.end - h.start)) where
     -- the octets from a header to the end of its contents octets are an encoding
@@ -55,6 +47,7 @@ module _ (x : List ℕ) (i e : ℕ) (h : PlacedHeader) (f : HeaderFound x i e h)
         }
 
     module _ (u : ℕ) (no_end : is_at_end u (slice_range x i e) ≡ false) where
+      -- where no end-of-contents octets close an encoding, the encoding of a header stands before what follows it
       pub IsNext-at_header : IsNext u (slice_range x i e) (slice_range x i h.end) (slice_range x h.end e)
       IsNext-at_header = record {
         class = h.class;
@@ -63,9 +56,9 @@ module _ (x : List ℕ) (i e : ℕ) (h : PlacedHeader) (f : HeaderFound x i e h)
         contents = slice_range x h.start h.end;
         header = h.start - i;
         encoding = Encoding-at_header;
-        whole = slice_range-at_header;
+        whole = slice_range-at_header x i e h f within;
         no_end = is_at_end-none_in_front u (slice_range x i e) (slice_range x i h.end) (slice_range x h.end e)
-            slice_range-at_header no_end;
+            (slice_range-at_header x i e h f within) no_end;
       }
 
       -- what is listed is the departures of the encoding in front, those inside it, and those behind it
@@ -79,7 +72,7 @@ module _ (x : List ℕ) (i e : ℕ) (h : PlacedHeader) (f : HeaderFound x i e h)
       Lists-at_header r inside later ins ls =
           let at : i + (h.start - i) ≡ h.start = omega (arith, f.starts_after) in
           let to : i + length (slice_range x i h.end) ≡ h.end =
-          omega (arith, length-slice_range-at_header, starts_before_end) in
+          omega (arith, length-slice_range-at_header x i e h f within, starts_before_end x i e h f within) in
           encoding_listed IsNext-at_header r
           (subst (λ z. ListsInside i z (is_looked_into h.constructed len) (slice_range x h.start h.end) inside) (sym at)
           ins)
@@ -87,8 +80,8 @@ module _ (x : List ℕ) (i e : ℕ) (h : PlacedHeader) (f : HeaderFound x i e h)
           refl
 
 -- lists one after another, in another grouping
-pub append-regrouped : (a b c d g : List Departure) → (a ++ (b ++ c)) ++ (d ++ g) ≡ a ++ ((b ++ (c ++ d)) ++ g)
-append-regrouped a b c d g =
+pub append_assoc-five : (a b c d g : List Departure) → (a ++ (b ++ c)) ++ (d ++ g) ≡ a ++ ((b ++ (c ++ d)) ++ g)
+append_assoc-five a b c d g =
     append_assoc a (b ++ c) (d ++ g)
     ∙ ap (λ z. a ++ z) (append_assoc b c (d ++ g)
     ∙ (ap (λ z. b ++ z) (sym (append_assoc c d g)) ∙ sym (append_assoc b (c ++ d) g)))
@@ -104,7 +97,7 @@ pub ListsUpTo-passed :
 ListsUpTo-passed x u i v j e es own inside found later step (a, b, la, lb, w) = (
   (own ++ (inside ++ a)) ++ b,
   (own ++ (inside ++ a), b, step a la, lb, refl),
-  ap (λ z. (found ++ (own ++ inside)) ++ z) w ∙ append-regrouped found own inside a b,
+  ap (λ z. (found ++ (own ++ inside)) ++ z) w ∙ append_assoc-five found own inside a b,
 )
 
 -- the departures inside and behind an encoding that was opened, with its own, are all that were left
@@ -140,6 +133,7 @@ slice_range-end_of_contents x i e order within front =
           (ap (drop 2) join ∙ drop_at (slice_range x i (i + 2)) (slice_range x (i + 2) e) 2 size),
     )
 
+-- the departures behind end-of-contents octets that close an encoding are all that were left
 pub ListsUpTo-ended :
     (x : List ℕ) (u i e : ℕ) (es : List Extent) (later : List Departure) → 0 < u → i ≤ e → e ≤ length x →
     begins_with_end (slice_range x i e) ≡ true → ListsUpTo x (i + 2) (record { end = e; unended = u - 1 } ∷ es) later →
@@ -170,6 +164,7 @@ IsNext-found x i e h f u t =
       no_end = is_at_end-none_in_front u (slice_range x i e) (slice_range x i h.end) (slice_range x h.end e) w t;
     }
 
+-- where no end-of-contents octets close an encoding, a fault behind the encoding found there is one from it on
 pub HeaderFaultBehind-next :
     (x : List ℕ) (i : ℕ) (h : PlacedHeader) (f : HeaderFound x i (length x) h) (u v : ℕ) (o : Bool) (place : ℕ)
     (fault : DecodeFault) →
@@ -185,14 +180,14 @@ HeaderFaultBehind-next x i h f u v o place fault t is count w =
     (subst (λ z. HeaderFaultBehind z (i + length (slice_range x i h.end)) (rest_of x h.end) place fault) open_behind
     (subst (λ z. HeaderFaultBehind v z (rest_of x h.end) place fault) to w))
 
+-- a fault behind end-of-contents octets that close an encoding is a fault from the offset of these octets on
 pub HeaderFaultBehind-end :
     (x : List ℕ) (i u place : ℕ) (fault : DecodeFault) → i < length x → is_at_end u (rest_of x i) ≡ true →
     HeaderFaultBehind (u - 1) (i + 2) (rest_of x (i + 2)) place fault → HeaderFaultBehind u i (rest_of x i) place fault
 HeaderFaultBehind-end x i u place fault more t w =
     let (some, front) = is_at_end-parts u (rest_of x i) t in
     behind_end_of_contents (omega (arith, some))
-    (slice_range-end_of_contents x i (length x) (omega (arith, more)) (omega arith) front).1
-    w
+    (slice_range-end_of_contents x i (length x) (omega (arith, more)) (omega arith) front).1 w
 
 -- the departures of the encoding that was found, and of those behind it, are all
 pub ListsUpTo-behind :
@@ -211,6 +206,7 @@ ListsUpTo-behind x i e u v es h f within id len p t r inside old new count ins p
     (subst (λ z. Lists z h.end (slice_range x h.end e) more) count ls)) up in
     (before, lists, is ∙ (ap (λ z. z ++ later) pushed ∙ same))
 
+-- the departures of an encoding that is looked into, of encodings inside it and of encodings behind it, are all
 pub ListsUpTo-inside :
     (x : List ℕ) (i e u : ℕ) (es : List Extent) (h : PlacedHeader) (f : HeaderFound x i e h) (within : e ≤ length x)
     (id len : List ℕ) (p : IsParted (slice_range x i h.start) id len h.class h.constructed h.tag (h.end - h.start))
@@ -228,22 +224,27 @@ ListsUpTo-inside x i e u es h f within id len p t r old new count looked pushed 
     (subst (λ z. Lists z h.end (slice_range x h.end e) more) count ls)) up in
     (before, lists, is ∙ (ap (λ z. z ++ later) pushed ∙ same))
 
+-- behind an encoding that is not open as many encodings are open as before it
 pub unended_behind-not_open : (u : ℕ) (k : Bool) (len : List ℕ) → is_open k len ≡ false → u ≡ unended_behind u k len
 unended_behind-not_open u k len e = sym (ap (λ b. if b then suc u else u) e)
 
+-- behind an encoding that is open one encoding more is open than before it
 pub unended_behind-open : (u : ℕ) (k : Bool) (len : List ℕ) → is_open k len ≡ true → u + 1 ≡ unended_behind u k len
 unended_behind-open u k len e =
     let more : (if is_open k len then suc u else u) ≡ suc u = ap (λ b. if b then suc u else u) e in
     omega (arith, more)
 
+-- an encoding that is open up to its end-of-contents octets is not looked into
 pub is_looked_into-open : (k : Bool) (len : List ℕ) → is_open k len ≡ true → is_looked_into k len ≡ false
 is_looked_into-open true len e = ap not e
 is_looked_into-open false len e = refl
 
+-- a primitive encoding is not looked into
 pub is_looked_into-primitive : (k : Bool) (len : List ℕ) → k ≡ false → is_looked_into k len ≡ false
 is_looked_into-primitive true len e = absurd cc
 is_looked_into-primitive false len e = refl
 
+-- a constructed encoding that is not open is looked into
 pub is_looked_into-constructed : (k : Bool) (len : List ℕ) → k ≡ true → is_open k len ≡ false →
     is_looked_into k len ≡ true
 is_looked_into-constructed true len e f = ap not f

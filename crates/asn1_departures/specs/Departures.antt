@@ -1,7 +1,6 @@
 -- Which departures from DER octets have. Encodings are those of BER (X.690 8.1.1.1): of the definite form, or of the
 -- indefinite one (8.1.3.6), whose contents octets are followed to their end-of-contents octets 00 00 (8.1.5).
-use Rattle.std.specs.Prelude.{◌≡◌, ◌≢◌, ◌&&◌, ◌⊎◌, ◌++◌, ℕ, suc, ◌+◌, ◌<◌, Bool, true, false, not, if◌then◌else◌, MatchBool}
-use Rattle.std.specs.Prelude.{Option, None, Some, List, [], ◌∷◌, length}
+use Rattle.std.specs.Prelude.{◌≡◌, ◌≢◌, ◌&&◌, ◌⊎◌, ◌++◌, ℕ, suc, ◌+◌, ◌<◌, Bool, true, false, not, if◌then◌else◌, MatchBool, Option, None, Some, List, [], ◌∷◌, length}
 use Rattle.std.specs.Option.{option_to_list}
 use Rattle.asn1_headers.specs.declared.header.ASN1Class.{ASN1Class}
 use Rattle.asn1_headers.specs.declared.header.ASN1Class.TheVariants.{Universal}

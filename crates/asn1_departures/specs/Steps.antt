@@ -14,8 +14,8 @@ use Rattle.asn1_departures.specs.declared.listing.Place.{Place}
 abbrev pub extents_of : Place → List Extent
 extents_of place = place.inner ∷ reverse place.outer.items
 
--- the extent ends at the index or behind it, and each encoding that is open in it has taken an octet at least; what has
--- to hold from its end on does
+-- the extent ends at the index or behind it, each encoding that is open in it has taken an octet at least, and what is
+-- asked of its end holds
 pub record EndsBehind (index : ℕ) (extent : Extent) (IsAround : ℕ → Type 0) : Type 0 where
   pub order : index ≤ extent.end
   pub room : extent.unended ≤ index

@@ -4,9 +4,7 @@ ghost use Rattle.asn1_headers.specs.declared.header.ASN1Class.TheVariants.{Unive
 ghost use Rattle.asn1_headers.specs.Header.{shortest_identifier, shortest_length};
 ghost use Rattle.asn1_der.specs.Der.{IsRightAlone};
 ghost use Rattle.asn1_departures.specs.Departures.{Found, LengthFound, OwnRules, TypeFound, listed, own_departures};
-ghost use Rattle.asn1_departures.specs.Rules.{bits_rule as bits_rule_is, contents_rule as contents_rule_is};
-ghost use Rattle.asn1_departures.specs.Rules.{form_rule as form_rule_is, identifier_rule, is_string as is_string_is};
-ghost use Rattle.asn1_departures.specs.Rules.{real_rule as real_rule_is, type_rule as type_rule_is};
+ghost use Rattle.asn1_departures.specs.Rules.{bits_rule as bits_rule_is, contents_rule as contents_rule_is, form_rule as form_rule_is, identifier_rule, is_string as is_string_is, real_rule as real_rule_is, type_rule as type_rule_is};
 
 use crate::rule::{Departure, Rule};
 use asn1_blocks::parsed::PlacedHeader;

@@ -2,8 +2,7 @@
 ghost use Rattle.std.specs.Prelude.{◌≡◌, ◌++◌, ◌+◌, ◌≤◌, IfOk, OnOk, length, slice_range};
 ghost use Rattle.std.specs.Option.{option_to_list};
 ghost use Rattle.asn1_headers.specs.Front.{IsAtFront};
-ghost use Rattle.asn1_departures.specs.Departures.{AreBroken, AreEncodings, Found, ItemsFound};
-ghost use Rattle.asn1_departures.specs.Departures.{is_looked_into as is_looked_into_is};
+ghost use Rattle.asn1_departures.specs.Departures.{AreBroken, AreEncodings, Found, ItemsFound, is_looked_into as is_looked_into_is};
 ghost use Rattle.asn1_departures.specs.declared.rule.Rule.TheVariants.{NotEncodings};
 
 use crate::encodings::are_encodings;

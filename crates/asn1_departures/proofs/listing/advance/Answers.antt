@@ -18,8 +18,7 @@ split_header-requires-clause-read c =
     let p = c.requires.placed in
     let within = AreExtents-le w.inner.end (reverse w.outer.items) (length c.args.octets.now) p.around in
     IsHeaderOf-front c.args.octets.now w.index h.start h.end h.class h.constructed h.tag (omega (arith, f.starts_after))
-    f.order
-    (omega (arith, f.ends_within, within)) f.encoding
+    f.order (omega (arith, f.ends_within, within)) f.encoding
 
 pub returns-then-is_open : goal.returns-then-is_open
 returns-then-is_open c =
@@ -41,8 +40,7 @@ returns-then-is_open c =
         around = p.around;
       };
       all = ListsUpTo-behind x w.index w.inner.end w.inner.unended _ es h f within _ len c.split_header.ensures
-          c.requires.no_end r []
-          c.args.found.now.items _ (unended_behind-open w.inner.unended h.constructed len is)
+          c.requires.no_end r [] c.args.found.now.items _ (unended_behind-open w.inner.unended h.constructed len is)
           (nothing_inside (is_looked_into-open h.constructed len is) refl)
           (pushed ∙ ap (λ z. c.args.found.now.items ++ z) (sym (append-nil own)));
       fewer = omega (arith, f.starts_after, f.order, f.ends_within, within);
@@ -102,9 +100,7 @@ returns-then-are_encodings c =
       };
       all = λ all (later, up, e).
           ListsUpTo-inside x w.index w.inner.end w.inner.unended es h f within _ len c.split_header.ensures
-          c.requires.no_end
-          r
-          c.args.found.now.items _ (unended_behind-not_open w.inner.unended h.constructed len is)
+          c.requires.no_end r c.args.found.now.items _ (unended_behind-not_open w.inner.unended h.constructed len is)
           (is_looked_into-constructed h.constructed len c.if-not-header.false is) pushed all
           (later, subst (λ z. ListsUpTo x h.start (record { end = h.end; unended = 0 } ∷ z) later) round up, e);
       fewer = omega (
@@ -140,8 +136,7 @@ returns c =
         around = p.around;
       };
       all = ListsUpTo-behind x w.index w.inner.end w.inner.unended w.inner.unended es h f within _ len
-          c.split_header.ensures
-          c.requires.no_end r none c.args.found.now.items _
+          c.split_header.ensures c.requires.no_end r none c.args.found.now.items _
           (unended_behind-not_open w.inner.unended h.constructed len is)
           (no_encodings_inside looked
           (λ a. let t : c.are_encodings.result ≡ true = c.are_encodings.ensures.1 a in

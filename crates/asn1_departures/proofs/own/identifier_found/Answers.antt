@@ -7,6 +7,7 @@ use Rattle.asn1_departures.specs.declared.rule.Rule.{Rule}
 use Rattle.asn1_departures.specs.declared.rule.Rule.TheVariants.{LongIdentifier, PaddedTag}
 use Rattle.asn1_departures.proofs.own.identifier_found.Goals as goal
 
+-- a rule equal to the one asked about is found to be broken where what is asked does not hold
 Found-same_rule : (Asked : Type 0) (rule found : Rule) → rule ≡ found → (Asked → ⊥) → Found Asked rule (Some found)
 Found-same_rule Asked rule found e never = subst (λ z. Found Asked rule (Some z)) e (broken never)
 

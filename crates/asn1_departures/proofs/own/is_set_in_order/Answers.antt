@@ -37,6 +37,4 @@ pub returns : goal.returns
 returns c =
     let small : length c.args.contents.now < 2 ^ 64 = omega arith in
     IsRightAlone-set_out_of_order c.in_ok-is_der.field-0 c.is_in_order.result c.args.contents.now small
-    c.in_ok-is_der.ensures
-    c.is_in_order.ensures
-    c.if-is_in_order.false
+    c.in_ok-is_der.ensures c.is_in_order.ensures c.if-is_in_order.false

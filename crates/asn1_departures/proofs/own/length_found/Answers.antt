@@ -7,6 +7,7 @@ use Rattle.asn1_departures.specs.declared.rule.Rule.{Rule}
 use Rattle.asn1_departures.specs.declared.rule.Rule.TheVariants.{IndefiniteLength, LongLength}
 use Rattle.asn1_departures.proofs.own.length_found.Goals as goal
 
+-- what is found of the definite form is enough where length octets are not of the indefinite form
 MatchBool-false : (b : Bool) (found : Option Rule) (P : Type 0) → b ≡ false → P →
     MatchBool b (found ≡ Some IndefiniteLength) P
 MatchBool-false true found P e p = absurd cc

@@ -10,18 +10,22 @@ use Rattle.asn1_departures.specs.Rules.{contents_rule, form_rule, is_string}
 use Rattle.asn1_departures.specs.declared.rule.Rule.TheVariants.{ConstructedString, NotConstructed, NotPrimitive, Order, ReservedTag}
 use Rattle.asn1_departures.proofs.own.type_found.Goals as goal
 
+-- a number that is not below 2 ^ 64 is above 36
 large_above_36 : (n : ℕ) → (n < 2 ^ 64 → ⊥) → 36 < n
 large_above_36 n never = elim (cases_lt 36 n) [
   | inl lt ↦ lt
   | inr ge ↦ absurd (never (omega (arith, ge)))
 ]
 
+-- a tag number above 36 is reserved
 is_reserved-above_36 : (n : ℕ) → 36 < n → is_reserved n ≡ true
 is_reserved-above_36 n large = grind (arith, large)
 
+-- a tag number above 36 is of no constructed type
 is_constructed_type-above_36 : (n : ℕ) → 36 < n → is_constructed_type n ≡ false
 is_constructed_type-above_36 n large = grind (arith, large)
 
+-- primitive or constructed, an encoding of class Universal breaks the rule of reserved tags with a tag number above 36
 form_rule-above_36 : (k : Bool) (n : ℕ) → 36 < n → form_rule k n ≡ Some ReservedTag
 form_rule-above_36 true n large =
     ap (λ b. if b then Some ReservedTag else if is_constructed_type n then None
@@ -30,10 +34,12 @@ form_rule-above_36 false n large =
     ap (λ b. if b then Some ReservedTag else if is_constructed_type n then Some NotConstructed else None)
     (is_reserved-above_36 n large)
 
+-- an encoding of class Universal with a tag number above 36 is not right by itself
 IsRightAlone-not_above_36 : (k : Bool) (n : ℕ) (v : List ℕ) → 36 < n → IsRightAlone Universal k n v → ⊥
 IsRightAlone-not_above_36 true n v large (t, o) = let f = is_constructed_type-above_36 n large in absurd cc
 IsRightAlone-not_above_36 false n v large (r, t, d) = let f = is_reserved-above_36 n large in absurd cc
 
+-- of an encoding of class Universal with a tag number above 36 it is found that its tag is reserved
 TypeFound-above_36 : (b k : Bool) (n : ℕ) (v : List ℕ) → 36 < n → TypeFound b Universal k n v (Some ReservedTag)
 TypeFound-above_36 true k n v large = sym (form_rule-above_36 k n large)
 TypeFound-above_36 false k n v large =

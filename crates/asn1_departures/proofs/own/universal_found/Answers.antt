@@ -6,6 +6,7 @@ use Rattle.asn1_der.specs.Der.{IsRightAlone}
 use Rattle.asn1_departures.specs.Departures.{Found, broken, kept}
 use Rattle.asn1_departures.proofs.own.universal_found.Goals as goal
 
+-- what is asked where a condition fails is enough for a condition that fails
 MatchBool-false : (b : Bool) (P Q : Type 0) → b ≡ false → Q → MatchBool b P Q
 MatchBool-false true P Q e q = absurd cc
 MatchBool-false false P Q e q = q
