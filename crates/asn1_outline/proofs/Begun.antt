@@ -1,4 +1,4 @@
--- The entry of a header that was found has this header and no items, for `listing::encoding_entry` and `simple_asn1_c`.
+-- The entry of a header that was found has this header and no items, for `listing::encoding_entry`.
 use Rattle.std.proofs.Common.{◌≡◌, ℕ, suc, ◌-◌, ◌≤◌, ◌^◌, ◌++◌, List, drop, length, min, refl, sym, arith}
 use Rattle.std.specs.List.{slice_range}
 use Rattle.asn1_blocks.specs.Places.{HeaderFound}

@@ -70,6 +70,7 @@ Holds-node_items x (node b ns) is = is.0
 
 module _ (octets : List ℕ) (es : List Entry) (ns : Nodes) (lent : ∥ IsOutline octets es ∥₁) (d : IsStructure octets ns)
     (k : ℕ) (h : k < length es) where
+  -- a node and the nodes inside it stand among all nodes in order from the node's index on
   pub get_or-node_in_order : (j : ℕ) → j < length (node_in_order (node_at ns k)) →
       get_or (node_in_order (node_at ns k)) j no_node ≡ node_at ns (k + j)
   get_or-node_in_order j l =

@@ -11,8 +11,7 @@ use Rattle.asn1_blocks.specs.declared.block.GroupKind.{GroupKind}
 use Rattle.asn1_blocks.specs.declared.parsed.PlacedHeader.{PlacedHeader}
 use Rattle.asn1_blocks.specs.Contents.{group_tag}
 use Rattle.asn1_blocks.specs.Grammar.{Encodes, EncodesAll}
-use Rattle.asn1_blocks.specs.Places.{HeaderFound}
-use Rattle.asn1_blocks.specs.Places.{EncodingAt}
+use Rattle.asn1_blocks.specs.Places.{HeaderFound, EncodingAt}
 use Rattle.asn1_blocks.specs.Tree.{Tree, Trees, explicit, group, leaf, more_trees, no_trees, trees_of, unknown}
 use Rattle.asn1_blocks.specs.View.{tree_offset, view}
 use Rattle.asn1_blocks.specs.Inner.EqualityLaws.{group_tag-injective}
@@ -98,6 +97,7 @@ module _ (x : List ℕ) (o : ℕ) (y : List ℕ) (n : ℕ) (v : List ℕ) (h : �
           ]
         ])
       where
+        -- one tree is not no trees
         no_more : (t : Tree ℕ) → more_trees t no_trees ≡ no_trees → ⊥
         no_more t r = absurd (cc)
 
@@ -135,8 +135,7 @@ module _ (x : List ℕ) (o : ℕ) (n : Node) (g : PlacedHeader) (found : HeaderF
         let e = subst (λ z. Encoding y z g.constructed (group_tag kind) v (g.start - o)) class
         (subst (λ z. Encoding y g.class g.constructed z v (g.start - o)) tag found.encoding) in
         Encodes-group x o y 0 v (g.start - o) (nodes_trees (node_items n)) g.constructed kind
-        (node_tree n) e Encodes-node_tree
-        at.holds
+        (node_tree n) e Encodes-node_tree at.holds
 
     -- the tree of a node is the block that the contents octets at its header encode
     pub node_tree-leaf : (b : Tree ℕ) →
@@ -150,29 +149,30 @@ module _ (x : List ℕ) (o : ℕ) (n : Node) (g : PlacedHeader) (found : HeaderF
         same
 
     module _ (other : g.class ≢ Universal) (set : g.constructed ≡ true) where
+      -- the octets from a constructed header that was found are a constructed encoding
       Encoding-constructed : Encoding (slice_range x o g.end) g.class true g.tag (slice_range x g.start g.end)
           (g.start - o)
       Encoding-constructed = subst (λ z. Encoding (slice_range x o g.end) g.class z g.tag (slice_range x g.start g.end)
           (g.start - o)) set found.encoding
 
+      -- at a constructed header of another class, the tree of a node with one item is this item in explicit tagging
       pub node_tree-explicit : (t : Tree ℕ) → items_of n ≡ t ∷ [] → node_tree n ≡ explicit g.class o g.tag t
       node_tree-explicit t one =
           let bs = nodes_trees (node_items n) in
           let only : bs ≡ more_trees t no_trees = sym (trees_of-listed bs) ∙ ap trees_of one in
           Encodes-explicit x o (slice_range x o g.end) g.tag (slice_range x g.start g.end)
-          (g.start - o) bs g.class other
-          Encoding-constructed
-          (node_tree n) t Encodes-node_tree at.holds only
+          (g.start - o) bs g.class other Encoding-constructed (node_tree n) t Encodes-node_tree at.holds only
 
+      -- at a constructed header of another class, the tree of a node stays as it came unless it has exactly one item
       pub node_tree-as_it_came : length (items_of n) ≢ 1 →
           node_tree n ≡ unknown g.class true o g.tag (slice_range x g.start g.end)
       node_tree-as_it_came many =
           let bs = nodes_trees (node_items n) in
           Encodes-as_it_came x o (slice_range x o g.end) g.tag (slice_range x g.start g.end)
-          (g.start - o) bs g.class other
-          Encoding-constructed
+          (g.start - o) bs g.class other Encoding-constructed
           (node_tree n) Encodes-node_tree at.holds (λ t only. many (ap (λ z. length (listed z)) only))
 
+-- the values of a function over a reversed list are the reversed values over the list
 pub map-reverse : {A B : Type 0} (f : A → B) (xs : List A) → map f (reverse xs) ≡ reverse (map f xs)
 map-reverse f [] = refl
 map-reverse f (x ∷ xs) =
@@ -181,17 +181,17 @@ map-reverse f (x ∷ xs) =
     ∙ sym (reverse-append (f x ∷ []) (map f xs))
 
 -- the tree of a node at a constructed encoding of another class is explicit around one block, and otherwise as it came
-pub node_tree-other_class :
+pub node_tree-not_universal :
     (x : List ℕ) (o : ℕ) (n : Node) (g : PlacedHeader) (found : HeaderFound x o (length x) g) (at : IsNodeAt x o n)
     (inside : List ASN1Block) (t : Tree ℕ) →
     g.class ≢ Universal → g.constructed ≡ true → map view inside ≡ items_of n →
     ((item : ASN1Block) → inside ≡ item ∷ [] → t ≡ explicit g.class o g.tag (view item)) →
     (length inside ≢ 1 → t ≡ unknown g.class true o g.tag (slice_range x g.start g.end)) → t ≡ node_tree n
-node_tree-other_class x o n g found at [] t other set own one kept =
+node_tree-not_universal x o n g found at [] t other set own one kept =
     kept (λ e. omega (arith, e)) ∙ sym
     (node_tree-as_it_came x o n g found at other set (λ e. omega (arith, e, ap length own)))
-node_tree-other_class x o n g found at (b ∷ []) t other set own one kept =
+node_tree-not_universal x o n g found at (b ∷ []) t other set own one kept =
     one b refl ∙ sym (node_tree-explicit x o n g found at other set (view b) (sym own))
-node_tree-other_class x o n g found at (a ∷ b ∷ bs) t other set own one kept =
+node_tree-not_universal x o n g found at (a ∷ b ∷ bs) t other set own one kept =
     kept (λ e. omega (arith, e)) ∙ sym
     (node_tree-as_it_came x o n g found at other set (λ e. omega (arith, e, ap length own)))

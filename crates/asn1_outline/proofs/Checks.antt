@@ -108,9 +108,9 @@ AreWalked-failed_attempt x f g gs p fault o w q tries =
     let h = w.header in
     let other : h.class ≢ Universal = subst (λ z. IsAttemptAt z h) tries w.attempt in
     let bit : h.constructed ≡ true = elim w.inside [ inl u ↦ absurd (other u.0) | inr u ↦ u.1 ] in
-    let came : HasItems x h no_shapes =
+    let empty : HasItems x h no_shapes =
     as_it_came other bit (HeadersFaultAt-from_start x f h p fault o w.walked w.start w.end q) in
-    subst (AreWalked x g gs) (sym w.end) (AreWalked-one_more x g gs w.offset h no_shapes w.around w.found came)
+    subst (AreWalked x g gs) (sym w.end) (AreWalked-one_more x g gs w.offset h no_shapes w.around w.found empty)
 
 -- a fault of contents octets that are no attempt is one of those around them
 pub record FaultGoesOut (x : List ℕ) (g : OpenContents) (gs : List OpenContents) (fault : DecodeFault)

@@ -38,6 +38,7 @@ nodes_in_order-append_last (m ∷ ns) n =
     ap (λ z. node_in_order m ++ z) (nodes_in_order-append_last ns n)
     ∙ sym (append_assoc (node_in_order m) (nodes_in_order (nodes_of ns)) (node_in_order n))
 
+-- depths of nodes in order end with the depth of the last node and the depths of the nodes inside it
 pub nodes_depths-append_last : (d : ℕ) (ns : List Node) (n : Node) →
     nodes_depths d (nodes_of (ns ++ n ∷ [])) ≡ nodes_depths d (nodes_of ns) ++ node_depths d n
 nodes_depths-append_last d [] n = append-nil (node_depths d n)

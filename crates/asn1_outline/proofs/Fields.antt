@@ -33,9 +33,11 @@ module _ (x : List ℕ) (b : Tree ℕ) (r : Entry) (y : List ℕ) (c : ASN1Class
       Encoding-unique octets y r.class c r.constructed k own.tag n own.contents v r.header h [] [] own.encoding f
       (ap (λ z. z ++ []) same)
 
+  -- an entry of a tree has the size of the header of the tree's encoding
   pub header-of_encoding : r.header ≡ h
   header-of_encoding = let (octets, at, own) = e.header in (SameEncoding-entry octets at own).header
 
+  -- an entry of a tree has the number of contents octets of the tree's encoding
   pub contents-of_encoding : r.contents ≡ length v
   contents-of_encoding =
       let (octets, at, own) = e.header in own.contents_field ∙ ap length (SameEncoding-entry octets at own).contents
@@ -47,6 +49,7 @@ node_count-no_trees (more_nodes n ns) e =
     let none : more_trees (node_tree n) (nodes_trees ns) ≡ no_trees = e in
     absurd (cc)
 
+-- nodes with one tree are one node
 node_count-one_tree : (ns : Nodes) (b : Tree ℕ) → nodes_trees ns ≡ more_trees b no_trees → node_count ns ≡ 1
 node_count-one_tree no_nodes b e =
     let none : no_trees ≡ more_trees b no_trees = e in
@@ -56,6 +59,7 @@ node_count-one_tree (more_nodes n ns) b e =
     let rest : nodes_trees ns ≡ no_trees = cc in
     ap suc (node_count-no_trees ns rest)
 
+-- one node has one tree
 nodes_trees-one_node : (ns : Nodes) → node_count ns ≡ 1 → (b : Tree ℕ) × (nodes_trees ns ≡ more_trees b no_trees)
 nodes_trees-one_node no_nodes e = absurd (omega (arith, e))
 nodes_trees-one_node (more_nodes n no_nodes) e = (node_tree n, refl)
@@ -112,11 +116,11 @@ module _ (x : List ℕ) (r : Entry) where
   one_item-is_explicit (unknown class k p m v) ns holds e count is = absurd (false≢true is)
 
   -- a test of class and number of items tells whether a block is explicit
-  pub is_explicit-tested : (n : Node) (said : Bool) → IsNode x n → IsEntryOf x (node_tree n) r →
+  pub is_explicit-tested : (n : Node) (tested : Bool) → IsNode x n → IsEntryOf x (node_tree n) r →
       r.items ≡ node_count (node_items n)
-      → (said ≡ true ↔ ((r.class ≢ Universal) × (r.items ≡ 1))) → said ≡ is_explicit (node_tree n)
-  is_explicit-tested (node b ns) said is e count (to, from) =
-      one_answer said (is_explicit b) (
+      → (tested ≡ true ↔ ((r.class ≢ Universal) × (r.items ≡ 1))) → tested ≡ is_explicit (node_tree n)
+  is_explicit-tested (node b ns) tested is e count (to, from) =
+      one_answer tested (is_explicit b) (
         λ y. is_explicit-one_item b ns is.0 e count (to y),
         λ y. from (one_item-is_explicit b ns is.0 e count y),
       ) (λ y. y, λ y. y)

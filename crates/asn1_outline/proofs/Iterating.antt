@@ -1,5 +1,5 @@
 -- The iterators of an outline return entries of blocks side by side, for `iter::EntriesIterator::next`,
--- `outline::Outline::blocks` and `outline::Outline::items`.
+-- `outline::Outline::blocks` and `outline::Outline::items`, and for `der_account`.
 use Rattle.std.proofs.Common.{◌≡◌, ℕ, zero, suc, ◌+◌, ◌-◌, ◌<◌, ◌++◌, min, Bool, false, List, [], ◌∷◌, Some, drop, get_or, length, map, refl, sym, ap, ◌∙◌, inl, inr, arith, append_assoc, append-nil, length-append}
 use Rattle.std.specs.Prelude.{All, slice_get}
 use Rattle.std.proofs.lemmas.Bool.{cases_lt}
@@ -48,8 +48,7 @@ pub All-side_by_side : (all : List Entry) (n i : ℕ) (rs after : List Entry) �
 All-side_by_side all n i [] after e k d h = absurd (omega (arith, h))
 All-side_by_side all zero i (r ∷ rs) after e zero d h = slice_get-drop all i r (rs ++ after) e
 All-side_by_side all zero i (r ∷ rs) after e (suc k) d h =
-    All-side_by_side all (r.next - (i + 1)) (i + 1) rs after (drop-next all i r (rs ++ after) e) k d
-    (omega (arith, h))
+    All-side_by_side all (r.next - (i + 1)) (i + 1) rs after (drop-next all i r (rs ++ after) e) k d (omega (arith, h))
 All-side_by_side all (suc n) i (r ∷ rs) after e k d h =
     All-side_by_side all n (i + 1) rs after (drop-next all i r (rs ++ after) e) k d h
 

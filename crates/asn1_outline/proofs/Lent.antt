@@ -25,6 +25,7 @@ module _ (octets : List ℕ) (es : List Entry) (ns : Nodes) (k : ℕ) (lent : �
       subst (λ z. AreEntries octets 0 (nodes_in_order z) (nodes_depths 0 z) es)
       (IsStructure-unique octets are.nodes ns own d) are.entries
 
+  -- entries of the nodes of a structure are as many as the nodes
   length-entries_of_nodes : AreEntries octets 0 (nodes_in_order ns) (nodes_depths 0 ns) es →
       length es ≡ length (nodes_in_order ns)
   length-entries_of_nodes are = length-entries octets 0 (nodes_in_order ns) (nodes_depths 0 ns) es are
@@ -85,9 +86,11 @@ module _ (octets : List ℕ) (es : List Entry) (ns : Nodes) (k : ℕ) (lent : �
         length-entries_of_nodes (AreEntries-any_nodes cs e are),
       ))
 
+  -- past the last entry stands no node
   pub node_at-past : length es ≤ k → node_at ns k ≡ no_node
   node_at-past h = get_or_past (nodes_in_order ns) k no_node (nodes-past h)
 
+  -- past the last entry stands no tree
   pub tree_at-past : length es ≤ k → tree_at ns k ≡ no_tree
   tree_at-past h = ap node_tree (node_at-past h)
 

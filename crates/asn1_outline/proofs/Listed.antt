@@ -186,6 +186,7 @@ Holds-attempt x a s e (t ∷ []) bs same lt le at w = sym same
 Holds-attempt x a s e (t ∷ u ∷ ts) bs same lt le at w =
     inl (refl, s, IsTaggedAt-attempt x a s e lt le at, subst (EncodesAll s (slice_range x s e)) same w)
 
+-- the tree of an attempt stands at the offset of the attempt
 tree_offset-attempt_tree : (x : List ℕ) (a : other.Attempt) (s e : ℕ) (ts : List (Tree ℕ)) →
     tree_offset (attempt_tree x a s e ts) ≡ a.offset
 tree_offset-attempt_tree x a s e [] = refl
@@ -198,6 +199,7 @@ Holds-ended : (x : List ℕ) (e : Extent) (ts : List (Tree ℕ)) (t : Tree ℕ) 
     → Holds x t bs × (tree_offset t ≡ e.offset)
 Holds-ended x e ts t bs same w = go e.kind refl
   where
+    -- the tree of a frame that ended, of whatever kind, holds the trees of the frame and stands at its offset
     go : (kind : FrameKind) → e.kind ≡ kind → Holds x t bs × (tree_offset t ≡ e.offset)
     go Whole d = absurd (subst (λ z. IsEnded x z e.offset e.start e.end ts t) d w.tree)
     go (Group y) d =
@@ -242,8 +244,7 @@ HasEndedIn-entry_builder x a b f i depth is = record {
       let begun = subst (λ z. IsBegun x f.extent.offset z (length fs) w.head) w.entry w.begun in
       let entries =
       AreEntries-with_items x f.extent.offset (length w.front) (length fs) f.items.count (length rs) t blocks.nodes
-      w.head w.own place count size
-      begun own in
+      w.head w.own place count size begun own in
       let new = with_items f.items.count (length rs) w.head ∷ w.own in
       let made : with_items_at rs f.items.entry f.items.count ≡ w.front ++ new =
       ap (λ z. with_items_at z f.items.entry f.items.count) w.whole

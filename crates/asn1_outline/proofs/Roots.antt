@@ -6,23 +6,28 @@ use Rattle.asn1_outline.specs.Building.{items_of, listed, roots}
 use Rattle.asn1_outline.specs.Structure.{Node, Nodes, more_nodes, no_node, no_nodes, node, node_count, node_in_order, node_items, node_tree, nodes_in_order, nodes_trees}
 use Rattle.asn1_outline.proofs.Iterating.{IsInOrderFrom-node, drop-next, node_in_order-items}
 
+-- trees that are made a list, and trees of it again, are as they were
 pub trees_of-listed : (bs : Trees ℕ) → trees_of (listed bs) ≡ bs
 trees_of-listed no_trees = refl
 trees_of-listed (more_trees b bs) = ap (more_trees b) (trees_of-listed bs)
 
+-- the list of the trees of nodes has as many trees as there are nodes
 pub length-listed : (ns : Nodes) → length (listed (nodes_trees ns)) ≡ node_count ns
 length-listed no_nodes = refl
 length-listed (more_nodes n ns) = ap suc (length-listed ns)
 
+-- as many trees as there are nodes, dropped from a list that begins with the nodes' trees, leave what follows them
 pub drop-listed : (ns : Nodes) (s : List (Tree ℕ)) → drop (node_count ns) (listed (nodes_trees ns) ++ s) ≡ s
 drop-listed no_nodes s = refl
 drop-listed (more_nodes n ns) s = drop-listed ns s
 
 mutual
+  -- of a node, the nodes inside it and more behind them, the first tree that is inside no other is the node's
   roots-node_in_order : (n : Node) (s : List Node) → roots (node_in_order n ++ s) ≡ node_tree n ∷ roots s
   roots-node_in_order (node b ns) s =
       ap (λ z. b ∷ drop (node_count ns) z) (roots-nodes_in_order ns s) ∙ ap (λ z. b ∷ z) (drop-listed ns (roots s))
 
+  -- of nodes in order and more behind them, the trees of the nodes come first among the trees inside no other
   roots-nodes_in_order : (ns : Nodes) (s : List Node) →
       roots (nodes_in_order ns ++ s) ≡ listed (nodes_trees ns) ++ roots s
   roots-nodes_in_order no_nodes s = refl

@@ -52,8 +52,7 @@ HeaderFound-no_fault x s p e h fault small within f w =
     let before : p ≤ h.end = omega (arith, f.starts_after, f.order) in
     let l = length-slice_range x p e (omega (arith, before, f.ends_within)) within in
     HeaderFault-not_encoding (p - s) (slice_range x p e) (slice_range x p h.end) (slice_range x h.end e) fault h.class
-    h.constructed h.tag _ _ w
-    (omega (arith, l, small, within, before, f.ends_within))
+    h.constructed h.tag _ _ w (omega (arith, l, small, within, before, f.ends_within))
     (slice_range-append x p h.end e before f.ends_within) f.encoding
 
 module _ (x : List ℕ) (small : length x < 2 ^ 64) where

@@ -19,10 +19,12 @@ abbrev pub AreWithin : List ℕ → List Entry → Type 0
 AreWithin x [] = Unit {0}
 AreWithin x (r ∷ rs) = IsWithin x r × AreWithin x rs
 
+-- the encodings of joined lists of entries lie in the octets if the encodings of both lists do
 AreWithin-append : (x : List ℕ) (rs ss : List Entry) → AreWithin x rs → AreWithin x ss → AreWithin x (rs ++ ss)
 AreWithin-append x [] ss a b = b
 AreWithin-append x (r ∷ rs) ss a b = (a.0, AreWithin-append x rs ss a.1 b)
 
+-- the encoding of each entry lies in the octets where the encodings of all entries do
 IsWithin-get_or : (x : List ℕ) (rs : List Entry) → AreWithin x rs → (k : ℕ) → k < length rs →
     IsWithin x (get_or rs k no_entry)
 IsWithin-get_or x [] a k h = absurd (omega (arith, h))
@@ -82,5 +84,4 @@ IsSomeAnd-looked_up octets_of x es items k entry found walked same at is =
     let within = IsWithin-looked_up x es items k entry walked same at in
     let (_, equal) = get_or-looked_up es items k entry same at in
     IsSomeAnd-never_past found _ _ (length x < entry.offset + entry.header + entry.contents) is
-    (λ past. omega (arith, past, within))
-    (ap octets_of equal)
+    (λ past. omega (arith, past, within)) (ap octets_of equal)

@@ -68,8 +68,7 @@ module _ (w c a s : PlacedHeader) (m o p q : ℕ) (cs bs ss rest : Shapes) where
       ap (entry_at three_entries) here ∙ entry_at-second_on 0
 
   -- at the index of the third of the three stands the entry of its header
-  pub entry_at-third : (n : ℕ) → n ≡ third_index cs bs → entry_at three_entries n
-      ≡ shape_entry q s (shape_count ss)
+  pub entry_at-third : (n : ℕ) → n ≡ third_index cs bs → entry_at three_entries n ≡ shape_entry q s (shape_count ss)
       (suc (third_index cs bs) + length (entries_of (suc (third_index cs bs)) 2 ss)) 1
   entry_at-third n is =
       let inner = entries_of (suc (second_index cs)) 2 bs in
@@ -92,6 +91,7 @@ entry_at-inside_second w c a s i m o p q r cs is bs ss rest n at =
 min-small_tag : (n tag : ℕ) → min n (2 ^ 64 - 1) ≡ tag → tag < 64 → n ≡ tag
 min-small_tag n tag is small = omega (arith, is, small)
 
+-- a small tag number of a header stands in its entry as it is
 min-of_small_tag : (n tag : ℕ) → n ≡ tag → tag < 64 → min n (2 ^ 64 - 1) ≡ tag
 min-of_small_tag n tag is small = omega (arith, is, small)
 

@@ -15,6 +15,7 @@ use Rattle.asn1_blocks.proofs.OneReading.{IsBlock-encodes, EncodesAll-single}
 use Rattle.asn1_blocks.proofs.Slices.{tree_offset-encodes}
 use Rattle.asn1_outline.specs.Structure.{AreNodes, Holds, IsEncodedIn, IsNode, IsStructure, Node, Nodes, more_nodes, no_node, no_nodes, node, node_at, node_in_order, node_tree, nodes_in_order, nodes_trees}
 
+-- length octets are one octet or more
 IsLength-not_empty : (s : List ℕ) (n : ℕ) → IsLength s n → 0 < length s
 IsLength-not_empty [] n h = absurd h
 IsLength-not_empty (b ∷ s) n h = omega arith

@@ -11,6 +11,7 @@ pub trees_of-nodes : (ns : List Node) → trees_of (map node_tree ns) ≡ nodes_
 trees_of-nodes [] = refl
 trees_of-nodes (n ∷ ns) = ap (more_trees (node_tree n)) (trees_of-nodes ns)
 
+-- nodes that are made of a list are as many as the list has
 pub node_count-nodes_of : (ns : List Node) → node_count (nodes_of ns) ≡ length ns
 node_count-nodes_of [] = refl
 node_count-nodes_of (n ∷ ns) = ap suc (node_count-nodes_of ns)

@@ -136,24 +136,24 @@ tree_integer-entry x b r e class tag =
     ∙ ap (λ z. Some (signed_number z)) (sym c.are)
 
 -- a tree whose encoding has another class or tag number than an INTEGER is no INTEGER
-tree_integer-other_encoding : (o : ℕ) (y : List ℕ) (b : Tree ℕ) (c : ASN1Class) (k : Bool) (n : ℕ) (w : List ℕ)
+tree_integer-not_integer_encoding : (o : ℕ) (y : List ℕ) (b : Tree ℕ) (c : ASN1Class) (k : Bool) (n : ℕ) (w : List ℕ)
     (h : ℕ) →
     Encodes o y b → Encoding y c k n w h
     → ((c ≡ Universal) × (n ≡ 2) → ⊥) → tree_integer b ≡ None
-tree_integer-other_encoding o y (leaf p (integer m)) c k n w h (_, bit, contents, header, F, _) e other =
+tree_integer-not_integer_encoding o y (leaf p (integer m)) c k n w h (_, bit, contents, header, F, _) e other =
     let z = SameEncoding-octets y Universal c bit k 2 n contents w header h F e in
     absurd (other (sym z.class, sym z.tag))
-tree_integer-other_encoding o y (leaf p l) c k n w h s e other = refl
-tree_integer-other_encoding o y (group p g bs) c k n w h s e other = refl
-tree_integer-other_encoding o y (explicit d p m b) c k n w h s e other = refl
-tree_integer-other_encoding o y (unknown d j p m v) c k n w h s e other = refl
+tree_integer-not_integer_encoding o y (leaf p l) c k n w h s e other = refl
+tree_integer-not_integer_encoding o y (group p g bs) c k n w h s e other = refl
+tree_integer-not_integer_encoding o y (explicit d p m b) c k n w h s e other = refl
+tree_integer-not_integer_encoding o y (unknown d j p m v) c k n w h s e other = refl
 
 -- the tree of an entry with another class or tag number is no INTEGER
-pub tree_integer-other_entry : (x : List ℕ) (b : Tree ℕ) (r : Entry) → IsEntryOf x b r →
+pub tree_integer-not_integer : (x : List ℕ) (b : Tree ℕ) (r : Entry) → IsEntryOf x b r →
     ((r.class ≡ Universal) × (r.tag ≡ INTEGER) → ⊥) → tree_integer b ≡ None
-tree_integer-other_entry x b r e other =
+tree_integer-not_integer x b r e other =
     let c = EntryContents-entry x b r e in
-    tree_integer-other_encoding (tree_offset b)
+    tree_integer-not_integer_encoding (tree_offset b)
     c.octets b r.class r.constructed c.tag c.contents r.header c.encoded c.encoding
     (λ (d, t). other (d, c.number.0 (omega (arith, t)) ∙ t))
 
@@ -183,6 +183,7 @@ IsLeafOf-encoding o y (unknown c j p m v) k n w h t (_, header, F, stays) e =
       | inr other ↦ other.0 z.class
     ]
   where
+    -- true is not false
     not_known : true ≡ false → ⊥
     not_known q = absurd (cc)
 
@@ -216,6 +217,7 @@ IsLeafOf-no_fault o n v (group p g bs) fault s f = s
 IsLeafOf-no_fault o n v (explicit c p m b) fault s f = s
 IsLeafOf-no_fault o n v (unknown c k p m w) fault s f = s
 
+-- the tag number of a string is a leaf's, and below 64
 is_leaf_tag-string_tag : (kind : StringKind) → (string_tag kind < 64) × (is_leaf_tag (string_tag kind) ≡ true)
 is_leaf_tag-string_tag kind = (string_tag-lt kind, is_leaf_tag-leaf_tag (text kind []))
 
@@ -244,24 +246,25 @@ IsEntryOf-no_text_fault x b r kind fault e class tag f =
     (of_text kind refl f)
 
 -- a tree whose encoding is of no string has no text
-tree_text-other_encoding : (o : ℕ) (y : List ℕ) (b : Tree ℕ) (c : ASN1Class) (k : Bool) (n : ℕ) (w : List ℕ) (h : ℕ) →
+tree_text-not_string_encoding :
+    (o : ℕ) (y : List ℕ) (b : Tree ℕ) (c : ASN1Class) (k : Bool) (n : ℕ) (w : List ℕ) (h : ℕ) →
     Encodes o y b → Encoding y c k n w h
     → ((kind : StringKind) → (c ≡ Universal) × (n ≡ string_tag kind) → ⊥) → tree_text b ≡ None
-tree_text-other_encoding o y (leaf p (text kind cs)) c k n w h (_, bit, contents, header, F, _) e other =
+tree_text-not_string_encoding o y (leaf p (text kind cs)) c k n w h (_, bit, contents, header, F, _) e other =
     let z = SameEncoding-octets y Universal c bit k (string_tag kind) n contents w header h F e in
     absurd (other kind (sym z.class, sym z.tag))
-tree_text-other_encoding o y (leaf p l) c k n w h s e other = refl
-tree_text-other_encoding o y (group p g bs) c k n w h s e other = refl
-tree_text-other_encoding o y (explicit d p m b) c k n w h s e other = refl
-tree_text-other_encoding o y (unknown d j p m v) c k n w h s e other = refl
+tree_text-not_string_encoding o y (leaf p l) c k n w h s e other = refl
+tree_text-not_string_encoding o y (group p g bs) c k n w h s e other = refl
+tree_text-not_string_encoding o y (explicit d p m b) c k n w h s e other = refl
+tree_text-not_string_encoding o y (unknown d j p m v) c k n w h s e other = refl
 
 -- the tree of an entry with the tag number of no string has no text
-pub tree_text-other_entry : (x : List ℕ) (b : Tree ℕ) (r : Entry) → IsEntryOf x b r →
+pub tree_text-not_string : (x : List ℕ) (b : Tree ℕ) (r : Entry) → IsEntryOf x b r →
     ((kind : StringKind) → (r.class ≡ Universal) × (r.tag ≡ string_tag kind) → ⊥)
     → tree_text b ≡ None
-tree_text-other_entry x b r e other =
+tree_text-not_string x b r e other =
     let c = EntryContents-entry x b r e in
-    tree_text-other_encoding (tree_offset b)
+    tree_text-not_string_encoding (tree_offset b)
     c.octets b r.class r.constructed c.tag c.contents r.header c.encoded c.encoding
     (λ kind (d, t). other kind (d, c.number.0 (omega (arith, t, (is_leaf_tag-string_tag kind).0)) ∙ t))
 
@@ -297,6 +300,7 @@ IsNoLeafWith-entry x b r n e small other o l is tag =
     let number : c.tag ≡ n = sym z.tag ∙ tag in
     other (sym z.class, c.number.0 (omega (arith, number, small)) ∙ number)
 
+-- a tree that is no leaf with the tag number of BOOLEAN is no BOOLEAN
 pub tree_boolean-none : (b : Tree ℕ) → IsNoLeafWith 1 b → tree_boolean b ≡ None
 tree_boolean-none (leaf o (boolean v)) other = absurd (other o (boolean v) refl refl)
 tree_boolean-none (leaf o l) other = refl
@@ -304,6 +308,7 @@ tree_boolean-none (group o g bs) other = refl
 tree_boolean-none (explicit c o n b) other = refl
 tree_boolean-none (unknown c k o n v) other = refl
 
+-- a tree that is no leaf with the tag number of BIT STRING has no bits of one
 pub tree_bits-none : (b : Tree ℕ) → IsNoLeafWith 3 b → tree_bits b ≡ None
 tree_bits-none (leaf o (bit_string n v)) other = absurd (other o (bit_string n v) refl refl)
 tree_bits-none (leaf o l) other = refl
@@ -311,6 +316,7 @@ tree_bits-none (group o g bs) other = refl
 tree_bits-none (explicit c o n b) other = refl
 tree_bits-none (unknown c k o n v) other = refl
 
+-- a tree that is no leaf with the tag number of OBJECT IDENTIFIER has no components of one
 pub tree_oid-none : (b : Tree ℕ) → IsNoLeafWith 6 b → tree_oid b ≡ None
 tree_oid-none (leaf o (object_identifier ns)) other = absurd (other o (object_identifier ns) refl refl)
 tree_oid-none (leaf o l) other = refl
@@ -318,6 +324,7 @@ tree_oid-none (group o g bs) other = refl
 tree_oid-none (explicit c o n b) other = refl
 tree_oid-none (unknown c k o n v) other = refl
 
+-- a tree that is no leaf with the tag number of OCTET STRING has no octets of one
 pub tree_octets-none : (b : Tree ℕ) → IsNoLeafWith 4 b → tree_octets b ≡ None
 tree_octets-none (leaf o (octet_string v)) other = absurd (other o (octet_string v) refl refl)
 tree_octets-none (leaf o l) other = refl
@@ -325,6 +332,7 @@ tree_octets-none (group o g bs) other = refl
 tree_octets-none (explicit c o n b) other = refl
 tree_octets-none (unknown c k o n v) other = refl
 
+-- a leaf with the tag number of OCTET STRING has its contents octets as octets
 pub tree_octets-leaf : (o : ℕ) (v : List ℕ) (b : Tree ℕ) → IsLeafOf o 4 v b → tree_octets b ≡ Some v
 tree_octets-leaf o v b s = let (p, same) = IsLeafOf-leaf o 4 v b (octet_string v) s refl refl in ap tree_octets same
 
@@ -406,6 +414,7 @@ tree_enumerated-none (leaf o l) other = refl
 tree_enumerated-none (group o g bs) other = refl
 tree_enumerated-none (explicit c o n b) other = refl
 
+-- a tree that is no primitive encoding of class Universal is no NumericString, VisibleString or GeneralString
 pub tree_ascii_text-none : (b : Tree ℕ) → IsNoPrimitive b → tree_ascii_text b ≡ None
 tree_ascii_text-none (unknown Universal false o n v) other = absurd (other n v refl)
 tree_ascii_text-none (unknown Universal true o n v) other = refl
@@ -417,22 +426,23 @@ tree_ascii_text-none (group o g bs) other = refl
 tree_ascii_text-none (explicit c o n b) other = refl
 
 -- the tree of an entry with another tag number is no ENUMERATED
-pub tree_enumerated-other_tag : (x : List ℕ) (b : Tree ℕ) (r : Entry) → IsEntryOf x b r → (r.tag ≡ ENUMERATED → ⊥) →
-    tree_enumerated b ≡ None
-tree_enumerated-other_tag x (unknown Universal false o n v) r e other = elim (cases_Bool (n == ENUMERATED)) [
+pub tree_enumerated-not_enumerated : (x : List ℕ) (b : Tree ℕ) (r : Entry) → IsEntryOf x b r →
+    (r.tag ≡ ENUMERATED → ⊥) → tree_enumerated b ≡ None
+tree_enumerated-not_enumerated x (unknown Universal false o n v) r e other = elim (cases_Bool (n == ENUMERATED)) [
   | inl here ↦
       let ten : n ≡ ENUMERATED = grind (arith, nat_tests, here) in
       absurd (other ((IsPrimitive-fields x (unknown Universal false o n v) r n v e refl).2 (omega (arith, ten)) ∙ ten))
   | inr there ↦ ap (λ z. if z && is_shortest_integer v then Some (signed_number v) else None) there
 ]
-tree_enumerated-other_tag x (unknown Universal true o n v) r e other = refl
-tree_enumerated-other_tag x (unknown Application k o n v) r e other = refl
-tree_enumerated-other_tag x (unknown ContextSpecific k o n v) r e other = refl
-tree_enumerated-other_tag x (unknown Private k o n v) r e other = refl
-tree_enumerated-other_tag x (leaf o l) r e other = refl
-tree_enumerated-other_tag x (group o g bs) r e other = refl
-tree_enumerated-other_tag x (explicit c o n b) r e other = refl
+tree_enumerated-not_enumerated x (unknown Universal true o n v) r e other = refl
+tree_enumerated-not_enumerated x (unknown Application k o n v) r e other = refl
+tree_enumerated-not_enumerated x (unknown ContextSpecific k o n v) r e other = refl
+tree_enumerated-not_enumerated x (unknown Private k o n v) r e other = refl
+tree_enumerated-not_enumerated x (leaf o l) r e other = refl
+tree_enumerated-not_enumerated x (group o g bs) r e other = refl
+tree_enumerated-not_enumerated x (explicit c o n b) r e other = refl
 
+-- the tag numbers of NumericString, VisibleString and GeneralString are below 64
 is_ascii_tag-lt : (n : ℕ) → is_ascii_tag n ≡ true → n < 64
 is_ascii_tag-lt n e = elim (or_cases _ (n == GENERAL_STRING) e) [
   | inr a ↦ grind (arith, nat_tests, a)
@@ -442,23 +452,25 @@ is_ascii_tag-lt n e = elim (or_cases _ (n == GENERAL_STRING) e) [
   ]
 ]
 
-pub tree_ascii_text-other_tag : (x : List ℕ) (b : Tree ℕ) (r : Entry) → IsEntryOf x b r → is_ascii_tag r.tag ≡ false →
+-- the tree of an entry with no tag number of NumericString, VisibleString or GeneralString is none of these strings
+pub tree_ascii_text-not_ascii : (x : List ℕ) (b : Tree ℕ) (r : Entry) → IsEntryOf x b r → is_ascii_tag r.tag ≡ false →
     tree_ascii_text b ≡ None
-tree_ascii_text-other_tag x (unknown Universal false o n v) r e other = elim (cases_Bool (is_ascii_tag n)) [
+tree_ascii_text-not_ascii x (unknown Universal false o n v) r e other = elim (cases_Bool (is_ascii_tag n)) [
   | inl here ↦
       let same =
       (IsPrimitive-fields x (unknown Universal false o n v) r n v e refl).2 (omega (arith, is_ascii_tag-lt n here)) in
       absurd (false≢true (sym other ∙ ap is_ascii_tag same ∙ here))
   | inr there ↦ ap (λ z. if z && list_all (is_ascii_character n) v then Some v else None) there
 ]
-tree_ascii_text-other_tag x (unknown Universal true o n v) r e other = refl
-tree_ascii_text-other_tag x (unknown Application k o n v) r e other = refl
-tree_ascii_text-other_tag x (unknown ContextSpecific k o n v) r e other = refl
-tree_ascii_text-other_tag x (unknown Private k o n v) r e other = refl
-tree_ascii_text-other_tag x (leaf o l) r e other = refl
-tree_ascii_text-other_tag x (group o g bs) r e other = refl
-tree_ascii_text-other_tag x (explicit c o n b) r e other = refl
+tree_ascii_text-not_ascii x (unknown Universal true o n v) r e other = refl
+tree_ascii_text-not_ascii x (unknown Application k o n v) r e other = refl
+tree_ascii_text-not_ascii x (unknown ContextSpecific k o n v) r e other = refl
+tree_ascii_text-not_ascii x (unknown Private k o n v) r e other = refl
+tree_ascii_text-not_ascii x (leaf o l) r e other = refl
+tree_ascii_text-not_ascii x (group o g bs) r e other = refl
+tree_ascii_text-not_ascii x (explicit c o n b) r e other = refl
 
+-- a tree that is no leaf with the tag number of UTCTime or GeneralizedTime has no moment
 pub tree_moment-none : (b : Tree ℕ) → IsNoLeafWith UTC_TIME b → IsNoLeafWith GENERALIZED_TIME b → tree_moment b ≡ None
 tree_moment-none (leaf o (utc_time m)) other more = absurd (other o (utc_time m) refl refl)
 tree_moment-none (leaf o (generalized_time m)) other more = absurd (more o (generalized_time m) refl refl)

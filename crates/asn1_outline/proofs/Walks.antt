@@ -332,8 +332,7 @@ module _ (x : List ℕ) (w : Walk) where
         builder = b;
         fault =
             w.fault;
-      })
-      (work_left (length x) w.index w.outer.items)
+      }) (work_left (length x) w.index w.outer.items)
   GoesOn-leaf h b i walking found inside pushed more =
       let rs = w.builder.entries.items in
       let gs = reverse w.outer.items in
@@ -411,13 +410,11 @@ module _ (x : List ℕ) (w : Walk) where
         let rs = w.builder.entries.items in
         let now =
         AreOpen-failed_attempt x w.inner g gs faulty.reached rs faulty.front faulty.more fault o faulty.whole
-        AreOpen-popped
-        faulty.stops tries in
+        AreOpen-popped faulty.stops tries in
         record {
           reading =
               AreOpen-equal x (with_one_counted g)
-              (record g { items = i }) gs gs w.inner.extent.end w.inner.extent.end _
-              b.entries.items
+              (record g { items = i }) gs gs w.inner.extent.end w.inner.extent.end _ b.entries.items
               (ap (λ (z : EntryItems). record g { items = z }) more) refl refl cut now;
           nearer = omega (arith, faulty.nearer, ap length popped, length-append outer.items (g ∷ []));
         }

@@ -1,5 +1,5 @@
 // What is read of an entry, with the octets of its document: the readers of its contents octets.
-ghost use Rattle.std.specs.Prelude.{◌≡◌, ◌≢◌, ◌⊎◌, ◌↔◌, ℕ, ◌+◌, ◌<◌, ◌≤◌, length, slice_range, None, Some, false, true, IfErr, IfOk, IsOkAnd, IsTrue, MatchOption, MatchResult, option_map};
+ghost use Rattle.std.specs.Prelude.{◌≡◌, ◌≢◌, ◌⊎◌, ◌↔◌, ℕ, ◌+◌, ◌<◌, ◌≤◌, length, slice_range, None, Some, false, true, IfErr, IfOk, IsOkAnd, IsTrue, MatchOption, MatchResult, option_map, string_bytes};
 ghost use Rattle.asn1_headers.specs.Fault.{OutOfMemoryOr};
 ghost use Rattle.asn1_headers.specs.Names.{type_name as name_of_type};
 ghost use Rattle.asn1_leaves.specs.Contents.GeneralizedTime.{GeneralizedTimeContents, GeneralizedTimeFault};
@@ -14,7 +14,6 @@ ghost use Rattle.asn1_blocks.specs.UnknownValues.{tree_ascii_text, tree_enumerat
 ghost use Rattle.asn1_blocks.specs.View.{tree_offset};
 ghost use Rattle.asn1_leaves.specs.Contents.Text.{text_form};
 ghost use Rattle.asn1_leaves.specs.StringKind.{StringKind};
-ghost use Rattle.std.specs.Prelude.{string_bytes};
 ghost use Rattle.std.specs.Str.{chars};
 ghost use Rattle.asn1_blocks.specs.Tree.{Tree};
 ghost use Rattle.asn1_outline.specs.Values.{EachIsOfItsTree, IsEntryOf, IsNoLeafWith, IsNoPrimitive, IsPrimitive};

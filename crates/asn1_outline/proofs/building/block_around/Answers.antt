@@ -7,7 +7,7 @@ use Rattle.asn1_blocks.specs.declared.block.GroupKind.TheVariants.{Sequence, Set
 use Rattle.asn1_blocks.specs.Tree.{group, trees_of}
 use Rattle.asn1_blocks.specs.View.{view, views}
 use Rattle.asn1_outline.specs.Structure.{node_items, nodes_trees}
-use Rattle.asn1_outline.proofs.Built.{node_tree-group, node_tree-leaf, node_tree-other_class}
+use Rattle.asn1_outline.proofs.Built.{node_tree-group, node_tree-leaf, node_tree-not_universal}
 use Rattle.asn1_outline.proofs.Roots.{trees_of-listed}
 use Rattle.asn1_outline.proofs.building.block_around.Goals as goal
 
@@ -44,7 +44,7 @@ returns-then-not-header c n at own =
 pub returns-in_ok-tagged_block-in_default : goal.returns-in_ok-tagged_block-in_default
 returns-in_ok-tagged_block-in_default c n at own =
     let block = c.in_ok-tagged_block-in_default.field-0 in
-    let said = c.in_ok-tagged_block-in_default.ensures in
+    let ensured = c.in_ok-tagged_block-in_default.ensures in
     let set : c.args.header.constructed ≡ true = search rules in
-    node_tree-other_class c.args.octets.now c.args.offset n c.args.header c.requires at c.args.inside (view block)
-    c.in_default.not-Universal set own said.one said.other
+    node_tree-not_universal c.args.octets.now c.args.offset n c.args.header c.requires at c.args.inside (view block)
+    c.in_default.not-Universal set own ensured.one ensured.other

@@ -25,5 +25,4 @@ returns c =
       reading = subst (λ (z : EntryItems). AreOpen x (record g { items = z }) (reverse w.outer.items) w.index
           c.set_items.new.self.entries.items) (sym more) same;
       nearer = omega arith;
-    })
-    c.add.ensures
+    }) c.add.ensures

@@ -15,8 +15,7 @@ returns-then-attempt c =
     HasTurned-stepped x _ _ c.add-step.result c.turn_of.result c.turn_of.new.reader c.turn_of.ensures
     (on_ok_weaker c.add-step.result
     (GoesOn-failed_attempt x w g c.pop.new.self _ _ _ c.loop-parent.invariant.faulty c.in-Some.ensures.items
-    c.cut.new.self
-    c.add-step.new.self tries
+    c.cut.new.self c.add-step.new.self tries
     c.cut.ensures)
     c.add-step.ensures)
 

@@ -21,8 +21,7 @@ returns-then-is_read_inside c =
     on_ok_weaker c.enter.result
     (GoesOn-enter c.args.octets.now w h c.push.new.self c.len-entry.result c.kind_of.result c.enter.new.reader
     c.requires.reading c.requires.found
-    inside c.kind_of.ensures n (c.in_ok-push.ensures ∙ ap (λ z. rs ++ z ∷ []) block))
-    c.enter.ensures
+    inside c.kind_of.ensures n (c.in_ok-push.ensures ∙ ap (λ z. rs ++ z ∷ []) block)) c.enter.ensures
 
 pub returns : goal.returns
 returns c =

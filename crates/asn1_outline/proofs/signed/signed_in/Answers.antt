@@ -56,8 +56,7 @@ returns-in_default-4 c w c1 a i s t =
     MatchOption-at_some (NoUniversalAt x d.end v.end SEQUENCE)
     (IsUniversalAt x d.end v.end SEQUENCE) b c.in-Some-3.is c.in_ok-algorithm.ensures in
     let none = MatchOption-at_none (NoUniversalAt x b.start b.end OBJECT_IDENTIFIER)
-    (IsUniversalAt x b.start b.end OBJECT_IDENTIFIER) c.in_default-4.is
-    c.in_ok-universal_header.ensures in
+    (IsUniversalAt x b.start b.end OBJECT_IDENTIFIER) c.in_default-4.is c.in_ok-universal_header.ensures in
     let t1 = HasTripleHeaders-whole x w c1 a i s t v whole.0 in
     let t2 = HasTripleHeaders-content x v c1 a i s t1 d content in
     let t3 = HasTripleHeaders-algorithm x v d a i s t2 b algorithm.0 in
@@ -98,8 +97,7 @@ returns-then-signature-whole c w c1 a i s t =
     MatchOption-at_some (NoUniversalAt x d.end v.end SEQUENCE)
     (IsUniversalAt x d.end v.end SEQUENCE) b c.in-Some-3.is c.in_ok-algorithm.ensures in
     let signature = MatchOption-at_some (NoUniversalAt x b.end v.end BIT_STRING)
-    (IsUniversalAt x b.end v.end BIT_STRING)
-    r c.in-Some-5.is c.in_ok-signature.ensures in
+    (IsUniversalAt x b.end v.end BIT_STRING) r c.in-Some-5.is c.in_ok-signature.ensures in
     let t1 = HasTripleHeaders-whole x w c1 a i s t v whole.0 in
     let t2 = HasTripleHeaders-content x v c1 a i s t1 d content in
     let t3 = HasTripleHeaders-algorithm x v d a i s t2 b algorithm.0 in
@@ -123,8 +121,7 @@ returns c =
     (IsUniversalAt x d.end v.end SEQUENCE) b c.in-Some-3.is c.in_ok-algorithm.ensures in
     let identifier =
     MatchOption-at_some (NoUniversalAt x b.start b.end OBJECT_IDENTIFIER)
-    (IsUniversalAt x b.start b.end OBJECT_IDENTIFIER) e c.in-Some-4.is
-    c.in_ok-universal_header.ensures in
+    (IsUniversalAt x b.start b.end OBJECT_IDENTIFIER) e c.in-Some-4.is c.in_ok-universal_header.ensures in
     let signature = MatchOption-at_some (NoUniversalAt x b.end v.end BIT_STRING)
     (IsUniversalAt x b.end v.end BIT_STRING)
     r c.in-Some-5.is c.in_ok-signature.ensures in (

@@ -2,13 +2,13 @@
 use Rattle.std.proofs.Common.{◌≡◌, false, arith}
 use Rattle.std.proofs.lemmas.Grind.{common_steps}
 use Rattle.asn1_blocks.specs.UnknownValues.{is_ascii_tag}
-use Rattle.asn1_outline.proofs.Values.{tree_ascii_text-none, tree_ascii_text-other_tag}
+use Rattle.asn1_outline.proofs.Values.{tree_ascii_text-none, tree_ascii_text-not_ascii}
 use Rattle.asn1_outline.proofs.entry.Entry.ascii_text.Goals as goal
 
 pub returns-then-not-is_ascii_tag : goal.returns-then-not-is_ascii_tag
 returns-then-not-is_ascii_tag c b e =
     let other : is_ascii_tag c.args.self.now.tag ≡ false = grind (arith, common_steps) in
-    tree_ascii_text-other_tag c.args.document.now b c.args.self.now e other
+    tree_ascii_text-not_ascii c.args.document.now b c.args.self.now e other
 
 pub returns-in-None : goal.returns-in-None
 returns-in-None c b e = tree_ascii_text-none b (c.in-None.ensures b e)

@@ -2,13 +2,13 @@
 use Rattle.std.proofs.Common.{◌≡◌, arith}
 use Rattle.std.proofs.lemmas.Grind.{common_steps}
 use Rattle.asn1_headers.specs.declared.tags.TheConstants.{ENUMERATED}
-use Rattle.asn1_outline.proofs.Values.{tree_enumerated-none, tree_enumerated-other_tag}
+use Rattle.asn1_outline.proofs.Values.{tree_enumerated-none, tree_enumerated-not_enumerated}
 use Rattle.asn1_outline.proofs.entry.Entry.enumerated.Goals as goal
 
 pub returns-then-self-ne-ENUMERATED : goal.returns-then-self-ne-ENUMERATED
 returns-then-self-ne-ENUMERATED c b e =
     let other : c.args.self.now.tag ≡ ENUMERATED → ⊥ = grind (arith, common_steps) in
-    tree_enumerated-other_tag c.args.document.now b c.args.self.now e other
+    tree_enumerated-not_enumerated c.args.document.now b c.args.self.now e other
 
 pub returns-in-None : goal.returns-in-None
 returns-in-None c b e = tree_enumerated-none b (c.in-None.ensures b e)

@@ -4,14 +4,14 @@ use Rattle.std.proofs.lemmas.Grind.{common_steps}
 use Rattle.asn1_headers.specs.declared.header.ASN1Class.TheVariants.{Universal}
 use Rattle.asn1_headers.specs.declared.tags.TheConstants.{INTEGER}
 use Rattle.asn1_numbers.specs.TwosComplement.{signed_number}
-use Rattle.asn1_outline.proofs.Values.{tree_integer-entry, tree_integer-other_entry, IsEntryOf-within}
+use Rattle.asn1_outline.proofs.Values.{tree_integer-entry, tree_integer-not_integer, IsEntryOf-within}
 use Rattle.asn1_outline.proofs.entry.Entry.integer.Goals as goal
 
 pub returns-then-not-is_universal : goal.returns-then-not-is_universal
 returns-then-not-is_universal c b e =
     let r = c.args.self.now in
     let other : (r.class ≡ Universal) × (r.tag ≡ INTEGER) → ⊥ = grind (arith, common_steps) in
-    tree_integer-other_entry c.args.document.now b r e other
+    tree_integer-not_integer c.args.document.now b r e other
 
 pub returns-in-Ok : goal.returns-in-Ok
 returns-in-Ok c b e =

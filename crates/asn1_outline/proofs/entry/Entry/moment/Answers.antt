@@ -40,7 +40,6 @@ returns-in-Err-read c b e = elim c.in-Err-read.ensures.refused [
   | inl memory ↦ memory
   | inr fault ↦
       absurd (IsLeafOf-no_fault (tree_offset b) GENERALIZED_TIME c.in-Some-leaf_in.contents.now b
-      (fault_of c.in-Err-read.e)
-      (c.in-Some-leaf_in.ensures b e)
+      (fault_of c.in-Err-read.e) (c.in-Some-leaf_in.ensures b e)
       (of_generalized_time refl fault))
 ]

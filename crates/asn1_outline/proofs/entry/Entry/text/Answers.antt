@@ -3,11 +3,11 @@ use Rattle.std.proofs.Common.{arith, inl, inr, string_bytes, subst}
 use Rattle.std.specs.Str.{chars}
 use Rattle.asn1_headers.specs.Fault.{fault_of}
 use Rattle.asn1_leaves.specs.Contents.Text.{TextContents, TextFault, text_form}
-use Rattle.asn1_outline.proofs.Values.{IsEntryOf-no_text_fault, tree_text-other_entry, tree_text-entry, IsEntryOf-within}
+use Rattle.asn1_outline.proofs.Values.{IsEntryOf-no_text_fault, tree_text-not_string, tree_text-entry, IsEntryOf-within}
 use Rattle.asn1_outline.proofs.entry.Entry.text.Goals as goal
 
 pub returns-in_default : goal.returns-in_default
-returns-in_default c b e = tree_text-other_entry c.args.document.now b c.args.self.now e c.in_default.ensures
+returns-in_default c b e = tree_text-not_string c.args.document.now b c.args.self.now e c.in_default.ensures
 
 pub returns-in-Ok : goal.returns-in-Ok
 returns-in-Ok c b e =

@@ -46,5 +46,4 @@ returns c =
     let inside : IsReadInside h.class h.constructed h.tag = c.if-not-is_read_inside.ensures.0 refl in
     let pushed : c.push.new.self.items ≡ w.outer.items ++ w.inner ∷ [] = c.in_ok-push.ensures.items in
     WalksOn-inside c.args.octets.now w c.requires.walked h c.is_attempt.result c.push.new.self
-    c.in_ok-header.ensures.found
-    inside c.is_attempt.ensures pushed
+    c.in_ok-header.ensures.found inside c.is_attempt.ensures pushed

@@ -9,8 +9,7 @@ returns-then-attempt c =
     let w = c.loop-around.self in
     let popped : w.outer.items ≡ c.pop.new.self.items ++ c.in-Some.around ∷ [] = grind (arith, common_steps) in
     WalksOn-failed_attempt c.args._octets.now w c.in-Some.around c.pop.new.self _ _ _ c.loop-around.invariant.faulty
-    popped
-    c.if-attempt.true
+    popped c.if-attempt.true
 
 pub loop-around-preserved : goal.loop-around-preserved
 loop-around-preserved c =

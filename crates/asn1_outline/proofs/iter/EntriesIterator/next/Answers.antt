@@ -13,8 +13,7 @@ returns-clause-steps c =
     let n = c.min-inside.result in
     let count : n ≡ min (r.next - (it.index + 1)) (length rest) = search rules in
     sym c.self.view_is ∙ still_to_come-step it.all it.index n r it.rest.now rest c.if-self.false
-    c.in_ok-entry.ensures.cases.0
-    count
+    c.in_ok-entry.ensures.cases.0 count
     ∙ ap (λ z. (it.index, r) ∷ still_to_come it.all (it.index + 1 + n) z) (sym (take_rest rest n))
 
 pub returns-clause-goes : goal.returns-clause-goes

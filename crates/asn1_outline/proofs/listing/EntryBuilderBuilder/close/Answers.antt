@@ -9,8 +9,7 @@ use Rattle.asn1_outline.proofs.listing.EntryBuilderBuilder.close.Goals as goal
 pub set_items-requires : goal.set_items-requires
 set_items-requires c =
     entry-lt_length c.args._octets.now c.args.self.now.entries.items (in_frame c.args._extent c.args.items)
-    (in_frame c.requires.extent c.args.parent.now)
-    c.requires.outer c.requires.trees c.requires.holds
+    (in_frame c.requires.extent c.args.parent.now) c.requires.outer c.requires.trees c.requires.holds
 
 pub returns : goal.returns
 returns c =
@@ -20,5 +19,4 @@ returns c =
     let b = c.set_items.new.self in
     let i = c.args.parent.now in
     on_ok_weaker c.add.result (λ u. subst (λ z. HasEndedIn builder_holds x f c.args._depth a i b z) (sym u)
-    (HasEndedIn-entry_builder x a b f i c.args._depth c.set_items.ensures))
-    c.add.ensures
+    (HasEndedIn-entry_builder x a b f i c.args._depth c.set_items.ensures)) c.add.ensures

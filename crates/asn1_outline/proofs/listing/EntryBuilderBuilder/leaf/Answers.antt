@@ -23,8 +23,7 @@ returns c =
     let single = c.in_ok-check_contents.ensures.encoded o (slice_range x o h.end) (h.start - o) found.encoding in
     let built =
     HasLeaf-entry_builder x h o limit c.args.depth a b i c.encoding_entry-block.result found c.requires.leaf single
-    begun
-    c.in_ok-push.ensures in
+    begun c.in_ok-push.ensures in
     record {
       built = subst (λ z. HasLeaf builder_holds x o h.end c.args.depth a i b z) (sym c.in_ok-add.ensures) built;
       refused = tt;

@@ -10,5 +10,4 @@ returns c =
     HasOpened-entry_builder c.args.octets.now c.args.header.now c.args.offset c.args.depth c.args.self.now
     c.push.new.self
     (record { entry = c.len-entry.result; count = 0 }) c.encoding_entry-block.result
-    c.encoding_entry-block.ensures at refl
-    c.in_ok-push.ensures
+    c.encoding_entry-block.ensures at refl c.in_ok-push.ensures

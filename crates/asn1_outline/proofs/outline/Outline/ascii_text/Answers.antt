@@ -15,8 +15,7 @@ returns c ns d =
     let found = c.ascii_text.result in
     let set : IsSet (Option (List ℕ)) = hlevel props in
     IsEntryOf-looked_up o.octets.now o.entries.items ns c.args.index o.document d c.deref.result.now c.in-Some.entry.now
-    c.deref.ensures.value
-    c.in-Some.ensures.lookup.3
+    c.deref.ensures.value c.in-Some.ensures.lookup.3
     (MatchOption found (tree_ascii_text t ≡ None) (λ x. tree_ascii_text t ≡ Some (chars x.now)))
     (MatchOption-is_prop found (tree_ascii_text t) (λ x. chars x.now) set)
     (λ e. c.ascii_text.ensures t e)

@@ -25,8 +25,7 @@ returns-in_default-boolean c ns d =
     let t = tree_at ns c.args.index in
     let set : IsSet (Option Bool) = hlevel props in
     IsEntryOf-looked_up o.octets.now o.entries.items ns c.args.index o.document d c.deref.result.now c.in-Some.entry.now
-    c.deref.ensures.value
-    c.in-Some.ensures.lookup.3 (tree_boolean t ≡ None) (set (tree_boolean t) None)
+    c.deref.ensures.value c.in-Some.ensures.lookup.3 (tree_boolean t ≡ None) (set (tree_boolean t) None)
     (λ e. absurd (c.in_default-boolean.ensures t e))
 
 pub returns-in_default : goal.returns-in_default

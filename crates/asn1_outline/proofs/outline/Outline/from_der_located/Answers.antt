@@ -3,12 +3,12 @@ use Rattle.asn1_outline.proofs.outline.Outline.from_der_located.Goals as goal
 
 pub returns : goal.returns
 returns c =
-    let said = c.from_der_counted.ensures in
+    let ensured = c.from_der_counted.ensures in
     record {
-      document = said.document;
-      lent = said.lent;
-      fault = said.fault;
-      accepts = said.accepts;
+      document = ensured.document;
+      lent = ensured.lent;
+      fault = ensured.fault;
+      accepts = ensured.accepts;
       refuses =
-          said.refuses;
+          ensured.refuses;
     }

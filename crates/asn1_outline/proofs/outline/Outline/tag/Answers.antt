@@ -13,8 +13,7 @@ returns-in-Ok-clause-found c ns d h =
     let tag = c.in-Ok.tag in
     let set : IsSet (Option ℕ) = hlevel props in
     IsEntryOf-looked_up o.octets.now o.entries.items ns c.args.index o.document d c.deref.result.now c.in-Some.entry.now
-    c.deref.ensures.value
-    c.in-Some.ensures.lookup.3 (Some tag ≡ Some (tree_tag t)) (set (Some tag) (Some (tree_tag t)))
+    c.deref.ensures.value c.in-Some.ensures.lookup.3 (Some tag ≡ Some (tree_tag t)) (set (Some tag) (Some (tree_tag t)))
     (λ e. ap Some (c.in-Ok.ensures t e))
 
 pub returns-in-Ok-clause-none : goal.returns-in-Ok-clause-none

@@ -15,8 +15,7 @@ returns-in-Ok c ns d =
     let found = c.in-Ok.found in
     let set : IsSet (Option (List ℕ)) = hlevel props in
     IsEntryOf-looked_up o.octets.now o.entries.items ns c.args.index o.document d c.deref.result.now c.in-Some.entry.now
-    c.deref.ensures.value
-    c.in-Some.ensures.lookup.3
+    c.deref.ensures.value c.in-Some.ensures.lookup.3
     (MatchOption found (tree_text t ≡ None) (λ x. tree_text t ≡ Some (chars (string_bytes x))))
     (MatchOption-is_prop found (tree_text t) (λ x. chars (string_bytes x)) set)
     (λ e. c.in-Ok.ensures t e)

@@ -58,8 +58,7 @@ loop-i-preserved c =
           ∙ ap (λ z. get_or es z no_entry) here in
           let own_next = subst (λ z. IsNext x (node_at ns (k + j)) z (built_trees c.loop-i.built)) (sym same) next in
           built_trees-block_pushed x es ns o.document d k h j l c.loop-i.built c.block_of.new.built c.push.new.self
-          c.in_ok-block.block built
-          (c.in_ok-block.ensures.block (node_at ns (k + j)) own_next)
+          c.in_ok-block.block built (c.in_ok-block.ensures.block (node_at ns (k + j)) own_next)
           (c.in_ok-block.ensures.rest (node_at ns (k + j)) own_next) c.in_ok-push.ensures;
     }
 
