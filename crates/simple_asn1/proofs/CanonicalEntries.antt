@@ -41,9 +41,7 @@ IsCanonicalEncoding-at_offset :
     Encoding y c k n v h → HasCanonicalAt x o → IsCanonicalEncoding y c k n v
 IsCanonicalEncoding-at_offset x y rest o c k n v h s e there =
     let same = Encoding-unique there.octets y there.class c there.constructed k there.tag n there.contents v
-    there.header
-    h
-    there.at_offset.rest rest there.encoding e (sym there.at_offset.at_offset ∙ s) in
+    there.header h there.at_offset.rest rest there.encoding e (sym there.at_offset.at_offset ∙ s) in
     let q0 = there.canonical in
     let q1 = subst (λ z. IsCanonicalEncoding z there.class there.constructed there.tag there.contents) same.octets q0 in
     let q2 = subst (λ z. IsCanonicalEncoding y z there.constructed there.tag there.contents) same.class q1 in
@@ -309,6 +307,7 @@ HasCanonicalAt-group x r s is constructed = HasCanonicalAt-shortest x r s (recor
   leaf = λ u l t m. absurd (of l t);
 })
   where
+    -- the tag number of a SEQUENCE or SET is no leaf's
     of : (l : Leaf) → r.tag ≡ leaf_tag l → ⊥
     of l t = elim is [
       | inl sequence ↦ leaf_tag-not_group_tag l Sequence (sym t ∙ sequence)
@@ -332,9 +331,9 @@ HasCanonicalAt-leaf x w r s primitive is keeps =
     })
 
 -- an encoding of another class with the shortest header is canonical
-pub HasCanonicalAt-other_class : (x : List ℕ) (r : Entry) → HasShortestAt x r → r.class ≢ Universal →
+pub HasCanonicalAt-not_universal : (x : List ℕ) (r : Entry) → HasShortestAt x r → r.class ≢ Universal →
     HasCanonicalAt x r.offset
-HasCanonicalAt-other_class x r s other = HasCanonicalAt-shortest x r s (record {
+HasCanonicalAt-not_universal x r s other = HasCanonicalAt-shortest x r s (record {
   shortest = s.shortest;
   group = λ u g t. absurd (other u);
   primitive = λ u l t. absurd (other u);

@@ -70,11 +70,13 @@ DoesNotFail t = (other : Unfaithful) → FailsBy t other → ⊥
 pub All-does_not_fail : (ts : List (Tree ℕ)) → All IsFaithfulAlone ts → All DoesNotFail ts
 All-does_not_fail ts h = All-weaker IsFaithfulAlone DoesNotFail IsFaithfulAlone-no_failure ts h
 
+-- what holds of all trees of two joined lists holds of all trees of the first list
 All-append_left : (P : Tree ℕ → Type 0) (xs ys : List (Tree ℕ)) → All P (xs ++ ys) → All P xs
 All-append_left P [] ys h = All-nil P
 All-append_left P (x ∷ xs) ys h =
     All-cons P x xs (All-head P x (xs ++ ys) h) (All-append_left P xs ys (All-tail P x (xs ++ ys) h))
 
+-- what holds of all trees of two joined lists holds of all trees of the second list
 All-append_right : (P : Tree ℕ → Type 0) (xs ys : List (Tree ℕ)) → All P (xs ++ ys) → All P ys
 All-append_right P [] ys h = h
 All-append_right P (x ∷ xs) ys h = All-append_right P xs ys (All-tail P x (xs ++ ys) h)
@@ -151,8 +153,7 @@ pub FailsFirst-unique : (t : Tree ℕ) (i j : ℕ) (a b : Unfaithful) → FailsF
 FailsFirst-unique t i j a b h k =
     let s =
     FailsBy-same_place h.before k.before h.failing k.failing h.after k.after a b (sym h.order ∙ k.order) h.none_before
-    k.none_before
-    h.fails k.fails in
+    k.none_before h.fails k.fails in
     (h.index_is ∙ (s.0 ∙ sym k.index_is), s.1)
 
 -- where the trees up to an index are faithful alone and the tree there fails, it is the first that fails
@@ -176,10 +177,12 @@ FailsFirst-at t d order index reason e l h f = record {
 abbrev pub views_of : List (Bor ASN1Block) → List (Tree ℕ)
 views_of order = map (λ (b : Bor ASN1Block). view b.now) order
 
+-- lent blocks have as many trees as there are blocks
 length-views_of : (order : List (Bor ASN1Block)) → length (views_of order) ≡ length order
 length-views_of [] = refl
 length-views_of (b ∷ order) = ap suc (length-views_of order)
 
+-- the tree at an index of the trees of lent blocks is the tree of the block at this index
 get_or-views_of : (order : List (Bor ASN1Block)) (i : ℕ) (d : Bor ASN1Block)
     → get_or (views_of order) i (view d.now) ≡ view (get_or order i d).now
 get_or-views_of [] i d = refl
@@ -216,8 +219,7 @@ FailsFirst-found t order i b reason e l is h f =
       arith,
       l,
       length-views_of order,
-    ))
-    h
+    )) h
     (subst (λ z. FailsBy z reason) (view-get_or order i b is) f)
 
 -- a tree is faithful if each of its blocks was found to be

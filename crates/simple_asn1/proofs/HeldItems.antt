@@ -39,6 +39,7 @@ IsSomeAnd-held_items t (Err e) h bs k = tt
 
 -- Of a block that is made of items: how it is written, and what it holds.
 
+-- trees placed at offsets are as many as before
 tree_count-all_placed : (o : ℕ) (bs : Trees ℕ) → tree_count (all_placed o bs) ≡ tree_count bs
 tree_count-all_placed o no_trees = refl
 tree_count-all_placed o (more_trees b bs) = ap suc (tree_count-all_placed (o + length (canonical b)) bs)

@@ -21,15 +21,15 @@ use Rattle.simple_asn1.specs.Canonical.{shortest_encoding, canonical, all_canoni
 use Rattle.asn1_blocks.specs.Grammar.{Encodes, EncodesAll}
 use Rattle.asn1_blocks.specs.Places.{joined}
 use Rattle.simple_asn1.specs.Inner.InPlace.{AreCanonical, AreCanonicalContents, BeginsShortest, IsOfGroup, LeavesBoth}
-use Rattle.asn1_headers.proofs.Prefixes.{Encoding-unique, IsIdentifier-unique, IsIdentifier-not_empty, IsLength-unique, append-injective}
+use Rattle.asn1_headers.proofs.Prefixes.{Encoding-unique, IsIdentifier-unique, IsIdentifier-not_empty, IsLength-unique, append-injective, append_assoc-four}
 use Rattle.asn1_blocks.proofs.OneReading.{IsBlock-not_empty, IsBlock-encodes, EncodesAll-single}
 use Rattle.asn1_blocks.proofs.Faults.{IsEncoding-block}
 use Rattle.asn1_blocks.proofs.Leaves.{is_known_tag-group_tag, is_known_tag-leaf_tag, leaf_tag-not_group_tag}
 use Rattle.asn1_headers.proofs.Shortest.{IsIdentifier-shortest, length-shortest_identifier_le, shortest_identifier-only, IsLength-shortest, length-shortest_length_le, shortest_length-only}
 use Rattle.asn1_blocks.proofs.Slices.{EncodesAll-joined}
 use Rattle.simple_asn1.proofs.Strict.{IsEncoding-canonical}
-use Rattle.simple_asn1.proofs.WriteSteps.{append-regrouped}
 
+-- the canonical octets of joined trees are the canonical octets of both parts, joined
 all_canonical-joined : (xs ys : Trees ℕ) → all_canonical (joined xs ys) ≡ all_canonical xs ++ all_canonical ys
 all_canonical-joined no_trees ys = refl
 all_canonical-joined (more_trees b xs) ys =
@@ -55,10 +55,9 @@ pub HasCanonicalFront-header :
 HasCanonicalFront-header x s r contents own rest c d j k n p h m w F small e =
     let e1 : F.identifier ++ (F.len ++ (contents ++ r)) ≡ shortest_identifier d k p
     ++ (shortest_length m ++ (own ++ rest)) =
-    append-regrouped F.identifier F.len contents r ∙ (ap (λ z. z ++ r) (sym F.whole) ∙ (sym w ∙ e)) in
+    sym (append_assoc-four F.identifier F.len contents r) ∙ (ap (λ z. z ++ r) (sym F.whole) ∙ (sym w ∙ e)) in
     let t = IsIdentifier-unique F.identifier (shortest_identifier d k p) (F.len ++ (contents ++ r))
-    (shortest_length m ++ (own ++ rest)) c d j k n p
-    F.identifier_octets (IsIdentifier-shortest d k p) e1 in
+    (shortest_length m ++ (own ++ rest)) c d j k n p F.identifier_octets (IsIdentifier-shortest d k p) e1 in
     let l = IsLength-unique F.len (shortest_length m) (contents ++ r) (own ++ rest) (length contents) m F.length_octets
     (IsLength-shortest m small) t.rest in
     record {
@@ -143,22 +142,19 @@ AreCanonical-past x own rest c k n few keeps e after o (more_trees (leaf p l) bs
     let (_, bit, contents, header, F, means) = s.item in
     let f =
     HasCanonicalFront-header x s.first s.rest contents own rest Universal c bit k (leaf_tag l) n header
-    (length own) s.whole F
-    (length-contents_lt x own rest c k n few e) e in
+    (length own) s.whole F (length-contents_lt x own rest c k n few e) e in
     let q = append-injective contents own s.rest rest f.size f.whole in
     let written = keeps.leaf (sym f.class) l (sym f.tag) (subst (LeafContents l) q.0 means) in
     let here =
     f.encoding ∙ shortest_encoding-same_fields c Universal k false n (leaf_tag l) contents (leaf_contents l)
-    (sym f.class)
-    (keeps.primitive (sym f.class) l (sym f.tag)) (sym f.tag) (q.0 ∙ written) in
+    (sym f.class) (keeps.primitive (sym f.class) l (sym f.tag)) (sym f.tag) (q.0 ∙ written) in
     all_canonical-first_and_rest (o + length s.first) x s.first s.rest rest
     (canonical (leaf p l)) bs s.whole s.items here q.1 after
 AreCanonical-past x own rest c k n few keeps e after o (more_trees (group p g held) bs) s =
     let (_, bit, contents, header, F, _) = s.item in
     let f =
     HasCanonicalFront-header x s.first s.rest contents own rest Universal c bit k (group_tag g) n header
-    (length own) s.whole F
-    (length-contents_lt x own rest c k n few e) e in
+    (length own) s.whole F (length-contents_lt x own rest c k n few e) e in
     absurd (keeps.no_group (sym f.class) g (sym f.tag))
 AreCanonical-past x own rest c k n few keeps e after o (more_trees (explicit d p m b) bs) s =
     let (_, other, contents, header, F, encoded) = s.item in
@@ -194,9 +190,7 @@ AreCanonical-into_group x rest g m few small e after o (more_trees (leaf p l) bs
     let (_, bit, contents, header, F, _) = s.item in
     let f =
     HasCanonicalFront-header x s.first s.rest contents [] rest Universal Universal bit true (leaf_tag l)
-    (group_tag g) header m
-    s.whole F
-    small e in
+    (group_tag g) header m s.whole F small e in
     absurd (leaf_tag-not_group_tag l g f.tag)
 AreCanonical-into_group x rest g m few small e after o (more_trees (explicit d p n b) bs) s =
     let (_, other, contents, header, F, _) = s.item in
@@ -207,8 +201,7 @@ AreCanonical-into_group x rest g m few small e after o (more_trees (explicit d p
 AreCanonical-into_group x rest g m few small e after o (more_trees (unknown d j p n v) bs) s =
     let (_, header, F, stays) = s.item in
     let f =
-    HasCanonicalFront-header x s.first s.rest v [] rest d Universal j true n
-    (group_tag g) header m s.whole F small e in
+    HasCanonicalFront-header x s.first s.rest v [] rest d Universal j true n (group_tag g) header m s.whole F small e in
     absurd (elim stays [ inl (_, no_rule) ↦ no_rule.1 g f.tag | inr (class, _) ↦ class f.class ])
 AreCanonical-into_group x rest g m few small e after o (more_trees (group p h held) bs) s =
     let (_, bit, contents, header, F, items) = s.item in
@@ -216,9 +209,7 @@ AreCanonical-into_group x rest g m few small e after o (more_trees (group p h he
     let place = o + header in
     let f =
     HasCanonicalFront-header x s.first r contents [] rest Universal Universal bit true (group_tag h)
-    (group_tag g) header m
-    s.whole F
-    small e in
+    (group_tag g) header m s.whole F small e in
     let size : o + length s.first ≡ place + length contents = omega (
       arith,
       F.size,
@@ -406,6 +397,7 @@ pub LeavesBoth-group : (x rest : List ℕ) (h : Header) → length x < 2 ^ 64 �
     → IsOfGroup h → LeavesBoth x [] rest
 LeavesBoth-group x rest h few small f behind is = elim is.2 [ inl tag ↦ of Sequence tag | inr tag ↦ of Set tag ]
   where
+    -- a header of a SEQUENCE or SET leaves all octets after it, whichever of the two tag numbers it has
     of : (g : GroupKind) → h.tag ≡ group_tag g → LeavesBoth x [] rest
     of g tag = LeavesBoth-into_group x rest g h.announced few small (append-shortest_header x rest h f behind ∙ (
         ap (λ z. shortest_identifier z h.constructed h.tag ++ (shortest_length h.announced ++ rest)) is.0
@@ -470,5 +462,4 @@ pub LeavesBoth-short_leaf : (x own after : List ℕ) (b m : ℕ) → length x < 
 LeavesBoth-short_leaf x own after b m few low short size e keeps =
     LeavesBoth-past x own after Universal false b few
     (append-short_header x (own ++ after) false b b m low (omega arith) short e
-    ∙ ap (λ z. shortest_identifier Universal false b ++ (shortest_length z ++ (own ++ after))) (sym size))
-    keeps
+    ∙ ap (λ z. shortest_identifier Universal false b ++ (shortest_length z ++ (own ++ after))) (sym size)) keeps

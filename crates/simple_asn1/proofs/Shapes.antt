@@ -20,15 +20,18 @@ module _ {O P : Type 0} (f : O → P) (h : Leaf → Leaf) (same_tag : (l : Leaf)
     canonical-mapped (explicit c o n b) = ap (shortest_encoding c true n) (canonical-mapped b)
     canonical-mapped (unknown c k o n v) = refl
 
+    -- trees whose leaves keep their tags and contents octets are written as before
     all_canonical-all_mapped : (bs : Trees O) → all_canonical (all_mapped f h bs) ≡ all_canonical bs
     all_canonical-all_mapped no_trees = refl
     all_canonical-all_mapped (more_trees b bs) =
         ap (λ z. z ++ all_canonical (all_mapped f h bs)) (canonical-mapped b)
         ∙ ap (λ z. canonical b ++ z) (all_canonical-all_mapped bs)
 
+-- what is written of a tree does not depend on its offsets
 pub canonical-shape : {O : Type 0} (b : Tree O) → canonical (shape b) ≡ canonical b
 canonical-shape b = canonical-mapped (λ _. tt) (λ l. l) (λ l. refl) (λ l. refl) b
 
+-- what is written of trees does not depend on their offsets
 pub all_canonical-shapes : {O : Type 0} (bs : Trees O) → all_canonical (shapes bs) ≡ all_canonical bs
 all_canonical-shapes bs = all_canonical-all_mapped (λ _. tt) (λ l. l) (λ l. refl) (λ l. refl) bs
 
@@ -38,12 +41,14 @@ all_canonical-all_normalized bs =
     all_canonical-all_mapped (λ o. o) _ leaf_tag-normalized_leaf leaf_contents-normalized_leaf bs
 
 mutual
+  -- the write fault of a tree does not depend on its offsets
   pub write_fault-shape : {O : Type 0} (b : Tree O) → write_fault (shape b) ≡ write_fault b
   write_fault-shape (leaf o l) = refl
   write_fault-shape (group o g bs) = first_write_fault-shapes bs
   write_fault-shape (explicit c o n b) = write_fault-shape b
   write_fault-shape (unknown c k o n v) = refl
 
+  -- the first write fault of trees does not depend on their offsets
   pub first_write_fault-shapes : {O : Type 0} (bs : Trees O) → first_write_fault (shapes bs) ≡ first_write_fault bs
   first_write_fault-shapes no_trees = refl
   first_write_fault-shapes (more_trees b bs) =
@@ -51,12 +56,14 @@ mutual
       ∙ ap (first_of (write_fault b)) (first_write_fault-shapes bs)
 
 mutual
+  -- whether a tree is faithful does not depend on its offsets
   pub IsFaithful-shape : {O : Type 0} (b : Tree O) → IsFaithful (shape b) ≡ IsFaithful b
   IsFaithful-shape (leaf o l) = refl
   IsFaithful-shape (group o g bs) = AreFaithful-shapes bs
   IsFaithful-shape (explicit c o n b) = ap (λ z. (c ≢ Universal) × z) (IsFaithful-shape b)
   IsFaithful-shape (unknown c k o n v) = refl
 
+  -- whether trees are faithful does not depend on their offsets
   AreFaithful-shapes : {O : Type 0} (bs : Trees O) → AreFaithful (shapes bs) ≡ AreFaithful bs
   AreFaithful-shapes no_trees = refl
   AreFaithful-shapes (more_trees b bs) =

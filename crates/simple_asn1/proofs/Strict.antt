@@ -13,13 +13,12 @@ use Rattle.asn1_blocks.specs.View.{tree_offset, view, views}
 use Rattle.asn1_blocks.specs.Contents.{group_tag, leaf_contents, leaf_tag}
 use Rattle.simple_asn1.specs.Canonical.{shortest_encoding, canonical, all_canonical, first_write_fault, write_fault}
 use Rattle.asn1_blocks.specs.Grammar.{EncodesAll, IsDocument}
-use Rattle.asn1_blocks.specs.Places.{end_before}
+use Rattle.asn1_blocks.specs.Places.{end_before, IsEncoding}
 use Rattle.simple_asn1.specs.ReadBack.{CanonicalDocument}
 use Rattle.simple_asn1.specs.Strict.{EqualByOctets, FirstNotCanonical, EachIsCanonical, StrictFault, top_octets}
 use Rattle.asn1_leaves.proofs.Leaves.Known.{Known-octets}
 use Rattle.asn1_headers.proofs.Prefixes.{Encoding-unique}
 use Rattle.asn1_blocks.proofs.OneReading.{IsBlock-encodes, EncodesAll-unique}
-use Rattle.asn1_blocks.specs.Places.{IsEncoding}
 use Rattle.asn1_blocks.proofs.Faults.{IsEncoding-block}
 use Rattle.asn1_blocks.proofs.FaultsAlone.{FirstFault-unique}
 use Rattle.simple_asn1.proofs.Totality.{IsDocument-or_fault}

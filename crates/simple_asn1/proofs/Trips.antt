@@ -15,12 +15,14 @@ use Rattle.simple_asn1.proofs.Shapes.{all_canonical-shapes, first_write_fault-sh
 use Rattle.asn1_blocks.proofs.Readings.{IsDocument-no_fault}
 
 mutual
+  -- a tree that has no offsets is unchanged without them
   shape-shape : (t : Tree (Unit {0})) → shape t ≡ t
   shape-shape (leaf o l) = refl
   shape-shape (group o g bs) = ap (group tt g) (shapes-shapes bs)
   shape-shape (explicit c o n b) = ap (explicit c tt n) (shape-shape b)
   shape-shape (unknown c k o n v) = refl
 
+  -- trees that have no offsets are unchanged without them
   shapes-shapes : (ts : Trees (Unit {0})) → shapes ts ≡ ts
   shapes-shapes no_trees = refl
   shapes-shapes (more_trees b bs) =

@@ -11,6 +11,7 @@ use Rattle.asn1_blocks.specs.declared.block.ASN1Block.{ASN1Block}
 use Rattle.asn1_headers.specs.declared.error.ASN1EncodeErr.{ASN1EncodeErr}
 use Rattle.simple_asn1.specs.Canonical.{all_canonical, canonical, first_of, first_write_fault, write_fault}
 use Rattle.asn1_headers.specs.Header.{shortest_length}
+use Rattle.asn1_headers.proofs.Prefixes.{append_assoc-four}
 use Rattle.asn1_blocks.specs.Contents.{leaf_write_fault}
 use Rattle.asn1_blocks.specs.Tree.{Tree, leaf, group, explicit, unknown}
 use Rattle.asn1_blocks.specs.Inner.TreeOrder.{IsInTreeOrder, IsNext, inside}
@@ -36,17 +37,15 @@ contents_of-parts (group o g bs) = refl
 contents_of-parts (explicit c o n b) = sym (append-nil _)
 contents_of-parts (unknown c k o n v) = sym (append-nil _)
 
-pub append-regrouped : (i s c x : List ℕ) → i ++ (s ++ (c ++ x)) ≡ (i ++ (s ++ c)) ++ x
-append-regrouped i s c x = sym (append_assoc i (s ++ c) x ∙ ap (λ z. i ++ z) (append_assoc s c x))
-
 -- the canonical octets of a tree are its own and those of the trees that it holds
 canonical-own_octets : (b : Tree ℕ) → canonical b ≡ own_octets b ++ all_canonical (inside b)
 canonical-own_octets b =
     canonical-parts b
     ∙ (ap (λ z. identifier_of b ++ (shortest_length (length (contents_of b)) ++ z)) (contents_of-parts b)
-    ∙ append-regrouped (identifier_of b) (shortest_length (length (contents_of b))) (own_contents b)
-    (all_canonical (inside b)))
+    ∙ sym (append_assoc-four (identifier_of b) (shortest_length (length (contents_of b))) (own_contents b)
+    (all_canonical (inside b))))
 
+-- the canonical octets of joined lists of blocks are the canonical octets of both lists, joined
 all_canonical-append : (xs ys : List ASN1Block) →
     all_canonical (views (xs ++ ys)) ≡ all_canonical (views xs) ++ all_canonical (views ys)
 all_canonical-append [] ys = refl
@@ -67,10 +66,12 @@ all_own_octets-in_order (b ∷ order) blocks (after, n, h) =
     ∙ (ap (λ z. z ++ all_canonical (views n.rest)) (sym (canonical-own_octets (view b)))
     ∙ ap (λ z. all_canonical (views z)) (sym n.first)))
 
+-- the first of a possible fault and of none behind it is the possible fault
 pub first_of-none : (a : Option ASN1EncodeErr) → first_of a None ≡ a
 first_of-none None = refl
 first_of-none (Some e) = refl
 
+-- the first of three possible faults does not depend on their grouping
 first_of-first_of : (a b c : Option ASN1EncodeErr) → first_of a (first_of b c) ≡ first_of (first_of a b) c
 first_of-first_of None b c = refl
 first_of-first_of (Some e) b c = refl
@@ -82,6 +83,7 @@ write_fault-parts (group o g bs) = refl
 write_fault-parts (explicit c o n b) = sym (first_of-none (write_fault b))
 write_fault-parts (unknown c k o n v) = refl
 
+-- the first write fault of joined lists of blocks is the first list's if it has one, and else the second list's
 first_write_fault-append : (xs ys : List ASN1Block) →
     first_write_fault (views (xs ++ ys)) ≡ first_of (first_write_fault (views xs)) (first_write_fault (views ys))
 first_write_fault-append [] ys = refl
@@ -113,17 +115,20 @@ abbrev pub sizes_back : List ASN1Block → List ℕ
 sizes_back [] = []
 sizes_back (b ∷ bs) = sizes_back bs ++ length (canonical (view b)) ∷ []
 
+-- the sizes of joined lists of blocks, the last first, are the sizes of the second list before the sizes of the first
 sizes_back-append : (xs ys : List ASN1Block) → sizes_back (xs ++ ys) ≡ sizes_back ys ++ sizes_back xs
 sizes_back-append [] ys = sym (append-nil (sizes_back ys))
 sizes_back-append (x ∷ xs) ys =
     ap (λ z. z ++ length (canonical (view x)) ∷ []) (sizes_back-append xs ys)
     ∙ append_assoc (sizes_back ys) (sizes_back xs) (length (canonical (view x)) ∷ [])
 
+-- blocks have as many sizes as there are blocks
 length-sizes_back : (bs : List ASN1Block) → length (sizes_back bs) ≡ length bs
 length-sizes_back [] = refl
 length-sizes_back (b ∷ bs) =
     omega (arith, length-append (sizes_back bs) (length (canonical (view b)) ∷ []), length-sizes_back bs)
 
+-- the sizes of blocks add up to the number of all their canonical octets
 pub sum-sizes_back : (bs : List ASN1Block) → sum (sizes_back bs) ≡ length (all_canonical (views bs))
 sum-sizes_back [] = refl
 sum-sizes_back (b ∷ bs) =
@@ -199,6 +204,7 @@ set-measured_size f g order i j x sizes e l k p =
           ∙ (set_at a (f x) c (g x) j n ∙ ap (λ z. a ++ z) (sym d)),
     )
 
+-- a tree has as many canonical octets as it has identifier, length and contents octets together
 pub length-canonical : (b : Tree ℕ) → length (canonical b) ≡ length
     (identifier_of b) + (length (shortest_length (length (contents_of b))) + length (contents_of b))
 length-canonical b =
@@ -209,6 +215,7 @@ length-canonical b =
       length-append (shortest_length (length (contents_of b))) (contents_of b),
     )
 
+-- a tree has as many contents octets as it has own ones, and canonical octets of the trees that it holds
 pub length-contents_of : (b : Tree ℕ) →
     length (contents_of b) ≡ length (own_contents b) + length (all_canonical (inside b))
 length-contents_of b = omega
@@ -250,6 +257,7 @@ own_fault-get_or (x ∷ list) (suc i) m h e f =
     own_fault-get_or list i m (omega (arith, h)) e
     (first_of-none_of_both (own_fault (view x.block.now)) (first_own_fault (measured_blocks list)) f).1
 
+-- the octets that blocks write themselves end with the own octets of the last block
 all_own_octets-append_last : (xs : List Measured) (m : Measured)
     → all_own_octets (measured_blocks (xs ++ m ∷ [])) ≡ all_own_octets (measured_blocks xs)
     ++ own_octets (view m.block.now)

@@ -2,8 +2,7 @@
 //
 // A type names what it reads and writes by ghost members, relations over the trees of blocks. The calls here are proved
 // once, for all types, by these relations alone.
-ghost use Rattle.std.specs.Prelude.{◌≡◌, ◌≢◌, ℕ, List, Result, Ok, Err, IfOk, IfErr};
-ghost use Rattle.std.specs.Prelude.{MatchOption, MatchResult};
+ghost use Rattle.std.specs.Prelude.{◌≡◌, ◌≢◌, ℕ, List, Result, Ok, Err, IfOk, IfErr, MatchOption, MatchResult};
 ghost use Rattle.simple_asn1.specs.Conversions.{AreReadAgain, Decodes, DecodeFails, Encodes, EncodeFails, OwnDecodeFault, OwnEncodeFault, TripFails};
 ghost use Rattle.simple_asn1.specs.Canonical.{all_canonical};
 ghost use Rattle.asn1_blocks.specs.Faithful.{AreFaithful};

@@ -12,7 +12,7 @@ use Rattle.asn1_blocks.specs.Grammar.{IsBlock, AreBlocks, IsDocument}
 mutual
   -- the octets are a block, and no SEQUENCE or SET that is read in it is empty
   pub data IsFullBlock : List ℕ → Type 0 where
-    full_other_class :
+    full_not_universal :
         {octets : List ℕ} {c : ASN1Class} {k : Bool} {n : ℕ} {contents : List ℕ} {h : ℕ} →
         Encoding octets c k n contents h → c ≢ Universal → IsFullBlock octets
     full_unknown_tag :

@@ -16,11 +16,11 @@ pub record HeaderLaws : Type 0 where
   -- of two runs of identifier octets at the front of the same octets, the octets, classes, constructed bits and tag
   -- numbers are equal
   pub one_identifier :
-      (first second behind beyond : List ℕ) (class other_class : ASN1Class)
-      (constructed other_constructed : Bool) (tag other_tag : ℕ) →
-      IsIdentifier first class constructed tag → IsIdentifier second other_class other_constructed other_tag →
+      (first second behind beyond : List ℕ) (class second_class : ASN1Class)
+      (constructed second_constructed : Bool) (tag second_tag : ℕ) →
+      IsIdentifier first class constructed tag → IsIdentifier second second_class second_constructed second_tag →
       first ++ behind ≡ second ++ beyond →
-      (first ≡ second) × (class ≡ other_class) × (constructed ≡ other_constructed) × (tag ≡ other_tag)
+      (first ≡ second) × (class ≡ second_class) × (constructed ≡ second_constructed) × (tag ≡ second_tag)
   -- of two runs of length octets at the front of the same octets, the octets and the lengths are equal
   pub one_length :
       (first second behind beyond : List ℕ) (size other : ℕ) →
@@ -29,14 +29,14 @@ pub record HeaderLaws : Type 0 where
   -- of two encodings at the front of the same octets, the octets, classes, constructed bits, tag numbers, contents
   -- octets and sizes of the headers are equal
   pub one_encoding :
-      (first second behind beyond : List ℕ) (class other_class : ASN1Class)
-      (constructed other_constructed : Bool) (tag other_tag : ℕ) (contents other_contents : List ℕ)
-      (header other_header : ℕ) →
+      (first second behind beyond : List ℕ) (class second_class : ASN1Class)
+      (constructed second_constructed : Bool) (tag second_tag : ℕ) (contents second_contents : List ℕ)
+      (header second_header : ℕ) →
       Encoding first class constructed tag contents header →
-      Encoding second other_class other_constructed other_tag other_contents other_header →
+      Encoding second second_class second_constructed second_tag second_contents second_header →
       first ++ behind ≡ second ++ beyond →
-      (first ≡ second) × (class ≡ other_class) × (constructed ≡ other_constructed) × (tag ≡ other_tag)
-      × (contents ≡ other_contents) × (header ≡ other_header)
+      (first ≡ second) × (class ≡ second_class) × (constructed ≡ second_constructed) × (tag ≡ second_tag)
+      × (contents ≡ second_contents) × (header ≡ second_header)
   -- the shortest octets of a base-128 number are such octets
   pub base128_is : (number : ℕ) → IsBase128 (shortest_base128 number) number
   -- the shortest identifier octets of a class, constructed bit and tag number are identifier octets of these

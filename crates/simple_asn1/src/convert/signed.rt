@@ -1,12 +1,10 @@
 // A type that keeps octets of its document: what was signed, with the algorithm and the signature.
-ghost use Rattle.std.specs.Prelude.{◌≡◌, ◌≢◌, ◌⊎◌, ℕ, List, IfOk, IfErr, IsErrAnd};
-ghost use Rattle.std.specs.Prelude.{MatchOption, MatchResult};
+ghost use Rattle.std.specs.Prelude.{◌≡◌, ◌≢◌, ◌⊎◌, ℕ, List, IfOk, IfErr, IsErrAnd, MatchOption, MatchResult};
 ghost use Rattle.asn1_headers.specs.Fault.{OutOfMemoryOr};
 ghost use Rattle.asn1_blocks.specs.Grammar.{IsDocument, FirstFault};
 ghost use Rattle.asn1_blocks.specs.Places.{HasOctets, rebased};
-ghost use Rattle.simple_asn1.specs.SignedTrees.{HasFields, IsOfAnotherShape, IsSigned, ReadsSigned};
+ghost use Rattle.simple_asn1.specs.SignedTrees.{HasFields, IsOfAnotherShape, IsSigned, ReadsSigned, SignedParts, algorithm_tree, signed_tree, signed_trees};
 ghost use Rattle.simple_asn1.specs.Inner.Algorithm.{IsAlgorithm};
-ghost use Rattle.simple_asn1.specs.SignedTrees.{SignedParts, algorithm_tree, signed_tree, signed_trees};
 ghost use Rattle.asn1_blocks.specs.Tree.{Trees, bit_string, leaf, more_trees, no_trees, object_identifier};
 ghost use Rattle.asn1_blocks.specs.View.{tree_offset, view};
 ghost use Rattle.simple_asn1.specs.declared.convert.signed.TripleErr.TheVariants.{Codec, Shape};

@@ -9,16 +9,14 @@ pub returns-in-Err-clause-own : goal.returns-in-Err-clause-own
 returns-in-Err-clause-own g c k =
     let x = c.args.x.now in
     OwnEncodeFault-own (g.T.ToASN1.writes x Universal) (g.T.RoundTrip.trees_of x) (g.met.T.RoundTrip.written x)
-    g.T.Error.From-2.from_gives c.in-Err.e
-    k c.in-Err.ensures.refused
+    g.T.Error.From-2.from_gives c.in-Err.e k c.in-Err.ensures.refused
 
 pub returns-in-Ok-der_decode-clause-decoded : goal.returns-in-Ok-der_decode-clause-decoded
 returns-in-Ok-der_decode-clause-decoded g c =
     let x = c.args.x.now in
     let e = c.deref.ensures.value
     ∙ all_canonical-encoded (g.T.ToASN1.writes x Universal) (g.T.RoundTrip.trees_of x) (g.met.T.RoundTrip.written x)
-    c.in-Ok.octets.items
-    c.in-Ok.ensures.encoded in
+    c.in-Ok.octets.items c.in-Ok.ensures.encoded in
     subst (λ z. Decodes g.T.FromASN1.reads z c.in-Ok-der_decode.y) e c.in-Ok-der_decode.ensures.decoded
 
 pub returns-in-Ok-der_decode-clause-same : goal.returns-in-Ok-der_decode-clause-same
@@ -39,8 +37,7 @@ returns-clause-refused g c =
     let x = c.args.x.now in
     let e = c.deref.ensures.value
     ∙ all_canonical-encoded (g.T.ToASN1.writes x Universal) (g.T.RoundTrip.trees_of x) (g.met.T.RoundTrip.written x)
-    c.in-Ok.octets.items
-    c.in-Ok.ensures.encoded in
+    c.in-Ok.octets.items c.in-Ok.ensures.encoded in
     subst (λ z. DecodeFails g.T.FromASN1.reads g.T.Error.From-1.from_gives z c.in-Err-der_decode.e) e
     c.in-Err-der_decode.ensures.refused
 

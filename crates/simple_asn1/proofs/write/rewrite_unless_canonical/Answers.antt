@@ -6,12 +6,12 @@ use Rattle.simple_asn1.proofs.write.rewrite_unless_canonical.Goals as goal
 pub returns-clause-accepts : goal.returns-clause-accepts
 returns-clause-accepts c =
     let small : length c.args.i.now < 2 ^ 64 = omega arith in
-    let said = c.written_unless_canonical.ensures in
-    IsDocument-written_accepted c.args.i.now c.written_unless_canonical.result small said.document said.fault
+    let ensured = c.written_unless_canonical.ensures in
+    IsDocument-written_accepted c.args.i.now c.written_unless_canonical.result small ensured.document ensured.fault
 
 pub returns-clause-refuses : goal.returns-clause-refuses
 returns-clause-refuses c =
     let small : length c.args.i.now < 2 ^ 64 = omega arith in
-    let said = c.written_unless_canonical.ensures in
+    let ensured = c.written_unless_canonical.ensures in
     FirstFaultAt-refused c.args.i.now c.written_unless_canonical.result small
-    (IfOk-written_document c.args.i.now c.written_unless_canonical.result said.document) said.fault
+    (IfOk-written_document c.args.i.now c.written_unless_canonical.result ensured.document) ensured.fault

@@ -35,9 +35,7 @@ returns c =
     let three : length items ≡ 3 = omega (arith, c.in-len3.len_at_least, c.in-len3.len_below) in
     let (p, is, content, end, algorithm, bits, signature) =
     signed_tree-three_items t (tree_offset t)
-    items c.content-item.result c.algorithm-item.result c.signature-item.result
-    c.in_ok-algorithm.algorithm.now
+    items c.content-item.result c.algorithm-item.result c.signature-item.result c.in_ok-algorithm.algorithm.now
     c.in_ok-bits.bits c.in_ok-bits.signature.now three c.content-item.is c.algorithm-item.is c.signature-item.is
-    c.in_ok-sequence_items.ensures.items
-    c.in_ok-algorithm.ensures c.in_ok-bits.ensures in
+    c.in_ok-sequence_items.ensures.items c.in_ok-algorithm.ensures c.in_ok-bits.ensures in
     (p, is, content, c.offset-end.ensures ∙ end, algorithm, bits, signature)

@@ -10,7 +10,7 @@ is_canonical-requires c =
     (omega (arith, c.loop-entry-test.true))
 
 pub returns : goal.returns
-returns c said bs document =
+returns c is_true bs document =
     let (own, read, are) = c.requires in
     all_canonical-entries c.args.octets.now own bs c.args.entries.now are
     (λ k h. c.loop-entry.invariant k (omega (arith, h, c.loop-entry-test.false))) document read

@@ -8,6 +8,6 @@ pub split_at-requires : goal.split_at-requires
 split_at-requires c = omega (arith, HasHeaderAt-within c.args.octets.now c.args.entry.now c.requires)
 
 pub returns-then-begin_with_frequent : goal.returns-then-begin_with_frequent
-returns-then-begin_with_frequent c said =
+returns-then-begin_with_frequent c is_true =
     HasCanonicalAt-front c.args.octets.now c.args.entry.now c.requires
     (subst BeginsCanonical c.split_at.ensures.back (c.begin_with_frequent.ensures c.if-begin_with_frequent.true))

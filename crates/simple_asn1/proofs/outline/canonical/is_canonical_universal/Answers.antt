@@ -9,7 +9,7 @@ returns-then-is_group_tag c constructed =
     (c.is_group_tag.ensures c.if-is_group_tag.true) constructed
 
 pub returns : goal.returns
-returns c said =
+returns c is_true =
     let r = c.args.entry.now in
     HasCanonicalAt-leaf c.args.octets.now c.contents_in.result.now r c.requires.shortest c.if-entry.false
-    c.contents_in.ensures (c.are_leaf_contents_canonical.ensures said)
+    c.contents_in.ensures (c.are_leaf_contents_canonical.ensures is_true)

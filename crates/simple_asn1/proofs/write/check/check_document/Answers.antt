@@ -12,5 +12,4 @@ pub returns-clause-refuses : goal.returns-clause-refuses
 returns-clause-refuses c =
     let small : length c.args.i.now < 2 ^ 64 = omega arith in
     FirstFaultAt-refused c.args.i.now c.checked.result small
-    (IfOk-checked_document c.args.i.now c.checked.result c.checked.ensures.document)
-    c.checked.ensures.fault
+    (IfOk-checked_document c.args.i.now c.checked.result c.checked.ensures.document) c.checked.ensures.fault

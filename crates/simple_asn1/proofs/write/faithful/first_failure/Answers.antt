@@ -20,8 +20,7 @@ returns-in-Some c =
     let within : c.loop-index.index < length c.deref-block-items.result.now = grind (arith, common_steps) in
     let fails : FailsBy (view c.block-item.result.now) c.in-Some.reason = rw c.in-Some.is at c.in_ok-reason.ensures in
     FailsFirst-found (view c.args.whole.now) list c.loop-index.index c.block-item.result c.in-Some.reason order within
-    c.block-item.is
-    c.loop-index.invariant fails
+    c.block-item.is c.loop-index.invariant fails
 
 pub loop-index-preserved : goal.loop-index-preserved
 loop-index-preserved c =

@@ -25,7 +25,7 @@ headers-preserved c next outer =
     (subst (All Waits) (sym items) (All-push Waits left c.in-Some-pop.next outer next))
 
 pub returns-in-None-clause-canonical : goal.returns-in-None-clause-canonical
-returns-in-None-clause-canonical c said =
+returns-in-None-clause-canonical c is_true =
     let items : c.headers.outer.items ≡ [] = grind (arith, common_steps) in
     c.headers.invariant (AreCanonical-empty c.headers.rest.now (grind (arith, common_steps)))
     (subst (All Waits) (sym items) (All-nil Waits))

@@ -17,8 +17,7 @@ returns-then-header c =
     let whole : rest ≡ own ++ after = grind (arith, common_steps) in
     let size : length own ≡ c.args.header.now.announced = grind (arith, common_steps) in
     LeavesBoth-constructed c.args.octets.now rest own after c.args.header.now
-    (omega arith) c.requires c.split_at.ensures.back
-    whole size c.in_default.not-Universal
+    (omega arith) c.requires c.split_at.ensures.back whole size c.in_default.not-Universal
 
 pub returns-else-not-are_contents_canonical : goal.returns-else-not-are_contents_canonical
 returns-else-not-are_contents_canonical c =
@@ -28,8 +27,7 @@ returns-else-not-are_contents_canonical c =
     let whole : rest ≡ own ++ after = grind (arith, common_steps) in
     let size : length own ≡ c.args.header.now.announced = grind (arith, common_steps) in
     LeavesBoth-universal c.args.octets.now rest own after c.args.header.now
-    (omega arith) c.requires c.split_at.ensures.back
-    whole size c.in-Universal.is
+    (omega arith) c.requires c.split_at.ensures.back whole size c.in-Universal.is
     (c.are_contents_canonical.ensures c.if-not-are_contents_canonical.false)
 
 pub returns-else-header : goal.returns-else-header
@@ -40,6 +38,4 @@ returns-else-header c =
     let whole : rest ≡ own ++ after = grind (arith, common_steps) in
     let size : length own ≡ c.args.header.now.announced = grind (arith, common_steps) in
     LeavesBoth-primitive c.args.octets.now rest own after c.args.header.now
-    (omega arith) c.requires c.split_at.ensures.back
-    whole size c.in_default.not-Universal
-    c.if-header.false
+    (omega arith) c.requires c.split_at.ensures.back whole size c.in_default.not-Universal c.if-header.false

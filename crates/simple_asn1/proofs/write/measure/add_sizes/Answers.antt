@@ -64,8 +64,7 @@ loop-i-preserved c =
     let g = sym (get_or-map (λ (m : Measured). m.block.now) c.loop-i.list j c.index-list-i.result b h)
     ∙ ap (λ z. get_or z j b) c.loop-i.invariant.blocks in
     let steps = MeasuresBlock-at order i j b c.loop-i.sizes.items c.loop-i.sizes.len c.blocks_inside.result.now a l g
-    c.loop-i.sizes.ok.0 c.loop-i.invariant.sizes
-    c.blocks_inside.ensures in
+    c.loop-i.sizes.ok.0 c.loop-i.invariant.sizes c.blocks_inside.ensures in
     let some = IsInTreeOrder-drop order c.requires.ordered.0 j c.requires.ordered.1 (omega (arith, l)) in
     let s = steps some.0 some.1 in
     let p = set-measured_size own_size_of contents_size_of order i j b (measured_sizes c.loop-i.list) a l g

@@ -49,5 +49,4 @@ loop-walk-preserved c =
 pub returns-clause-ordered : goal.returns-clause-ordered
 returns-clause-ordered c =
     IsInTreeOrder-found (measured_blocks c.loop-walk.list.items) (ahead c.loop-walk.walk) c.args.blocks.now
-    c.loop-walk.invariant.found
-    (rw c.in_default.is at c.in_ok-block.ensures)
+    c.loop-walk.invariant.found (rw c.in_default.is at c.in_ok-block.ensures)

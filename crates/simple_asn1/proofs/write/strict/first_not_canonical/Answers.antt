@@ -22,8 +22,7 @@ slice_bounds-are_canonical-end c =
     let o = c.loop-k.start in
     let rest = views (drop (k + 1) xs) in
     let s = ComparesFirst-at i o (view c.index-blocks-k.result) rest c.end_at-end.result c.loop-k.invariant.within
-    c.end_at-end.ensures
-    (subst (EncodesAll o (drop o i)) v c.loop-k.invariant.left) in
+    c.end_at-end.ensures (subst (EncodesAll o (drop o i)) v c.loop-k.invariant.left) in
     let a : o ≤ c.end_at-end.result = s.from in
     let b : c.end_at-end.result ≤ length i = s.to in
     grind (arith, common_steps)
@@ -60,8 +59,7 @@ returns-then-not-branch-clause-found c =
     let v = views-drop xs k c.index-blocks-k.result c.loop-k-test.true c.index-blocks-k.is in
     let rest = views (drop (k + 1) xs) in
     let s = ComparesFirst-at i o (view c.index-blocks-k.result) rest c.end_at-end.result c.loop-k.invariant.within
-    c.end_at-end.ensures
-    (subst (EncodesAll o (drop o i)) v c.loop-k.invariant.left) in
+    c.end_at-end.ensures (subst (EncodesAll o (drop o i)) v c.loop-k.invariant.left) in
     let one = ap (λ z. all_canonical (views z)) c.from_ref.ensures.value
     ∙ append-nil (canonical (view c.index-blocks-k.result)) in
     let differs : slice_range i o c.end_at-end.result ≢ canonical (view c.index-blocks-k.result) =

@@ -18,8 +18,7 @@ pub returns-clause-not_canonical : goal.returns-clause-not_canonical
 returns-clause-not_canonical c offset n =
     let read = c.strict_blocks.ensures in
     StrictFault-refused c.args.i.now c.strict_blocks.result (omega arith) read.document read.fault
-    (not_canonical offset)
-    (inr (offset, n, refl))
+    (not_canonical offset) (inr (offset, n, refl))
 
 pub returns-clause-equal : goal.returns-clause-equal
 returns-clause-equal c = EqualByOctets-read c.args.i.now c.strict_blocks.result c.strict_blocks.ensures.document
