@@ -37,6 +37,7 @@ record StandsBetween (i u x v : List ℕ) (e : ℕ) : Type 0 where
   pub end : e ≡ length u + length x
   pub small : length x < 2 ^ 64
 
+-- in a document the contents octets of an encoding stand behind its header, and end where the encoding ends
 StandsBetween-inside : (i u x v : List ℕ) (e : ℕ) (c : ASN1Class) (k : Bool) (n : ℕ) (w : List ℕ) (h : ℕ)
     (F : Encoding x c k n w h) →
     StandsBetween i u x v e →
@@ -55,6 +56,7 @@ StandsBetween-inside i u x v e c k n w h F s = record {
   small = length-contents-lt x c k n w h F s.small;
 }
 
+-- the octets before an encoding and the size of its header add up to the octets before its contents octets
 add-header_size : (u x : List ℕ) (c : ASN1Class) (k : Bool) (n : ℕ) (w : List ℕ) (h : ℕ) (F : Encoding x c k n w h) →
     length u + h ≡ length (u ++ (F.identifier ++ F.len))
 add-header_size u x c k n w h F =
@@ -96,18 +98,17 @@ mutual
       let small = length-contents-lt x c true n w h F at.small in
       let G = IsEncoding-block w (IsBlock-encodes (length u + h) w b item) in
       let one = AreDer-first w w [] G.class G.constructed G.tag G.contents G.header G.encoding (sym (append-nil w))
-      small
-      (whole.items refl) in
+      small (whole.items refl) in
       let same : w ≡ canonical b =
       IsDerEncoding-plain_canonical b i (u ++ (F.identifier ++ F.len)) w v e
-      (StandsBetween-inside i u x v e c true n w h F at)
-      (AreOctets-contents x c true n w h F all)
+      (StandsBetween-inside i u x v e c true n w h F at) (AreOctets-contents x c true n w h F all)
       (subst (λ z. Encodes z w b) (add-header_size u x c true n w h F) item) one.der
       (λ o l j t. plain o l j (in_explicit t)) in
       whole.alone.0.whole ∙ ap (shortest_encoding c true n) same
   IsDerEncoding-plain_canonical (unknown c k p n w) i u x v e at all (o, h, F, stays) d plain =
       (IsWhole-der x c k n w h at.small F d).alone.0.whole
 
+  -- encodings of DER are the canonical octets of the trees, where no leaf in them is written otherwise
   AreDer-plain_canonical :
       (bs : Trees ℕ) (i u x v : List ℕ) (e : ℕ) → StandsBetween i u x v e → AreOctets x → EncodesAll (length u) x bs →
       AreDer x →
@@ -164,6 +165,8 @@ record AreCanonicalParts (first rest : List ℕ) (b : Tree ℕ) (bs : Trees ℕ)
   pub one : first ≡ canonical b
   pub others : rest ≡ all_canonical bs
 
+-- canonical octets with an encoding of the first tree in front split into the canonical octets of this tree and of the
+-- trees behind it
 all_canonical-fronts :
     (o : ℕ) (x first rest : List ℕ) (b : Tree ℕ) (bs : Trees ℕ) → length x < 2 ^ 64 → Encodes o first b →
     x ≡ first ++ rest →
@@ -173,11 +176,11 @@ all_canonical-fronts o x first rest b bs small s w e =
     let G =
     IsEncoding-canonical b (omega (arith, small, ap length e, length-append (canonical b) (all_canonical bs))) in
     let same = Encoding-unique first (canonical b) F.class G.class F.constructed G.constructed F.tag G.tag F.contents
-    G.contents F.header G.header
-    rest (all_canonical bs) F.encoding G.encoding (sym w ∙ e) in
+    G.contents F.header G.header rest (all_canonical bs) F.encoding G.encoding (sym w ∙ e) in
     record { one = same.octets; others = same.rest }
 
 mutual
+  -- what stands in a tree of canonical octets that are DER stands in canonical octets of DER itself
   IsCanonicalAt-in_tree :
       (a : Tree ℕ) (e : ℕ) (b : Tree ℕ) (j : ℕ) (i u x v : List ℕ) → StandsBetween i u x v e → Encodes (length u) x a →
       IsDerEncoding x →
@@ -205,13 +208,13 @@ mutual
       let whole = IsWhole-der x c true n contents size at.small F d in
       let G = IsEncoding-block contents (IsBlock-encodes (length u + size) contents y inner) in
       let one = AreDer-first contents contents [] G.class G.constructed G.tag G.contents G.header G.encoding
-      (sym (append-nil contents))
-      (length-contents-lt x c true n contents size F at.small) (whole.items refl) in
+      (sym (append-nil contents)) (length-contents-lt x c true n contents size F at.small) (whole.items refl) in
       IsCanonicalAt-in_tree y e b j i (u ++ (F.identifier ++ F.len)) contents v
       (StandsBetween-inside i u x v e c true n contents size F at)
       (subst (λ z. Encodes z contents y) (add-header_size u x c true n contents size F) inner) one.der
       (shortest_encoding-same_contents x c c true true n n contents (canonical y) size at.small F same) t
 
+  -- what stands among trees whose canonical octets, joined, are DER stands in canonical octets of DER itself
   IsCanonicalAt-among_trees :
       (bs : Trees ℕ) (e : ℕ) (b : Tree ℕ) (j : ℕ) (i u x v : List ℕ) → StandsBetween i u x v e →
       EncodesAll (length u) x bs →
@@ -228,8 +231,7 @@ mutual
         whole = middle-first i u x v at.whole s.first s.rest s.whole;
         end = end_before-encodes (length u + length s.first) e s.rest cs s.items (omega (arith, at.end, size));
         small = omega (arith, at.small, size);
-      })
-      s.item parts.der f.one t
+      }) s.item parts.der f.one t
   IsCanonicalAt-among_trees bs e b j i u x v at s d same (in_later {a = a} {bs = cs} t) =
       let F = IsEncoding-block s.first (IsBlock-encodes (length u) s.first a s.item) in
       let parts =
@@ -273,8 +275,7 @@ pub IsDer-canonical_iff_plain :
 IsDer-canonical_iff_plain i bs all small d s = (
   λ same o l octets contents header h F.
       let f = IsCanonicalAt-among_trees bs (length i) (leaf o l) h.end i [] i [] (StandsBetween-whole i small) s.blocks
-      (d.items, d.encodings)
-      same h.place in
+      (d.items, d.encodings) same h.place in
       let here : octets ≡ f.octets = h.octets_are ∙ f.at o f.encoded.0 in
       is_written_otherwise-canonical_leaf f.octets f.offset o l contents header f.small f.encoded f.der f.same
       (subst (λ z. Encoding z Universal false (leaf_tag l) contents header) here F),

@@ -13,11 +13,13 @@ use Rattle.asn1_blocks.specs.declared.block.GroupKind.TheVariants.{Sequence, Set
 use Rattle.asn1_der.specs.Contents.{HasDerContents}
 use Rattle.asn1_der.specs.Der.{IsRightAlone, is_constructed_type}
 
+-- an encoding is at least as long as its contents octets
 pub length-contents-le : (x : List ℕ) (c : ASN1Class) (k : Bool) (n : ℕ) (v : List ℕ) (h : ℕ) → Encoding x c k n v h →
     length v ≤ length x
 length-contents-le x c k n v h e =
     omega (arith, ap length e.whole, length-append e.identifier (e.len ++ v), length-append e.len v)
 
+-- an encoding of fewer than 2 ^ 64 octets has fewer than 2 ^ 64 contents octets
 pub length-contents-lt : (x : List ℕ) (c : ASN1Class) (k : Bool) (n : ℕ) (v : List ℕ) (h : ℕ) → Encoding x c k n v h →
     length x < 2 ^ 64 → length v < 2 ^ 64
 length-contents-lt x c k n v h e small =
@@ -47,10 +49,12 @@ pub IsRightAlone-primitive :
 IsRightAlone-primitive n true v e r = absurd (false≢true (sym e ∙ r.0))
 IsRightAlone-primitive n false v e r = (refl, r.2)
 
+-- an encoding with the tag of a leaf that is right by itself is primitive, and its contents octets are DER
 pub IsRightAlone-leaf : (l : Leaf) (k : Bool) (v : List ℕ) → IsRightAlone Universal k (leaf_tag l) v →
     (k ≡ false) × HasDerContents (leaf_tag l) v
 IsRightAlone-leaf l k v r = IsRightAlone-primitive (leaf_tag l) k v (is_constructed_type-leaf_tag l) r
 
+-- the tag of a group is one of a constructed type
 is_constructed_type-group_tag : (g : GroupKind) → is_constructed_type (group_tag g) ≡ true
 is_constructed_type-group_tag Sequence = refl
 is_constructed_type-group_tag Set = refl

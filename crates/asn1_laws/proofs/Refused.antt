@@ -28,6 +28,7 @@ IsFaultOfDer-longer : (x y : List ℕ) (e : DecodeFault) → length x ≤ length
 IsFaultOfDer-longer x y e more (of_string kind contents other f) = of_string kind contents other f
 IsFaultOfDer-longer x y e more (of_bits size many f) = of_bits size (omega (arith, many, more)) f
 
+-- the contents octets of a BOOLEAN of DER are one octet
 length-is_boolean : (contents : List ℕ) → is_boolean contents ≡ true → length contents ≡ 1
 length-is_boolean [] t = absurd cc
 length-is_boolean (b ∷ []) t = refl
@@ -55,6 +56,7 @@ are_subidentifiers-components (b ∷ c ∷ more) t =
     ObjectIdentifierContents-ended b (c ∷ more)
     (omega (arith, (EndUnpadded-subidentifiers (b ∷ c ∷ more) t).last, get_or-last_cons b c more))
 
+-- what follows from every moment that contents octets mean holds where they mean one
 IsMoment-contents : (P : Type 0) (contents : List ℕ) → IsMoment contents →
     ((m : Moment) → GeneralizedTimeContents m contents → P) → P
 unfolding IsMoment
@@ -99,6 +101,7 @@ is_constructed_type-string_tag ia5 = refl
 is_constructed_type-string_tag universal = refl
 is_constructed_type-string_tag bmp = refl
 
+-- a tag number is of no constructed type if contents octets have a fault of a leaf with it
 is_constructed_type-leaf_fault : (n : ℕ) (contents : List ℕ) (e : DecodeFault) → LeafFault n contents e →
     is_constructed_type n ≡ false
 is_constructed_type-leaf_fault n contents e (of_boolean t f) = ap is_constructed_type t
@@ -160,6 +163,8 @@ IsFaultOfDer-blocks x e o small d
     (IsFaultOfDer-blocks v e i (length-contents-lt y Universal k (group_tag g) v h F part)
     (whole.items (IsRightAlone-group g k v whole.alone.1)) f)
 
+-- the first fault of octets that are DER, but no document, is one that DER has: of a string in another code, or of a
+-- BIT STRING of too many bits
 pub IsFaultOfDer-document : (x : List ℕ) (e : DecodeFault) → length x < 2 ^ 64 → IsDer x → FirstFault x e →
     IsFaultOfDer x e
 IsFaultOfDer-document x e small d (o, inl f) = absurd (omega (arith, d.some, ap length f.0))

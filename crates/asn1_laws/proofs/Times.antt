@@ -1,12 +1,12 @@
 -- A GeneralizedTime that is DER, with at most nine digits of a fraction, is written as it came, for
--- `laws::law_der_is_canonical` and `laws::law_written_is_der`.
-use Rattle.std.proofs.Common.{◌≡◌, ◌≢◌, ◌==◌, ℕ, zero, ◌+◌, ◌-◌, ◌<◌, ◌≤◌, ◌⊎◌, Bool, true, false, not, List, [], ◌∷◌, ◌++◌, inl, inr, length, get_or, refl, sym, ap, ap₂, ◌∙◌, arith, length-append}
+-- `laws::law_der_is_canonical`.
+use Rattle.std.proofs.Common.{◌≡◌, ◌≢◌, ◌==◌, ℕ, zero, ◌-◌, ◌<◌, ◌≤◌, ◌⊎◌, Bool, true, false, not, List, [], ◌∷◌, ◌++◌, inl, inr, length, get_or, refl, sym, ap, ap₂, ◌∙◌, arith, length-append}
 use Rattle.std.specs.Prelude.{◌&&◌, ◌||◌, nat_lt}
 use Rattle.std.specs.Char.{is_ascii_digit}
 use Rattle.std.specs.List.{list_all}
+use Rattle.asn1_leaves.proofs.CanonicalTimes.{get_or-to_second, length-to_second}
 use Rattle.std.proofs.lemmas.Bool.{and_parts, cases_lt, false≢true}
 use Rattle.std.proofs.lemmas.Bool.Decides.{nat_tests}
-use Rattle.std.proofs.lemmas.List.{get_or-append-add}
 use Rattle.asn1_leaves.specs.Contents.GeneralizedTime.{GeneralizedTimeContents, fraction_number, generalized_time_contents, tenth, to_second, written_fraction}
 use Rattle.asn1_leaves.specs.Contents.Moment.{Moment}
 use Rattle.asn1_der.specs.Padding.{has_padded_fraction, last_octet}
@@ -14,6 +14,7 @@ use Rattle.asn1_laws.specs.Spellings.{has_many_digits}
 use Rattle.asn1_leaves.proofs.Fractions.{is_ascii_digit-range, length-fraction_digits-le, IsFraction-digits, get_or-before_last}
 use Rattle.asn1_leaves.proofs.Leaves.GeneralizedTime.{written_fraction-some}
 
+-- that a condition needs one of two others holds where one of the two holds
 or-either : (a b c : Bool) → (b ≡ true) ⊎ (c ≡ true) → (not a || b || c) ≡ true
 or-either true true c h = refl
 or-either true false true h = refl
@@ -21,11 +22,13 @@ or-either true false false (inl e) = absurd cc
 or-either true false false (inr e) = absurd cc
 or-either false b c h = refl
 
+-- that a condition needs one of two others holds where the condition is false
 or-no_point : (a b c : Bool) → a ≡ false → (not a || b || c) ≡ true
 or-no_point true b c e = absurd cc
 or-no_point false b c e = refl
 
 module _ (contents : List ℕ) (size : 15 < length contents) where
+  -- the test for more than 15 contents octets succeeds where there are more
   nat_lt-15-length : nat_lt 15 (length contents) ≡ true
   nat_lt-15-length = grind (arith, nat_tests, size)
 
@@ -45,6 +48,7 @@ module _ (contents : List ℕ) (size : 15 < length contents) where
       (or-either (get_or contents 14 0 == 46) (get_or contents (length contents - 2) 0 == 48)
       (get_or contents (length contents - 2) 0 == 46) (is h))
     where
+      -- where the octet before the last is a zero or a point, the test for it succeeds
       is : (get_or contents (length contents - 2) 0 ≡ 48) ⊎ (get_or contents (length contents - 2) 0 ≡ 46)
           → ((get_or contents (length contents - 2) 0 == 48) ≡ true)
           ⊎ ((get_or contents (length contents - 2) 0 == 46) ≡ true)
@@ -52,12 +56,6 @@ module _ (contents : List ℕ) (size : 15 < length contents) where
       is (inr e) = inr (ap (λ z. z == 46) e)
 
 module _ (m : Moment) where
-  pub length-to_second : (end : List ℕ) → length (to_second m ++ end) ≡ 14 + length end
-  length-to_second end = length-append (to_second m) end
-
-  pub get_or-to_second : (d : ℕ) (end : List ℕ) → get_or (to_second m ++ d ∷ end) 14 0 ≡ d
-  get_or-to_second d end = get_or-append-add (to_second m) (d ∷ end) 0 0
-
   -- digits behind the seconds are padding without a point
   has_padded_fraction-bare_digits : (digits : List ℕ) → list_all is_ascii_digit digits ≡ true → 0 < length digits
       → has_padded_fraction (to_second m ++ (digits ++ 90 ∷ [])) ≡ true
@@ -67,14 +65,14 @@ module _ (m : Moment) where
       let (low, high) = is_ascii_digit-range d (and_parts (is_ascii_digit d) (list_all is_ascii_digit ds) all).0 in
       let other : (d == 46) ≡ false = grind (arith, nat_tests, low) in
       has_padded_fraction-without_point whole
-      (omega (arith, length-to_second (d ∷ ds ++ 90 ∷ []), length-append ds (90 ∷ [])))
-      (ap (λ z. z == 46) (get_or-to_second d (ds ++ 90 ∷ [])) ∙ other)
+      (omega (arith, length-to_second m (d ∷ ds ++ 90 ∷ []), length-append ds (90 ∷ [])))
+      (ap (λ z. z == 46) (get_or-to_second m d (ds ++ 90 ∷ [])) ∙ other)
 
   -- a point without digits is a padded fraction
   has_padded_fraction-bare_point : has_padded_fraction (to_second m ++ (46 ∷ 90 ∷ [])) ≡ true
   has_padded_fraction-bare_point =
       let whole = to_second m ++ (46 ∷ 90 ∷ []) in
-      has_padded_fraction-padded_end whole (omega (arith, length-to_second (46 ∷ 90 ∷ [])))
+      has_padded_fraction-padded_end whole (omega (arith, length-to_second m (46 ∷ 90 ∷ [])))
       (inr (get_or-before_last (to_second m) (46 ∷ []) 90 (omega arith)))
 
   -- digits that are not padding do not end in 0
@@ -87,7 +85,7 @@ module _ (m : Moment) where
       let is : get_or whole (length whole - 2) 0 ≡ 48 =
       get_or-before_last (to_second m ++ 46 ∷ []) digits 90 some ∙ zero_at_end in
       false≢true (sym unpadded
-      ∙ has_padded_fraction-padded_end whole (omega (arith, length-to_second (46 ∷ (digits ++ 90 ∷ [])), more))
+      ∙ has_padded_fraction-padded_end whole (omega (arith, length-to_second m (46 ∷ (digits ++ 90 ∷ [])), more))
       (inl is))
 
   -- a fraction that is not padded and has at most nine digits is what is written of its nanoseconds
@@ -114,6 +112,8 @@ module _ (m : Moment) where
       ∙ (written_fraction-some (fraction_number tenth digits) f.some ∙ ap (λ z. 46 ∷ z) f.again) in
       e ∙ sym (ap (λ z. z ++ 90 ∷ []) written)
 
+-- contents octets that mean a moment are the octets that are written of it, if their fraction is not padded and has at
+-- most nine digits
 pub GeneralizedTimeContents-der :
     (m : Moment) (contents : List ℕ) → GeneralizedTimeContents m contents → has_padded_fraction contents ≡ false →
     has_many_digits contents ≡ false →
@@ -132,6 +132,7 @@ length-written_fraction-le n = elim (cases_lt 0 n) [
   | inr none ↦ let zero : n ≡ 0 = omega (arith, none) in omega (arith, ap (λ z. length (written_fraction z)) zero)
 ]
 
+-- the contents octets that are written of a moment have at most nine digits of a fraction
 pub has_many_digits-written : (m : Moment) (contents : List ℕ) → contents ≡ generalized_time_contents m →
     has_many_digits contents ≡ false
 has_many_digits-written m contents e =

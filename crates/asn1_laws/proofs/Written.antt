@@ -8,7 +8,7 @@ use Rattle.asn1_blocks.specs.Contents.{leaf_contents, leaf_tag}
 use Rattle.asn1_blocks.specs.Faithful.{AreFaithful, IsFaithful}
 use Rattle.asn1_blocks.specs.Tree.{Leaf, Tree, Trees, leaf, group, explicit, unknown, no_trees, more_trees, boolean, integer, bit_string, octet_string, null, object_identifier, text, utc_time, generalized_time}
 use Rattle.asn1_blocks.specs.declared.block.GroupKind.TheVariants.{Sequence, Set}
-use Rattle.asn1_der.specs.Der.{AreDerEncodings, IsDer, IsDerEncoding, IsShortest, is_constructed_type, is_reserved, more_encodings, no_encodings, of_other_constructed, of_primitive_type, of_sequence, of_set}
+use Rattle.asn1_der.specs.Der.{AreDerEncodings, IsDer, IsDerEncoding, IsShortest, is_constructed_type, is_reserved, more_encodings, no_encodings, of_constructed_not_universal, of_primitive_type, of_sequence, of_set}
 use Rattle.asn1_der.specs.Steps.{AreDer, IsWhole}
 use Rattle.asn1_der.proofs.Encodings.{IsWhole-der, IsDerEncoding-whole, AreDer-first}
 use Rattle.simple_asn1.specs.Canonical.{all_canonical, canonical, shortest_encoding}
@@ -18,6 +18,7 @@ use Rattle.asn1_laws.specs.DerTrees.{AreDerTrees, IsDerTree, each_canonical}
 use Rattle.asn1_laws.proofs.Encodings.{IsRightAlone-leaf}
 use Rattle.asn1_laws.proofs.WrittenLeaves.{is_der_leaf-leaf_contents, HasDerContents-leaf_contents}
 
+-- the shortest encoding has identifier octets in their shortest form and length octets in the fewest octets
 IsShortest-shortest_encoding : (c : ASN1Class) (k : Bool) (n : ℕ) (v : List ℕ) →
     IsShortest (shortest_encoding c k n v) c k n v
 IsShortest-shortest_encoding c k n v = record { whole = refl }
@@ -48,18 +49,18 @@ mutual
       (HasDerContents-leaf_contents l f t)
   IsDerEncoding-canonical (group o Sequence bs) f t =
       of_sequence (IsShortest-shortest_encoding Universal true SEQUENCE (all_canonical bs)) refl
-      (λ e. absurd (omega (arith, e)))
-      (each_canonical bs) (AreDerEncodings-all_canonical bs f t)
+      (λ e. absurd (omega (arith, e))) (each_canonical bs) (AreDerEncodings-all_canonical bs f t)
   IsDerEncoding-canonical (group o Set bs) f t =
       of_set (IsShortest-shortest_encoding Universal true SET (all_canonical bs)) (each_canonical bs)
       (AreDerEncodings-all_canonical bs f t.0) t.1
   IsDerEncoding-canonical (explicit c o n b) f t =
-      of_other_constructed f.0 (IsShortest-shortest_encoding c true n (canonical b)) (canonical b ∷ [])
+      of_constructed_not_universal f.0 (IsShortest-shortest_encoding c true n (canonical b)) (canonical b ∷ [])
       (more_encodings (sym (append-nil (canonical b))) (IsDerEncoding-canonical b f.1 t) no_encodings)
   IsDerEncoding-canonical (unknown c k o n v) f t =
       IsDerEncoding-whole (shortest_encoding c k n v) c k n v
       (record { alone = (IsShortest-shortest_encoding c k n v, t.0); items = t.1 })
 
+  -- the canonical octets of faithful trees of DER are encodings of DER, one of each tree
   AreDerEncodings-all_canonical : (bs : Trees ℕ) → AreFaithful bs → AreDerTrees bs →
       AreDerEncodings (all_canonical bs) (each_canonical bs)
   AreDerEncodings-all_canonical no_trees f t = no_encodings
@@ -95,14 +96,12 @@ mutual
   IsDerTree-canonical (group o Sequence bs) small f d =
       let w = IsWhole-shortest_encoding Universal true SEQUENCE (all_canonical bs) small d in
       AreDerTrees-all_canonical bs
-      (omega (arith, small, length-le_shortest_encoding Universal true SEQUENCE (all_canonical bs))) f
-      (w.items refl)
+      (omega (arith, small, length-le_shortest_encoding Universal true SEQUENCE (all_canonical bs))) f (w.items refl)
   IsDerTree-canonical (group o Set bs) small f d =
       let w = IsWhole-shortest_encoding Universal true SET (all_canonical bs) small d in
       let t =
       AreDerTrees-all_canonical bs
-      (omega (arith, small, length-le_shortest_encoding Universal true SET (all_canonical bs))) f
-      (w.items refl) in
+      (omega (arith, small, length-le_shortest_encoding Universal true SET (all_canonical bs))) f (w.items refl) in
       let (_, (_, in_order)) = w.alone in
       (t, in_order refl (each_canonical bs) (AreDerEncodings-all_canonical bs f t))
   IsDerTree-canonical (explicit c o n b) small f d =
@@ -115,6 +114,7 @@ mutual
       let w = IsWhole-shortest_encoding c k n v small d in
       (w.alone.1, w.items)
 
+  -- faithful trees are trees of DER if their canonical octets, joined, are DER
   AreDerTrees-all_canonical : (bs : Trees ℕ) → length (all_canonical bs) < 2 ^ 64 → AreFaithful bs →
       AreDer (all_canonical bs) →
       AreDerTrees bs
@@ -148,6 +148,7 @@ IsDer-all_canonical bs some small f = (
   λ t. record { some = octets bs some; items = each_canonical bs; encodings = AreDerEncodings-all_canonical bs f t },
 )
   where
+    -- the canonical octets of one tree or more are not empty
     octets : (bs : Trees ℕ) → bs ≢ no_trees → 0 < length (all_canonical bs)
     octets no_trees some = absurd (some refl)
     octets (more_trees b bs) some =

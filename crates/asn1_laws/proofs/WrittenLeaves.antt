@@ -42,6 +42,7 @@ is_integer-unpadded (b ∷ c ∷ more) some zeros ones = elim (cases_lt c 128) [
       ]
 ]
 
+-- the shortest octets of a number are contents octets of DER
 is_integer-shortest_octets : (n : ℤ) → is_integer (shortest_octets n) ≡ true
 is_integer-shortest_octets n =
     is_integer-unpadded (shortest_octets n) (shortest_octets-not_empty n) (shortest_octets-not_zeros n)
@@ -54,6 +55,7 @@ nat_lt-unused n size unused enough e = elim (cases_lt unused 8) [
   | inr high ↦ grind (arith, nat_tests, high, e, enough)
 ]
 
+-- octets of some bits, behind the number of unused ones, are DER exactly if at most 7 are unused, and these are 0
 is_bit_string-some :
     (n : ℕ) (v : List ℕ) → 0 < n → n ≤ 8 * length v → is_bit_string ((8 * length v - n) ∷ v) ≡ are_der_bits n v
 is_bit_string-some n [] some enough = absurd (omega (arith, some, enough))
@@ -64,6 +66,7 @@ is_bit_string-some n (first ∷ more) some enough =
     (nat_lt-unused n (8 * length v) (8 * length v - n) enough refl)
     ∙ ap (λ z. z && nat_lt (8 * length v) (n + 8) && (last_octet v % (2 ^ (8 * length v - n)) == 0)) (sym is)
 
+-- what is written of a faithful BIT STRING is DER exactly if it has bits, and at most 7 unused ones, which are 0
 is_bit_string-bit_string_contents : (n : ℕ) (v : List ℕ) → IsFaithfulBitString n v →
     is_bit_string (bit_string_contents n v) ≡ are_der_bits n v
 is_bit_string-bit_string_contents zero v f = refl
@@ -76,6 +79,7 @@ record FollowUnpadded (octets : List ℕ) : Type 0 where
   pub last : 0 < length octets → last_octet octets < 128
   pub unpadded : is_padded_from true octets ≡ false
 
+-- no octet 80 stands in front where a subidentifier begins, if octets that begin one do not begin with 80
 and-not_leading : (begins : Bool) (b : ℕ) (front : List ℕ) →
     (begins ≡ true → (more : List ℕ) → b ∷ front ≢ 128 ∷ more) →
     (begins && (b == 128)) ≡ false
@@ -85,6 +89,7 @@ and-not_leading true b front other = elim (cases_Bool (b == 128)) [
   | inr e ↦ e
 ]
 
+-- a subidentifier that does not begin with an octet 80, and unpadded, ended ones behind it, are unpadded and ended
 is_padded_from-continued :
     (first rest : List ℕ) (begins : Bool) → IsContinued first → (begins ≡ true → (more : List ℕ) → first ≢ 128 ∷ more) →
     FollowUnpadded rest →
@@ -97,6 +102,7 @@ is_padded_from-continued (b ∷ []) rest begins p other e =
       last_of b rest p e.last,
     )
   where
+    -- an octet below 80 before others leaves the last octet below 80, if the last of them is, or there are none
     last_of : (b : ℕ) (rest : List ℕ) → b < 128 → (0 < length rest → last_octet rest < 128) →
         last_octet (b ∷ rest) < 128
     last_of b [] low h = low
@@ -108,6 +114,7 @@ is_padded_from-continued (b ∷ c ∷ first) rest begins (high, p) other e =
       omega (arith, get_or-last_cons b c (first ++ rest), i.1),
     )
 
+-- of the shortest subidentifiers of numbers the last is ended, and none begins with an octet 80
 FollowUnpadded-shortest : (ns : List ℕ) → FollowUnpadded (flat_map shortest_base128 ns)
 FollowUnpadded-shortest [] = record { last = λ some. absurd (omega (arith, some)); unpadded = refl }
 FollowUnpadded-shortest (n ∷ ns) =
@@ -119,10 +126,10 @@ FollowUnpadded-shortest (n ∷ ns) =
 -- behind an octet with bit 8 set, the shortest subidentifiers are not padded
 is_padded_from-shortest : (n : ℕ) (ns : List ℕ) → is_padded_from false (flat_map shortest_base128 (n ∷ ns)) ≡ false
 is_padded_from-shortest n ns =
-    (is_padded_from-continued (shortest_base128 n) (flat_map shortest_base128 ns) false
-    (IsBase128-shortest n).continued
+    (is_padded_from-continued (shortest_base128 n) (flat_map shortest_base128 ns) false (IsBase128-shortest n).continued
     (λ t. absurd (false≢true t)) (FollowUnpadded-shortest ns)).0
 
+-- octets, one or more, are subidentifiers of DER if the last octet is below 80 and no subidentifier is padded
 are_subidentifiers-ended : (octets : List ℕ) → 0 < length octets → last_octet octets < 128 →
     has_padded_component octets ≡ false →
     are_subidentifiers octets ≡ true
@@ -132,22 +139,26 @@ are_subidentifiers-ended octets some low unpadded =
     and_from (nat_lt 0 (length octets) && nat_lt (last_octet octets) 128) (not (has_padded_component octets))
     (and_from (nat_lt 0 (length octets)) (nat_lt (last_octet octets) 128) a b) (ap not unpadded)
 
+-- octets in which a subidentifier is padded are no subidentifiers of DER
 are_subidentifiers-padded : (octets : List ℕ) → has_padded_component octets ≡ true → are_subidentifiers octets ≡ false
 are_subidentifiers-padded octets e =
     and_right (nat_lt 0 (length octets) && nat_lt (last_octet octets) 128) (not (has_padded_component octets))
     (ap not e)
 
+-- octets whose last one is not below 80 are no subidentifiers of DER
 are_subidentifiers-unended : (octets : List ℕ) → 128 ≤ last_octet octets → are_subidentifiers octets ≡ false
 are_subidentifiers-unended octets high =
     let b : nat_lt (last_octet octets) 128 ≡ false = grind (arith, nat_tests, high) in
     ap (λ z. z && not (has_padded_component octets))
     (and_right (nat_lt 0 (length octets)) (nat_lt (last_octet octets) 128) b)
 
+-- the last octet is below 80 if the last behind the first one is, or if the first one is where there are no more
 get_or-last-lt : (b : ℕ) (rest : List ℕ) → (0 < length rest → last_octet rest < 128) → (length rest ≡ 0 → b < 128) →
     last_octet (b ∷ rest) < 128
 get_or-last-lt b [] h low = low refl
 get_or-last-lt b (c ∷ rest) h low = omega (arith, get_or-last_cons b c rest, h (omega arith))
 
+-- the shortest subidentifiers of one number or more are not empty
 length-shortest-positive : (n : ℕ) (ns : List ℕ) → 0 < length (flat_map shortest_base128 (n ∷ ns))
 length-shortest-positive n ns =
     omega (
@@ -178,12 +189,14 @@ are_subidentifiers-cons b ns = elim (cases_lt b 128) [
   ]
 ]
   where
+    -- for an octet above 80, the test for one below 80, or above it with a condition, is the condition
     right_is : (b : ℕ) → 128 < b → (c : Bool) → (nat_lt b 128 || (nat_lt 128 b && c)) ≡ c
     right_is b above c =
         let x : nat_lt b 128 ≡ false = grind (arith, nat_tests, above) in
         let y : nat_lt 128 b ≡ true = grind (arith, nat_tests, above) in
         ap₂ (λ u v. u || (v && c)) x y
 
+    -- an octet above 80 before the shortest subidentifiers is DER with them exactly if there are some
     by_more :
         (b : ℕ) (ns : List ℕ) → 128 < b →
         are_subidentifiers (b ∷ flat_map shortest_base128 ns) ≡ (nat_lt b 128 || (nat_lt 128 b && nat_lt 0 (length ns)))
@@ -199,6 +212,7 @@ are_subidentifiers-cons b ns = elim (cases_lt b 128) [
         (ap₂ (λ x y. x || is_padded_from y rest) other goes ∙ is_padded_from-shortest n ns)
         ∙ (sym more ∙ sym (right_is b above (nat_lt 0 (length (n ∷ ns)))))
 
+-- what is written of a faithful OBJECT IDENTIFIER is DER exactly if its components are of DER
 are_subidentifiers-object_identifier_contents :
     (ns : List ℕ) → IsFaithfulObjectIdentifier ns →
     are_subidentifiers (object_identifier_contents ns) ≡ are_der_components ns
@@ -242,10 +256,12 @@ HasDerTime-leaf_contents (text bmp cs) f = tt
 HasDerTime-leaf_contents (utc_time m) f = (m, (f, refl))
 HasDerTime-leaf_contents (generalized_time m) f = IsGeneralizedTime-written m f
 
+-- the octets that are written of a faithful leaf of DER are contents octets of DER with its tag
 pub HasDerContents-leaf_contents : (l : Leaf) → IsFaithfulLeaf l → is_der_leaf l ≡ true →
     HasDerContents (leaf_tag l) (leaf_contents l)
 HasDerContents-leaf_contents l f t = (has_der_octets-leaf_contents l f ∙ t, HasDerTime-leaf_contents l f)
 
+-- a faithful leaf is one of DER if the octets that are written of it are contents octets of DER with its tag
 pub is_der_leaf-leaf_contents : (l : Leaf) → IsFaithfulLeaf l → HasDerContents (leaf_tag l) (leaf_contents l) →
     is_der_leaf l ≡ true
 is_der_leaf-leaf_contents l f h = sym (has_der_octets-leaf_contents l f) ∙ h.0

@@ -8,12 +8,11 @@ use Rattle.std.proofs.lemmas.Nat.{div-add-mod'}
 use Rattle.asn1_leaves.specs.Contents.GeneralizedTime.{fraction_digits, generalized_time_contents, tenth, to_second, written_fraction}
 use Rattle.asn1_leaves.specs.Contents.Moment.{Moment, IsValid}
 use Rattle.asn1_leaves.proofs.Leaves.Digits.{div-unit-le, fraction_digits-zero, fraction_digits-step, pow-positive}
-use Rattle.asn1_leaves.proofs.Leaves.GeneralizedTime.{GeneralizedTimeContents-written}
+use Rattle.asn1_leaves.proofs.Leaves.GeneralizedTime.{GeneralizedTimeContents-written, written_fraction-some}
 use Rattle.asn1_der.specs.Contents.{IsGeneralizedTime, IsMoment}
 use Rattle.asn1_der.specs.Padding.{has_padded_fraction, last_octet}
 use Rattle.asn1_leaves.proofs.Fractions.{get_or-last_cons, get_or-before_last}
-use Rattle.asn1_leaves.proofs.Leaves.GeneralizedTime.{written_fraction-some}
-use Rattle.asn1_laws.proofs.Times.{get_or-to_second}
+use Rattle.asn1_leaves.proofs.CanonicalTimes.{get_or-to_second}
 
 -- a digit above 0
 abbrev IsAboveZero : ℕ → Type 0
@@ -24,11 +23,13 @@ record EndsAboveZero (digits : List ℕ) : Type 0 where
   pub some : 0 < length digits
   pub last : IsAboveZero (last_octet digits)
 
+-- digits that end above 0 end above 0 with another octet before them
 EndsAboveZero-cons : (d : ℕ) (digits : List ℕ) → EndsAboveZero digits → EndsAboveZero (d ∷ digits)
 EndsAboveZero-cons d [] e = absurd (omega (arith, e.some))
 EndsAboveZero-cons d (c ∷ digits) e =
     record { some = omega arith; last = subst IsAboveZero (sym (get_or-last_cons d c digits)) e.last }
 
+-- a number above 0 that a unit divides without rest has a quotient above 0
 quotient_positive : (n q r unit : ℕ) → 0 < n → q * unit + r ≡ n → r ≡ 0 → 0 < q
 quotient_positive n zero r unit some p z = absurd (omega (arith, p, z, some))
 quotient_positive n (suc q) r unit some p z = omega arith
@@ -75,6 +76,7 @@ and-unpadded : (long : Bool) (a b : ℕ) → a ≡ 46 → IsAboveZero b →
 and-unpadded true a b point above = grind (arith, nat_tests, point, above)
 and-unpadded false a b point above = refl
 
+-- a moment to the second, the fraction that is written of less than a second, and Z have no padded fraction
 has_padded_fraction-written_fraction : (m : Moment) (n : ℕ) → n < 1000000000 →
     has_padded_fraction (to_second m ++ (written_fraction n ++ 90 ∷ [])) ≡ false
 has_padded_fraction-written_fraction m n small = elim (cases_lt 0 n) [
@@ -90,9 +92,11 @@ has_padded_fraction-written_fraction m n small = elim (cases_lt 0 n) [
       (get_or-to_second m 46 (digits ++ 90 ∷ [])) (subst IsAboveZero (sym last) ends.last)
 ]
   where
+    -- a moment to the second and Z, without a fraction between them, have no padded fraction
     whole : has_padded_fraction (to_second m ++ (90 ∷ [])) ≡ false
     whole = refl
 
+-- what is written of a valid moment is a GeneralizedTime of DER
 pub IsGeneralizedTime-written : (m : Moment) → IsValid m → IsGeneralizedTime (generalized_time_contents m)
 unfolding IsMoment
 IsGeneralizedTime-written m v =

@@ -5,17 +5,17 @@ use Rattle.asn1_leaves.specs.Contents.Text.{TextFault, text_form}
 use Rattle.asn1_leaves.specs.StringKind.{StringKind, utf8, printable, teletex, ia5, universal, bmp}
 
 -- the strings that are read as UTF-8, and have another code in DER (8.23)
-abbrev pub has_other_code : StringKind → Bool
-has_other_code utf8 = false
-has_other_code printable = false
-has_other_code teletex = true
-has_other_code ia5 = false
-has_other_code universal = true
-has_other_code bmp = true
+abbrev pub is_not_utf8 : StringKind → Bool
+is_not_utf8 utf8 = false
+is_not_utf8 printable = false
+is_not_utf8 teletex = true
+is_not_utf8 ia5 = false
+is_not_utf8 universal = true
+is_not_utf8 bmp = true
 
 -- the faults of octets that are DER: a string that has another code in DER is no UTF-8, or a BIT STRING has more bits
 -- than a usize counts
 pub data IsFaultOfDer (octets : List ℕ) (fault : DecodeFault) : Type 0 where
-  of_string : (kind : StringKind) (contents : List ℕ) → has_other_code kind ≡ true
+  of_string : (kind : StringKind) (contents : List ℕ) → is_not_utf8 kind ≡ true
       → TextFault (text_form kind) contents fault → IsFaultOfDer octets fault
   of_bits : (size : ℕ) → 2 ^ 61 ≤ length octets → fault ≡ length_too_large size → IsFaultOfDer octets fault
