@@ -28,9 +28,7 @@ Encoding-front_header x size m c k n is f =
     let parts : x ≡ f.identifier ++ (f.len ++ w) =
     sym (take-append-drop size x) ∙ (ap (λ z. z ++ w) f.front_is ∙ append_assoc f.identifier f.len w) in
     let same = IsIdentifier-unique e.identifier f.identifier (e.len ++ v) (f.len ++ w) is.class c is.constructed k
-    is.tag n
-    e.identifier_octets
-    f.fields (sym e.whole ∙ parts) in
+    is.tag n e.identifier_octets f.fields (sym e.whole ∙ parts) in
     let lens = IsLength-unique e.len f.len v w (length v) m e.length_octets f.length_octets same.rest in
     let count : m ≡ length w = sym lens.number ∙ ap length lens.rest in (
       record {
@@ -66,9 +64,7 @@ length-front_identifier x size n c k is within found =
     let e = is.encoding in
     let v = is.contents in
     let same = IsIdentifier-unique e.identifier (take size x) (e.len ++ v) (drop size x) is.class c is.constructed k
-    is.tag
-    n e.identifier_octets
-    found (sym e.whole ∙ sym (take-append-drop size x)) in
+    is.tag n e.identifier_octets found (sym e.whole ∙ sym (take-append-drop size x)) in
     ap length same.octets ∙ length-take-le size x within
 
 -- the class with the number 0 is Universal

@@ -26,8 +26,8 @@ AnswersDepartures-listed octets all found before after o e are same put =
 pub AnswersDepartures-refused : (octets : List ℕ) (before : List DepartureRecord) (o : Outcome) (status offset : ℕ) →
     HasOutcome o status offset
     → IsNoMemory status offset ⊎ IsNoEncodings octets status offset → AnswersDepartures octets before before o
-AnswersDepartures-refused octets before o status offset told (inl m) =
-    had_no_memory_to_list (IsNoMemory-outcome o status offset told m) told.2 refl
+AnswersDepartures-refused octets before o status offset outcome (inl m) =
+    had_no_memory_to_list (IsNoMemory-outcome o status offset outcome m) outcome.2 refl
 AnswersDepartures-refused octets before o status offset (s, p, c) (inr (fault, first, e)) =
     are_no_encodings (fault, subst (λ z. NoEncodingsFault octets z fault) (sym p) first, s ∙ e) c refl
 

@@ -79,10 +79,10 @@ module _ (octets : List ℕ) (offset : ℕ) where
     IsMissing-nothing status s (inr (m, none)) e = IsMissing-none s (λ n v t u. none n v u) (e ∙ m)
 
     -- where an encoding with another tag stands, a value of the kind is missing
-    pub IsMissing-other_tag : (s n field : ℕ) (v : List ℕ) → UniversalAt octets offset n v → HasTag n field →
+    pub IsMissing-not_tag : (s n field : ℕ) (v : List ℕ) → UniversalAt octets offset n v → HasTag n field →
         ((m : ℕ) → IsTag m → m < 2 ^ 64)
         → (IsTag field → ⊥) → s ≡ no_such_value → IsMissing Value IsTag octets offset s
-    IsMissing-other_tag s n field v u (exact, capped) small other e =
+    IsMissing-not_tag s n field v u (exact, capped) small other e =
         IsMissing-none s (λ m w t a.
         let same = (UniversalAt-unique m n w v a u).0 in
         let number : field ≡ n = exact (subst (λ z. z < 2 ^ 64) same (small m t)) in

@@ -130,37 +130,37 @@ IsRefused-outcome octets o status offset (s, p, c) (fault, first, e) =
     (fault, subst (FirstFaultAt octets fault) (sym p) first, s ∙ e)
 
 module _ (octets : List ℕ) (before : List Block) (o : Outcome) (status offset : ℕ)
-    (told : HasOutcome o status offset) where
+    (has : HasOutcome o status offset) where
   -- reading is refused for want of memory or for a first fault
   pub AnswersRead-refused : IsNoMemory status offset ⊎ IsRefused octets status offset →
       AnswersRead octets before before o
-  AnswersRead-refused (inl m) = had_no_memory (IsNoMemory-outcome o status offset told m) told.2 refl
-  AnswersRead-refused (inr f) = was_refused (IsRefused-outcome octets o status offset told f) told.2 refl
+  AnswersRead-refused (inl m) = had_no_memory (IsNoMemory-outcome o status offset has m) has.2 refl
+  AnswersRead-refused (inr f) = was_refused (IsRefused-outcome octets o status offset has f) has.2 refl
 
   -- strict reading is refused for want of memory or for a strict fault
   pub AnswersReadStrict-refused : IsNoMemory status offset ⊎ IsRefusedStrict octets status offset →
       AnswersReadStrict octets before before o
-  AnswersReadStrict-refused (inl m) = had_no_memory_strict (IsNoMemory-outcome o status offset told m) told.2 refl
+  AnswersReadStrict-refused (inl m) = had_no_memory_strict (IsNoMemory-outcome o status offset has m) has.2 refl
   AnswersReadStrict-refused (inr (inl f)) =
-      was_refused_strict (inl (IsRefused-outcome octets o status offset told f)) told.2 refl
+      was_refused_strict (inl (IsRefused-outcome octets o status offset has f)) has.2 refl
   AnswersReadStrict-refused (inr (inr (e, n))) =
-      was_refused_strict (inr (told.0 ∙ e, subst (IsNotCanonicalAt octets) (sym told.1) n)) told.2 refl
+      was_refused_strict (inr (has.0 ∙ e, subst (IsNotCanonicalAt octets) (sym has.1) n)) has.2 refl
 
 -- rewriting is refused for want of memory or for a first fault
 pub AnswersRewrite-refused : (octets before : List ℕ) (o : Outcome) (status offset : ℕ) → HasOutcome o status offset
     → IsNoMemory status offset ⊎ IsRefused octets status offset → AnswersRewrite octets before before o
-AnswersRewrite-refused octets before o status offset told (inl m) =
-    had_no_memory_to_write (IsNoMemory-outcome o status offset told m) told.2 refl
-AnswersRewrite-refused octets before o status offset told (inr f) =
-    was_refused_to_write (IsRefused-outcome octets o status offset told f) told.2 refl
+AnswersRewrite-refused octets before o status offset has (inl m) =
+    had_no_memory_to_write (IsNoMemory-outcome o status offset has m) has.2 refl
+AnswersRewrite-refused octets before o status offset has (inr f) =
+    was_refused_to_write (IsRefused-outcome octets o status offset has f) has.2 refl
 
 -- a check is refused for want of memory or for a first fault
 pub AnswersCheck-refused : (octets : List ℕ) (o : Outcome) (status offset : ℕ) → HasOutcome o status offset
     → IsNoMemory status offset ⊎ IsRefused octets status offset → AnswersCheck octets o
-AnswersCheck-refused octets o status offset told (inl m) =
-    had_no_memory_to_check (IsNoMemory-outcome o status offset told m) told.2
-AnswersCheck-refused octets o status offset told (inr f) =
-    is_no_document (IsRefused-outcome octets o status offset told f) told.2
+AnswersCheck-refused octets o status offset has (inl m) =
+    had_no_memory_to_check (IsNoMemory-outcome o status offset has m) has.2
+AnswersCheck-refused octets o status offset has (inr f) =
+    is_no_document (IsRefused-outcome octets o status offset has f) has.2
 
 -- the records of headers that were put are those of the octets
 pub AnswersOutline-outlined :
@@ -174,8 +174,8 @@ AnswersOutline-outlined octets all es found before after o e has are put =
 pub AnswersOutline-refused : (octets : List ℕ) (before : List Block) (o : Outcome) (status offset : ℕ) →
     HasOutcome o status offset
     → IsNoMemory status offset ⊎ IsRefusedByHeader octets status offset → AnswersOutline octets before before o
-AnswersOutline-refused octets before o status offset told (inl m) =
-    had_no_memory_to_outline (IsNoMemory-outcome o status offset told m) told.2 refl
+AnswersOutline-refused octets before o status offset has (inl m) =
+    had_no_memory_to_outline (IsNoMemory-outcome o status offset has m) has.2 refl
 AnswersOutline-refused octets before o status offset (s, p, c) (inr (fault, first, e)) =
     had_header_fault (fault, subst (FirstHeaderFaultAt octets fault) (sym p) first, s ∙ e) c refl
 
@@ -184,7 +184,7 @@ pub AnswersValues-refused : (octets steps : List ℕ) (paths : List Path) (befor
     (status offset : ℕ) → HasOutcome o status offset
     → IsNoMemory status offset ⊎ IsRefusedByHeader octets status offset →
     AnswersValues octets steps paths before before o
-AnswersValues-refused octets steps paths before o status offset told (inl m) =
-    had_no_memory_for_values (IsNoMemory-outcome o status offset told m) told.2 refl
+AnswersValues-refused octets steps paths before o status offset has (inl m) =
+    had_no_memory_for_values (IsNoMemory-outcome o status offset has m) has.2 refl
 AnswersValues-refused octets steps paths before o status offset (s, p, c) (inr (fault, first, e)) =
     had_header_fault_of_values (fault, subst (FirstHeaderFaultAt octets fault) (sym p) first, s ∙ e) c refl

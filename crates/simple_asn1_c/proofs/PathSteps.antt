@@ -54,9 +54,11 @@ pub FitsSigned-wider : (z : ℤ) → FitsSigned w64 z → FitsSigned w128 z
 FitsSigned-wider (pos n) fits = record { sfits = omega (arith, fits.sfits) }
 FitsSigned-wider (negsuc n) fits = record { sfits = omega (arith, fits.sfits) }
 
+-- two values that are equal as options are equal
 Some-injective : {A : Type 0} {x y : A} → Some x ≡ Some y → x ≡ y
 Some-injective e = cc
 
+-- an option of a value is not none
 Some-not_none : {A : Type 0} {x : A} → Some x ≡ None → ⊥
 Some-not_none e = cc
 

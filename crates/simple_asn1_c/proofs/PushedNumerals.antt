@@ -1,5 +1,5 @@
 -- Numerals that are pushed, and the components in decimal that they make, for the functions of `dotted`.
-use Rattle.std.proofs.Common.{◌≡◌, ℕ, zero, suc, ◌+◌, ◌<◌, ◌≤◌, ◌%◌, ◌/◌, List, [], ◌∷◌, ◌++◌, refl, sym, ap, ◌∙◌, arith, map, append_assoc}
+use Rattle.std.proofs.Common.{◌≡◌, ℕ, ◌+◌, ◌<◌, ◌≤◌, ◌%◌, ◌/◌, List, [], ◌∷◌, ◌++◌, sym, ap, ◌∙◌, arith, map, append_assoc}
 use Rattle.std.specs.Prelude.{IsTrue, Bool, Result, Ok, Err, OnOk}
 use Rattle.std.specs.Int.Digits.{digits_of}
 use Rattle.std.specs.List.{flat_map}
@@ -16,20 +16,8 @@ use Rattle.asn1_leaves.proofs.IdentifierForms.{first_component-AreFirstTwo, seco
 
 -- where a result is found to be Ok, what holds of an Ok holds
 pub OnOk-is_ok : {T E P : Type 0} (r : Result T E) (b : Bool) → b ≡ is_ok r → IsTrue b → OnOk r P → P
-OnOk-is_ok (Ok x) b e said p = p
-OnOk-is_ok (Err x) b e said p = grind (arith, e, said)
-
--- the numeral of a number below 10 is one digit
-pub natural_numeral-digit : (n : ℕ) → n < 10 → (48 + n) ∷ [] ≡ natural_numeral n
-natural_numeral-digit zero low = refl
-natural_numeral-digit (suc m) low =
-    let none : suc m / 10 ≡ 0 = omega (arith, low) in
-    let last : suc m % 10 ≡ suc m = omega (arith, low) in
-    sym (
-    natural_numeral-positive (suc m) (omega arith)
-    ∙ ap (map digit) (digits_of_step 10 (suc m) (omega arith) (omega arith)
-    ∙ (λ i. digits_of 10 (none i) ++ (last i ∷ [])))
-    )
+OnOk-is_ok (Ok x) b e is_true p = p
+OnOk-is_ok (Err x) b e is_true p = grind (arith, e, is_true)
 
 -- the numeral of a number from 10 to 99 is two digits
 pub natural_numeral-two_digits : (n : ℕ) → 10 ≤ n → n < 100 → (48 + n / 10) ∷ (48 + n % 10) ∷ [] ≡ natural_numeral n

@@ -42,6 +42,7 @@ IsBase128-not_empty : (s : List ℕ) (n : ℕ) → IsBase128 s n → 0 < length 
 IsBase128-not_empty [] n h = absurd h.continued
 IsBase128-not_empty (b ∷ s) n h = omega arith
 
+-- the numeral of 0 has one digit
 length-numeral_of_zero : length (natural_numeral 0) ≡ 1
 length-numeral_of_zero = refl
 

@@ -2,9 +2,8 @@
 use Rattle.std.proofs.Common.{◌≡◌, ℕ, zero, suc, ◌+◌, ◌-◌, ◌<◌, ◌≤◌, ◌^◌, Bool, true, List, [], ◌∷◌, ◌++◌, drop, get_or, length, take, refl, sym, subst, ap, ◌∙◌, arith, length-append, append_assoc, Result, Ok, Err}
 use Rattle.std.specs.Prelude.{IfErr, IsTrue, nat_lt}
 use Rattle.std.specs.List.{concat}
-use Rattle.std.proofs.Math.Seq.{get_or-append_seam}
+use Rattle.std.proofs.Math.Seq.{get_or-append_seam, take-length}
 use Rattle.std.proofs.lemmas.List.{get_or_append_left, length-take-le, take-append-drop, take-append-le}
-use Rattle.std.proofs.Math.Seq.{take-length}
 use Rattle.std.proofs.lemmas.List.Folds.{concat-append}
 use Rattle.simple_asn1.specs.Canonical.{shortest_encoding}
 use Rattle.simple_asn1.specs.Header.{class_number, shortest_identifier, shortest_length}
@@ -14,6 +13,7 @@ use Rattle.simple_asn1_c.specs.Inner.InRecords.{HoldsBlocks, IsCanonicalBlock}
 use Rattle.simple_asn1_c.proofs.CanonicalRecords.{AreCanonicalBlocks-drop, AreCanonicalBlocks-take, IsCanonicalBlock-holding}
 use Rattle.simple_asn1_c.specs.Spelled.{IsState, IsUnspellable, contents_of, greatest_tag, has_too_many, spells_contents, spells_items, starts_of}
 
+-- encodings have as many places as there are encodings
 pub length-starts_of : (xs : List (List ℕ)) → length (starts_of xs) ≡ length xs
 length-starts_of [] = refl
 length-starts_of (x ∷ xs) = omega (arith, length-starts_of xs, length-append (starts_of xs) (length (concat xs) ∷ []))
@@ -151,6 +151,7 @@ module _ (octets : List ℕ) (r : Block) (class : ASN1Class) (is : class_number 
         );
       }
     where
+      -- the place of the last of some encodings in front is the length of the encodings behind it
       begins : (k : ℕ) → 0 < k → k ≤ length xs → get_or (starts_of xs) (length xs - k) 0 ≡ length (concat (drop k xs))
       begins zero some fits = absurd (omega (arith, some))
       begins (suc k) some fits = get_or-starts_of k xs fits

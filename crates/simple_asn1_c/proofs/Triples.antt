@@ -156,9 +156,11 @@ drop-past_front xs front rest k j e at =
     ap (λ z. drop z xs) at ∙ sym (drop-drop (length front) k xs) ∙ ap (drop (length front)) e
     ∙ drop_at front rest (length front) refl
 
+-- of a node, the nodes inside it and more behind them, the first is the node
 get_or-first_node : (n : Node) (rest : List Node) → get_or (node_in_order n ++ rest) 0 no_node ≡ n
 get_or-first_node (node b ns) rest = refl
 
+-- a node and the nodes inside it are one node or more
 node_in_order-not_empty : (n : Node) → 0 < length (node_in_order n)
 node_in_order-not_empty (node b ns) = omega arith
 
@@ -279,8 +281,7 @@ module _ (x : List ℕ) (es : List Entry) (t ab : Tree ℕ) (c i s : Node) (is r
     node-content : IsNodeAndEntry x es all d are 1 c
     node-content =
         IsNodeAndEntry-drop x es all d are 1 c
-        (node_in_order algorithm ++ (node_in_order s ++ ([] ++ nodes_in_order rest)))
-        drop-whole
+        (node_in_order algorithm ++ (node_in_order s ++ ([] ++ nodes_in_order rest))) drop-whole
 
     -- the node of the algorithm has the entry behind what was signed
     node-algorithm : IsNodeAndEntry x es all d are (entry_at es 1).next algorithm
@@ -476,6 +477,7 @@ module _ (x : List ℕ) (es : List Entry) where
       let (holds, _) = whole in
       items_inside t ms rest p d are first (Holds-sequence x t p.offset _ (nodes_trees ms) first holds)
     where
+      -- entries begin with a triple if their first node has the trees of one, and its algorithm has the items of one
       algorithm_inside : (t ab : Tree ℕ) (c s : Node) (bs rest : Nodes) (p : SignedParts)
           → IsStructure x (more_nodes (node t (more_nodes c (more_nodes (node ab bs) (more_nodes s no_nodes)))) rest)
           → AreEntries x 0 (nodes_in_order
@@ -492,6 +494,7 @@ module _ (x : List ℕ) (es : List Entry) where
           let named : node_tree i ≡ identifier_tree p = cc in
           BeginWithTriple-nodes x es t ab c i s is rest d are p first second named last
 
+      -- entries begin with a triple if their first node has the tree of one, and items with the trees of its parts
       items_inside : (t : Tree ℕ) (ms rest : Nodes) (p : SignedParts) → IsStructure x (more_nodes (node t ms) rest)
           → AreEntries x 0 (nodes_in_order (more_nodes (node t ms) rest)) (nodes_depths 0 (more_nodes (node t ms) rest))
           es → t ≡ signed_tree p

@@ -12,8 +12,7 @@ start-two_octets : (x : List ℕ) (p e : ℕ) (h : PlacedHeader) → e ≤ lengt
 start-two_octets x p e h within f =
     let more =
     length-contents_two_less (slice_range x p h.end) h.class h.constructed h.tag (slice_range x h.start h.end)
-    (h.start - p)
-    f.encoding in
+    (h.start - p) f.encoding in
     let all =
     length-slice_range x p h.end (omega (arith, f.starts_after, f.order)) (omega (arith, f.ends_within, within)) in
     let contents = length-slice_range x h.start h.end f.order (omega (arith, f.ends_within, within)) in

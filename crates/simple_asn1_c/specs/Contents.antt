@@ -1,6 +1,5 @@
 -- What calls answer of contents octets alone, of one header, and of a fault.
-use Rattle.std.specs.Prelude.{◌≡◌, ◌⊎◌, ◌+◌, ◌<◌, ◌≤◌, ◌^◌, ℕ, All, Bool, List, [], ◌∷◌, drop, length, take}
-use Rattle.std.specs.Prelude.{unsigned_abs}
+use Rattle.std.specs.Prelude.{◌≡◌, ◌⊎◌, ◌+◌, ◌<◌, ◌≤◌, ◌^◌, ℕ, All, Bool, List, [], ◌∷◌, drop, length, take, unsigned_abs}
 use Rattle.asn1_headers.specs.declared.header.ASN1Class.{ASN1Class}
 use Rattle.asn1_leaves.specs.Contents.ObjectIdentifier.{ObjectIdentifierContents, ObjectIdentifierFault, object_identifier_contents}
 use Rattle.asn1_numbers.specs.Base128.{IsBase128}

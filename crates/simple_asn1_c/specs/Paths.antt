@@ -1,6 +1,5 @@
 -- The encodings of a document that paths name, and what is answered of each.
-use Rattle.std.specs.Prelude.{◌≡◌, ℕ, zero, suc, ◌+◌, ◌^◌, ◌==◌, ℤ, pos, negsuc, List}
-use Rattle.std.specs.Prelude.{[], ◌∷◌, Option, None, Some, if◌then◌else◌, length, map, min, nat_lt, slice_range}
+use Rattle.std.specs.Prelude.{◌≡◌, ℕ, zero, suc, ◌+◌, ◌^◌, ◌==◌, ℤ, pos, negsuc, List, [], ◌∷◌, Option, None, Some, if◌then◌else◌, length, map, min, nat_lt, slice_range}
 use Rattle.asn1_headers.specs.declared.tags.TheConstants.{INTEGER}
 use Rattle.asn1_headers.specs.Header.{class_number, constructed_bit}
 use Rattle.asn1_numbers.specs.TwosComplement.{signed_number}

@@ -6,8 +6,8 @@ ghost use Rattle.simple_asn1_c.specs.Answers.{IsNoMemory};
 ghost use Rattle.simple_asn1_c.specs.Departures.{IsNoEncodings, departure_record, rule_number};
 ghost use Rattle.simple_asn1_c.specs.Room.{ArePut};
 
+use crate::document_entries::{Fault, fault_at};
 use crate::putting::{all_put, not_enough};
-use crate::reading::{Fault, fault_at};
 use crate::record::{DepartureRecord, Outcome};
 use simple_asn1::{Departure, Rule, departures};
 use std::alloc::Global;

@@ -1,10 +1,9 @@
 // One encoding of a document by its header: its record, and its tag number of any size.
-ghost use Rattle.std.specs.Prelude.{◌≡◌, ◌∷◌, [], IfOk};
+ghost use Rattle.std.specs.Prelude.{◌≡◌, ◌∷◌, [], IfOk, Bool, List, ℕ, string_bytes};
 ghost use Rattle.asn1_numbers.specs.Decimal.{natural_numeral};
 ghost use Rattle.simple_asn1.specs.Places.{IsEncoding};
 ghost use Rattle.simple_asn1.specs.Header.{Encoding};
 ghost use Rattle.asn1_headers.specs.declared.header.ASN1Class.{ASN1Class};
-ghost use Rattle.std.specs.Prelude.{Bool, List, ℕ, string_bytes};
 ghost use Rattle.simple_asn1_c.specs.Contents.{AnswersHeader, AnswersTag, AnswersTagOctets};
 ghost use Rattle.simple_asn1_c.specs.Room.{ArePut};
 

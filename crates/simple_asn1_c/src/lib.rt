@@ -6,6 +6,7 @@ mod bits;
 mod canonical;
 mod components;
 mod departures;
+mod document_entries;
 mod dotted;
 mod encoding;
 mod first_fault;
@@ -20,7 +21,6 @@ mod prepender;
 mod put_encodings;
 mod putting;
 mod raw;
-mod reading;
 mod record;
 mod signed;
 mod spelling;
@@ -45,6 +45,10 @@ ghost use Rattle.simple_asn1_c.specs.Values.{AnswersIdentifier, AnswersInteger, 
 use crate::bits::{put_bits, put_boolean};
 use crate::components::{component_at, put_components, put_dotted, put_shortest};
 use crate::departures::{list_departures, put_departures};
+use crate::document_entries::{
+    Fault, canonical_octets, check, find_records, find_records_strict, read_headers, read_records,
+    read_records_strict,
+};
 use crate::encoding::{put_header, put_tag, tag_octets_at};
 use crate::first_fault::{FaultAnswer, fault_in};
 use crate::identifier::{identifier_at, put_identifier};
@@ -54,10 +58,6 @@ use crate::paths::put_values;
 use crate::put_encodings::{put_encoding, put_spelled};
 use crate::putting::{all_put, put_found, put_octets, put_records};
 use crate::raw::{put_raw_bits, put_raw_identifier, put_raw_moment, put_raw_text};
-use crate::reading::{
-    Fault, canonical_octets, check, find_records, find_records_strict, read_headers, read_records,
-    read_records_strict,
-};
 use crate::record::{
     Block, DepartureRecord, IntegerAnswer, MomentAnswer, Outcome, Path, SignedAnswer, Value,
 };

@@ -4,7 +4,7 @@ ghost use Rattle.asn1_outline.specs.Entries.{IsOutline};
 ghost use Rattle.simple_asn1_c.specs.Answers.{AnswersSigned, HasNoParts};
 ghost use Rattle.simple_asn1_c.specs.Records.{block_of};
 
-use crate::reading::{Fault, read_records};
+use crate::document_entries::{Fault, read_records};
 use crate::record::{Block, SignedAnswer, block_of};
 use crate::status::{DONE, NOT_SIGNED};
 use asn1_outline::entry::Entry;

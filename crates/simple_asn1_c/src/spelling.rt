@@ -11,8 +11,8 @@ ghost use Rattle.simple_asn1_c.specs.Status.{bad_record};
 ghost use Rattle.simple_asn1_c.specs.declared.spelling.SpellErr.TheVariants.{Memory, Record};
 
 use crate::canonical::{holds_blocks, is_canonical_single};
+use crate::document_entries::{Fault, OUT_OF_MEMORY};
 use crate::prepender::Prepender;
-use crate::reading::{Fault, OUT_OF_MEMORY};
 use crate::record::Block;
 use crate::status::BAD_RECORD;
 use asn1_headers::header::length_size;

@@ -7,8 +7,7 @@ pub returns-in-Ok : goal.returns-in-Ok
 returns-in-Ok c =
     let (bs, all, d, e, found) = c.in-Ok.ensures.document in
     AnswersReadStrict-read c.args.octets.now bs all all c.args.blocks.now c.put_found.new.room c.put_found.result refl d
-    e
-    (c.put_found.ensures all found)
+    e (c.put_found.ensures all found)
 
 pub returns-in-Err : goal.returns-in-Err
 returns-in-Err c =

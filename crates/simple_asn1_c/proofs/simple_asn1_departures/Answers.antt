@@ -19,8 +19,7 @@ pub returns-in-Err-clause-answer : goal.returns-in-Err-clause-answer
 returns-in-Err-clause-answer c =
     let f = c.in-Err.fault in
     AnswersDepartures-refused c.args.octets.now c.args.records.now c.refused_outcome.result f.status f.offset
-    c.refused_outcome.ensures
-    c.in-Err.ensures.fault
+    c.refused_outcome.ensures c.in-Err.ensures.fault
 
 pub returns-in-Err-clause-none : goal.returns-in-Err-clause-none
 returns-in-Err-clause-none c =

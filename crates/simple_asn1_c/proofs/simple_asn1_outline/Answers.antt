@@ -8,8 +8,7 @@ pub returns-in-Ok-clause-answer : goal.returns-in-Ok-clause-answer
 returns-in-Ok-clause-answer c =
     let (all, has, are) = c.in-Ok.ensures.document in
     AnswersOutline-outlined c.args.octets.now all
-    (walked_entries c.in-Ok.headers) c.entries.result.now c.args.blocks.now
-    c.put_records.new.room
+    (walked_entries c.in-Ok.headers) c.entries.result.now c.args.blocks.now c.put_records.new.room
     c.put_records.result c.entries.ensures has are c.put_records.ensures
 
 pub returns-in-Err-clause-answer : goal.returns-in-Err-clause-answer

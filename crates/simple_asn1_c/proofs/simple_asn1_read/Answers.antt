@@ -8,8 +8,7 @@ pub returns-in-Ok-clause-answer : goal.returns-in-Ok-clause-answer
 returns-in-Ok-clause-answer c =
     let (bs, d, e) = c.in-Ok.ensures.document in
     AnswersRead-read c.args.octets.now bs (entries_in c.in-Ok.outline) c.entries.result.now c.args.blocks.now
-    c.put_records.new.room c.put_records.result
-    c.entries.ensures.entries d e c.put_records.ensures
+    c.put_records.new.room c.put_records.result c.entries.ensures.entries d e c.put_records.ensures
 
 pub returns-in-Ok-clause-few : goal.returns-in-Ok-clause-few
 returns-in-Ok-clause-few c ns d = length-structure_le c.args.octets.now ns d

@@ -7,8 +7,7 @@ pub returns-in-Ok : goal.returns-in-Ok
 returns-in-Ok c =
     let (bs, d, e) = c.in-Ok.ensures.document in
     AnswersReadStrict-read c.args.octets.now bs (entries_in c.in-Ok.outline) c.entries.result.now c.args.blocks.now
-    c.put_records.new.room c.put_records.result
-    c.entries.ensures.entries d e c.put_records.ensures
+    c.put_records.new.room c.put_records.result c.entries.ensures.entries d e c.put_records.ensures
 
 pub returns-in-Err : goal.returns-in-Err
 returns-in-Err c =

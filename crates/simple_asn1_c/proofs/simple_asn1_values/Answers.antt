@@ -18,5 +18,4 @@ pub returns-in-Err : goal.returns-in-Err
 returns-in-Err c =
     let f = c.in-Err.fault in
     AnswersValues-refused c.args.octets.now c.args.steps.now c.args.paths.now c.args.values.now c.refused_outcome.result
-    f.status f.offset
-    c.refused_outcome.ensures c.in-Err.ensures.fault
+    f.status f.offset c.refused_outcome.ensures c.in-Err.ensures.fault

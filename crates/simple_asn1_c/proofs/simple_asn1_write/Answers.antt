@@ -46,12 +46,13 @@ returns c =
     let s = c.as_slice-2 in
     let is = subst (IsSpelled octets records) (sym s.ensures) c.in-Ok.ensures.spelled in
     let o = c.refused_outcome-in-Err-canonical_octets.result in
-    let told = c.refused_outcome-in-Err-canonical_octets.ensures in
+    let outcome = c.refused_outcome-in-Err-canonical_octets.ensures in
     let f = c.in-Err-canonical_octets.fault in
     elim c.in-Err-canonical_octets.ensures.fault [
-      | inl m ↦ had_no_memory_to_spell (IsNoMemory-outcome o f.status f.offset told m) told.2 refl
+      | inl m ↦ had_no_memory_to_spell (IsNoMemory-outcome o f.status f.offset outcome m) outcome.2 refl
       | inr e ↦
-          spelled_no_document s.result.now is (IsRefused-outcome s.result.now o f.status f.offset told e) told.2 refl
+          spelled_no_document s.result.now is (IsRefused-outcome s.result.now o f.status f.offset outcome e)
+          outcome.2 refl
     ]
 
 pub returns-in-Err : goal.returns-in-Err
@@ -59,9 +60,10 @@ returns-in-Err c =
     let octets = c.args.octets.now in
     let records = c.args.blocks.now in
     let o = c.refused_outcome.result in
-    let told = c.refused_outcome.ensures in
+    let outcome = c.refused_outcome.ensures in
     let f = c.in-Err.fault in
     elim c.in-Err.ensures.fault [
-      | inl m ↦ had_no_memory_to_spell (IsNoMemory-outcome o f.status f.offset told m) told.2 refl
-      | inr (e, bad) ↦ has_bad_record (told.0 ∙ e) (subst (IsBadAt octets records) (sym told.1) bad) told.2 refl
+      | inl m ↦ had_no_memory_to_spell (IsNoMemory-outcome o f.status f.offset outcome m) outcome.2 refl
+      | inr (e, bad) ↦
+          has_bad_record (outcome.0 ∙ e) (subst (IsBadAt octets records) (sym outcome.1) bad) outcome.2 refl
     ]

@@ -7,7 +7,7 @@ use Rattle.simple_asn1_c.proofs.CanonicalRecords.{IsCanonicalBlock-empty_group, 
 use Rattle.simple_asn1_c.proofs.canonical.is_canonical_single.Goals as goal
 
 pub returns-then-not-is_known : goal.returns-then-not-is_known
-returns-then-not-is_known c said =
+returns-then-not-is_known c is_true =
     let small : length c.args.contents.now < 2 ^ 64 = grind (arith, common_steps) in
     let without =
     (IsUnknownTag-iff_not_known c.args.tag c.is_known.result c.is_known.ensures).0 (ap not c.if-not-is_known.true) in
@@ -15,23 +15,19 @@ returns-then-not-is_known c said =
     without
 
 pub returns-then-is_group_tag : goal.returns-then-is_group_tag
-returns-then-is_group_tag c said =
+returns-then-is_group_tag c is_true =
     let (g, is) = c.is_group_tag.ensures c.if-is_group_tag.true in
     IsCanonicalBlock-empty_group c.args.class c.args.constructed c.args.tag c.args.contents.now c.in-Universal.is
-    c.if-constructed.true g
-    is
-    (nil-no_length c.args.contents.now (sym c.is_empty.ensures ∙ said))
+    c.if-constructed.true g is (nil-no_length c.args.contents.now (sym c.is_empty.ensures ∙ is_true))
 
 pub returns-else-constructed : goal.returns-else-constructed
-returns-else-constructed c said =
+returns-else-constructed c is_true =
     let small : length c.args.contents.now < 2 ^ 64 = grind (arith, common_steps) in
     IsCanonicalBlock-universal_leaf c.args.class c.args.constructed c.args.tag c.args.contents.now small
-    c.in-Universal.is
-    c.if-constructed.false
-    (c.are_written_of_leaf.ensures said)
+    c.in-Universal.is c.if-constructed.false (c.are_written_of_leaf.ensures is_true)
 
 pub returns-in_default : goal.returns-in_default
-returns-in_default c said =
+returns-in_default c is_true =
     let small : length c.args.contents.now < 2 ^ 64 = grind (arith, common_steps) in
     IsCanonicalBlock-primitive c.args.class c.args.constructed c.args.tag c.args.contents.now small
-    c.in_default.not-Universal said
+    c.in_default.not-Universal is_true

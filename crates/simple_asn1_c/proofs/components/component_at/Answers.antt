@@ -29,5 +29,4 @@ returns-in-None c =
     let o = c.nothing_put-in-None.ensures in
     component_does_not_end
     (λ n k p. IsContinued-not_high rest k c.in-None.ensures.none
-    (subst (λ z. IsContinued (take k z)) (sym c.split_at.ensures.back) p.continued))
-    o.status o.offset o.count
+    (subst (λ z. IsContinued (take k z)) (sym c.split_at.ensures.back) p.continued)) o.status o.offset o.count

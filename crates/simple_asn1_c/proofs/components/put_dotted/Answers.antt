@@ -14,5 +14,5 @@ returns-in-Err c =
     let (kept, why) = c.in-Err.ensures.refused in
     elim why [
       | inl memory ↦ had_no_memory_for_components (put.status ∙ memory, put.offset, put.count, kept)
-      | inr (f, fault, told) ↦ mean_no_components f fault (put.status ∙ told, put.offset, put.count, kept)
+      | inr (f, fault, outcome) ↦ mean_no_components f fault (put.status ∙ outcome, put.offset, put.count, kept)
     ]

@@ -9,11 +9,11 @@ use Rattle.simple_asn1_c.proofs.components.put_shortened.Goals as goal
 pub returns-in-Err : goal.returns-in-Err
 returns-in-Err c =
     let put = c.nothing_put.ensures in
-    let told = put.status ∙ c.status_of_fault.ensures in
+    let outcome = put.status ∙ c.status_of_fault.ensures in
     elim c.in-Err.ensures.refused [
       | inl memory ↦ had_no_memory_for_components
-          (told ∙ ap (λ z. status_of (fault_of z)) memory, put.offset, put.count, refl)
-      | inr fault ↦ mean_no_components (fault_of c.in-Err.e) fault (told, put.offset, put.count, refl)
+          (outcome ∙ ap (λ z. status_of (fault_of z)) memory, put.offset, put.count, refl)
+      | inr fault ↦ mean_no_components (fault_of c.in-Err.e) fault (outcome, put.offset, put.count, refl)
     ]
 
 pub returns-in-Ok-as_raw : goal.returns-in-Ok-as_raw

@@ -20,11 +20,9 @@ returns-then-push_pointed c ok =
             meant.0,
             meant.1,
             dotted_decimal-pushed contents rest c.in-Some.octet.now c.first_two-first.result.0
-                c.first_two-first.result.1 text
-                c.push_numeral.new.text.items
+                c.first_two-first.result.1 text c.push_numeral.new.text.items
                 c.if-push_numeral.text.items c.push_subidentifiers.new.text.items e c.first_two-first.ensures
-                (w.if-push_numeral.ensures refl) two
-                (c.push_subidentifiers.ensures ok)
+                (w.if-push_numeral.ensures refl) two (c.push_subidentifiers.ensures ok)
                 ∙ ap (λ z. text ++ dotted_decimal z) (components_of-contents meant.0 contents meant.1),
           )
       | else-push_numeral w ↦

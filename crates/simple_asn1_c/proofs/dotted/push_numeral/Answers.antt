@@ -1,6 +1,6 @@
 -- For `dotted::push_numeral`: what it returns is right.
 use Rattle.std.proofs.Common.{◌++◌, ap, ◌∙◌}
-use Rattle.simple_asn1_c.proofs.PushedNumerals.{natural_numeral-digit}
+use Rattle.asn1_numbers.proofs.Numerals.{natural_numeral-digit}
 use Rattle.simple_asn1_c.proofs.dotted.push_numeral.Goals as goal
 
 pub returns-then-n-lt10 : goal.returns-then-n-lt10

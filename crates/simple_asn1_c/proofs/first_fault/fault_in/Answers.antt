@@ -14,10 +14,10 @@ returns-in-Ok c =
 pub returns : goal.returns
 returns c =
     let e = c.in-Err.located.error in
-    let told = c.fault_answer.ensures in
+    let outcome = c.fault_answer.ensures in
     elim c.in-Err.ensures.fault [
       | inl memory ↦ absurd (c.in_default.not-OutOfMemory memory)
       | inr fault ↦
-          fault_was_found (fault_of e) (subst (FirstFaultAt c.args.octets.now (fault_of e)) (sym told.offset) fault)
-          told.status told.number told.text
+          fault_was_found (fault_of e) (subst (FirstFaultAt c.args.octets.now (fault_of e)) (sym outcome.offset) fault)
+          outcome.status outcome.number outcome.text
     ]

@@ -3,9 +3,8 @@ use Rattle.std.proofs.Common.{◌≡◌, ℕ, List, inl, inr, refl, subst, ◌�
 use Rattle.asn1_headers.specs.declared.tags.TheConstants.{OBJECT_IDENTIFIER}
 use Rattle.simple_asn1.specs.Contents.{leaf_tag, of_object_identifier}
 use Rattle.simple_asn1.specs.Tree.{Leaf, object_identifier}
-use Rattle.simple_asn1_c.specs.Values.{IsIdentifierAt, IsIdentifierTag, IsLeafAt, UniversalAt}
-use Rattle.simple_asn1_c.specs.Values.{identifier_is_missing, identifier_was_found}
-use Rattle.simple_asn1_c.proofs.OffsetLeaves.{IsMissing-other_tag, IsMissing-fault, IsLeafAt-universal, IsMissing-nothing}
+use Rattle.simple_asn1_c.specs.Values.{IsIdentifierAt, IsIdentifierTag, IsLeafAt, UniversalAt, identifier_is_missing, identifier_was_found}
+use Rattle.simple_asn1_c.proofs.OffsetLeaves.{IsMissing-not_tag, IsMissing-fault, IsLeafAt-universal, IsMissing-nothing}
 use Rattle.simple_asn1_c.proofs.identifier.identifier_at.Goals as goal
 use Rattle.asn1_outline.proofs.Values.{HasTag-small}
 
@@ -32,7 +31,7 @@ returns-then-tag-ne-OBJECT_IDENTIFIER c =
     let put = c.nothing_put-then-tag-ne-OBJECT_IDENTIFIER.ensures in
     let (n, u, number) = c.in-Ok.ensures.found in
     identifier_is_missing
-    (IsMissing-other_tag octets offset ((ns : List ℕ) × IsIdentifierAt octets offset ns) IsIdentifierTag
+    (IsMissing-not_tag octets offset ((ns : List ℕ) × IsIdentifierAt octets offset ns) IsIdentifierTag
     (IsLeafAt-identifier octets offset)
     c.nothing_put-then-tag-ne-OBJECT_IDENTIFIER.result.status n c.in-Ok.found.0 c.in-Ok.found.1.now u number
     (λ m t. omega (arith, t)) c.if-tag-ne-OBJECT_IDENTIFIER.true put.status)
@@ -64,11 +63,10 @@ returns-in-Err-put_decimal c =
     let (kept, why) = c.in-Err-put_decimal.ensures.refused in
     elim why [
       | inl memory ↦ identifier_is_missing (inl (put.status ∙ memory)) put.offset put.count kept
-      | inr (f, fault, told) ↦
+      | inr (f, fault, outcome) ↦
           identifier_is_missing
           (IsMissing-fault octets offset ((ns : List ℕ) × IsIdentifierAt octets offset ns) IsIdentifierTag
           (IsLeafAt-identifier octets offset)
           c.nothing_put-in-Err-put_decimal.result.status n v same u f (of_object_identifier same fault)
-          (put.status ∙ told))
-          put.offset put.count kept
+          (put.status ∙ outcome)) put.offset put.count kept
     ]

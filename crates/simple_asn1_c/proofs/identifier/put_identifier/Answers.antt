@@ -33,14 +33,14 @@ returns c =
     let dotted : IsDottedDecimal c.args.text.now ns = subst (λ z. IsDottedDecimal z ns) c.in-Ok.ensures.cases.0 here in
     let put = c.nothing_put-in-Err-as_raw.ensures in
     elim c.status_of_unwritten.ensures [
-      | inl (memory, told) ↦ had_no_memory_for_identifier (put.status ∙ told, put.offset, put.count, refl)
-      | inr (other, told) ↦ elim c.in-Err-as_raw.ensures.refused [
+      | inl (memory, outcome) ↦ had_no_memory_for_identifier (put.status ∙ outcome, put.offset, put.count, refl)
+      | inr (other, outcome) ↦ elim c.in-Err-as_raw.ensures.refused [
         | inl memory ↦ absurd (other memory)
         | inr fault ↦
             has_components ns dotted
             (inr (
               (λ none. let e : None ≡ Some c.in-Err-as_raw.e = sym none ∙ fault in cc),
-              (put.status ∙ told, put.offset, put.count, refl),
+              (put.status ∙ outcome, put.offset, put.count, refl),
             ))
       ]
     ]

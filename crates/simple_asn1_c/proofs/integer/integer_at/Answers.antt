@@ -5,7 +5,7 @@ use Rattle.asn1_numbers.specs.TwosComplement.{signed_number}
 use Rattle.simple_asn1.specs.Contents.{leaf_tag}
 use Rattle.simple_asn1.specs.Tree.{Leaf, integer}
 use Rattle.simple_asn1_c.specs.Values.{IsIntegerAt, IsIntegerTag, IsLeafAt, UniversalAt, integer_is_missing, integer_is_too_large, integer_was_found}
-use Rattle.simple_asn1_c.proofs.OffsetLeaves.{IsMissing-other_tag, IsLeafAt-universal, IsMissing-nothing}
+use Rattle.simple_asn1_c.proofs.OffsetLeaves.{IsMissing-not_tag, IsLeafAt-universal, IsMissing-nothing}
 use Rattle.simple_asn1_c.proofs.PathSteps.{fitting-does_not_fit, fitting-found}
 use Rattle.simple_asn1_c.proofs.integer.integer_at.Goals as goal
 use Rattle.asn1_outline.proofs.Values.{HasTag-small}
@@ -16,6 +16,7 @@ module _ (octets : List ℕ) (offset : ℕ) where
       (l : Leaf) × IsIntegerTag (leaf_tag l) × IsLeafAt octets offset l
   IsLeafAt-integer (n, is) = (integer n, refl, is)
 
+  -- a number equal to the integer at an offset is the integer there
   IsIntegerAt-same : (n m : ℤ) → n ≡ m → IsIntegerAt octets offset n → IsIntegerAt octets offset m
   IsIntegerAt-same n m e is = subst (IsIntegerAt octets offset) e is
 
@@ -25,10 +26,8 @@ returns-in-Err c =
     let offset = c.args.offset in
     integer_is_missing
     (IsMissing-nothing octets offset ((n : ℤ) × IsIntegerAt octets offset n) IsIntegerTag
-    (IsLeafAt-integer octets offset)
-    c.in-Err.status c.no_integer.result.status
-    c.in-Err.ensures.missing c.no_integer.ensures.0)
-    c.no_integer.ensures.1
+    (IsLeafAt-integer octets offset) c.in-Err.status c.no_integer.result.status
+    c.in-Err.ensures.missing c.no_integer.ensures.0) c.no_integer.ensures.1
 
 pub returns-then-tag-ne-INTEGER : goal.returns-then-tag-ne-INTEGER
 returns-then-tag-ne-INTEGER c =
@@ -36,12 +35,10 @@ returns-then-tag-ne-INTEGER c =
     let offset = c.args.offset in
     let (n, u, number) = c.in-Ok.ensures.found in
     integer_is_missing
-    (IsMissing-other_tag octets offset ((n : ℤ) × IsIntegerAt octets offset n) IsIntegerTag
-    (IsLeafAt-integer octets offset)
-    c.no_integer-then-tag-ne-INTEGER.result.status n
+    (IsMissing-not_tag octets offset ((n : ℤ) × IsIntegerAt octets offset n) IsIntegerTag
+    (IsLeafAt-integer octets offset) c.no_integer-then-tag-ne-INTEGER.result.status n
     c.in-Ok.found.0 c.in-Ok.found.1.now u number (λ m t. omega (arith, t)) c.if-tag-ne-INTEGER.true
-    c.no_integer-then-tag-ne-INTEGER.ensures.0)
-    c.no_integer-then-tag-ne-INTEGER.ensures.1
+    c.no_integer-then-tag-ne-INTEGER.ensures.0) c.no_integer-then-tag-ne-INTEGER.ensures.1
 
 pub returns-in-Some : goal.returns-in-Some
 returns-in-Some c =

@@ -10,12 +10,11 @@ pub returns-in-Entries : goal.returns-in-Entries
 returns-in-Entries c all found =
     let same = subst (IsFound (length c.args.room.now) all) c.in-Entries.is found in
     subst (λ z. ArePut (map block_of z) c.args.room.now c.put_records.new.room c.put_records.result)
-    (c.as_slice.ensures.value ∙ same)
-    c.put_records.ensures
+    (c.as_slice.ensures.value ∙ same) c.put_records.ensures
 
 pub returns-in-Count : goal.returns-in-Count
 returns-in-Count c all found =
     let (count, more) = subst (IsFound (length c.args.room.now) all) c.in-Count.is found in
-    let (status, told, offset) = c.not_enough.ensures in
+    let (status, outcome, offset) = c.not_enough.ensures in
     let size = length-map all block_of in
-    (told ∙ (count ∙ sym size), offset, inr (status, omega (arith, more, count, size), refl))
+    (outcome ∙ (count ∙ sym size), offset, inr (status, omega (arith, more, count, size), refl))

@@ -7,12 +7,12 @@ use Rattle.simple_asn1_c.proofs.raw.put_raw_identifier.Goals as goal
 pub returns : goal.returns
 returns c =
     let e = c.in-Err.e in
-    let told = c.unwritten.ensures in
+    let outcome = c.unwritten.ensures in
     elim c.in-Err.ensures.refused [
       | inl memory ↦
           had_no_memory_for_raw_identifier
-          (told.status ∙ ap component_status memory, told.place ∙ ap component_place memory, told.count, refl)
+          (outcome.status ∙ ap component_status memory, outcome.place ∙ ap component_place memory, outcome.count, refl)
       | inr fault ↦
           components_have_fault e (subst (λ z. object_identifier_write_fault z ≡ Some e) c.in-Ok.ensures fault)
-          told.status told.place told.count refl
+          outcome.status outcome.place outcome.count refl
     ]

@@ -19,8 +19,7 @@ returns c =
     elim c.put_formed.ensures [
       | inl put ↦
           let here = subst (λ z. ArePutIf (text_write_fault c.in-Some.form (chars z) ≡ None)
-          (text_contents c.in-Some.form (chars z)) out_of_range before after o)
-          same put in
+          (text_contents c.in-Some.form (chars z)) out_of_range before after o) same put in
           has_text kind tag utf8
           (subst (λ f. ArePutIf (text_write_fault f (chars text) ≡ None) (text_contents f (chars text)) out_of_range
           before after o) form here)

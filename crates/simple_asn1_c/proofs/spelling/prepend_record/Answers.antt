@@ -7,5 +7,4 @@ use Rattle.simple_asn1_c.proofs.spelling.prepend_record.Goals as goal
 pub returns-then-block-gt0-clause-refused : goal.returns-then-block-gt0-clause-refused
 returns-then-block-gt0-clause-refused c =
     IsUnspellable-too_many c.args.octets.now c.args.block.now c.args.out.now.octets c.args.starts.now.items
-    c.args.canonical.now
-    SpellErr Record c.prepend_items.result c.prepend_items.ensures.refused
+    c.args.canonical.now SpellErr Record c.prepend_items.result c.prepend_items.ensures.refused

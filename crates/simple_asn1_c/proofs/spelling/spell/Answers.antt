@@ -43,10 +43,10 @@ returns-in-Err-clause-fault c = elim c.spell_fault.ensures [
 ]
 
 pub returns-clause-canonical : goal.returns-clause-canonical
-returns-clause-canonical c said =
+returns-clause-canonical c is_true =
     let state = c.loop-i.invariant.state in
     let xs = state.xs in
     let some : 0 < length (concat xs) =
-    omega (arith, c.are_canonical_some-canonical.ensures.some said, c.len.ensures, ap length state.joined) in
-    let (bs, d, w) = IsDocument-concat xs some (state.found (c.are_canonical_some-canonical.ensures.so_far said)) in
+    omega (arith, c.are_canonical_some-canonical.ensures.some is_true, c.len.ensures, ap length state.joined) in
+    let (bs, d, w) = IsDocument-concat xs some (state.found (c.are_canonical_some-canonical.ensures.so_far is_true)) in
     subst IsCanonicalDocument (sym state.joined) (bs, (d, w))

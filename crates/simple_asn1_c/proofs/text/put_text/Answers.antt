@@ -29,9 +29,10 @@ returns-in-Some-status_of_others c =
     let text = c.args.text.now in
     let (kind, tag, form) = c.in-Some.ensures in
     let (same, utf8) = c.in-Ok.ensures.cases in
-    let (told, others) = c.in-Some-status_of_others.ensures in
+    let (outcome, others) = c.in-Some-status_of_others.ensures in
     let put = c.nothing_put-in-Some-status_of_others.ensures in
     let none : AreAllowed (text_form kind) (chars text) → ⊥ = λ allowed.
     let here : AreAllowed c.in-Some.form (chars text) = subst (λ z. AreAllowed z (chars text)) (sym form) allowed in
     others (subst (λ z. AreAllowed c.in-Some.form (chars z)) (sym same) here) in
-    has_characters kind tag utf8 (inr (none, (put.status ∙ told ∙ ap others_status form, put.offset, put.count, refl)))
+    has_characters kind tag utf8
+    (inr (none, (put.status ∙ outcome ∙ ap others_status form, put.offset, put.count, refl)))

@@ -10,7 +10,7 @@ use Rattle.simple_asn1.specs.Tree.{Leaf, text}
 use Rattle.simple_asn1_c.specs.Room.{ArePut}
 use Rattle.simple_asn1_c.specs.Status.{status_of}
 use Rattle.simple_asn1_c.specs.Values.{IsLeafAt, IsTextAt, IsTextTag, UniversalAt, text_is_missing, text_was_found}
-use Rattle.simple_asn1_c.proofs.OffsetLeaves.{IsMissing-other_tag, IsMissing-fault, IsLeafAt-universal, IsMissing-nothing}
+use Rattle.simple_asn1_c.proofs.OffsetLeaves.{IsMissing-not_tag, IsMissing-fault, IsLeafAt-universal, IsMissing-nothing}
 use Rattle.simple_asn1_c.proofs.text.text_at.Goals as goal
 use Rattle.asn1_outline.proofs.Values.{HasTag-small}
 
@@ -19,6 +19,7 @@ IsLeafAt-text : (octets : List ℕ) (offset : ℕ) → (utf8 : List ℕ) × IsTe
     (l : Leaf) × IsTextTag (leaf_tag l) × IsLeafAt octets offset l
 IsLeafAt-text octets offset (s, (kind, is)) = (text kind (chars s), (kind, refl), is)
 
+-- the tag number of a text is below 2 ^ 64
 IsTextTag-lt : (tag : ℕ) → IsTextTag tag → tag < 2 ^ 64
 IsTextTag-lt tag (kind, e) = omega (arith, e, string_tag-lt kind)
 
@@ -40,7 +41,7 @@ returns-in_default c =
     let put = c.nothing_put-in_default.ensures in
     let (n, u, number) = c.in-Ok.ensures.found in
     text_is_missing
-    (IsMissing-other_tag octets offset ((s : List ℕ) × IsTextAt octets offset s) IsTextTag (IsLeafAt-text octets offset)
+    (IsMissing-not_tag octets offset ((s : List ℕ) × IsTextAt octets offset s) IsTextTag (IsLeafAt-text octets offset)
     c.nothing_put-in_default.result.status n
     c.in-Ok.found.0 c.in-Ok.found.1.now u number IsTextTag-lt (λ (kind, e). c.in_default.ensures kind e) put.status)
     put.offset put.count refl
@@ -87,15 +88,14 @@ returns-in-Err-read c =
     let (n, u, number) = c.in-Ok.ensures.found in
     let (kind, tag, form) = c.in-Some.ensures in
     let same : n ≡ string_tag kind = HasTag-small n c.in-Ok.found.0 (string_tag kind) number tag (string_tag-lt kind) in
-    let told = put.status ∙ c.status_of_fault.ensures in
+    let outcome = put.status ∙ c.status_of_fault.ensures in
     elim c.in-Err-read.ensures.refused [
-      | inl memory ↦ text_is_missing (inl (told ∙ ap (λ z. status_of (fault_of z)) memory)) put.offset put.count refl
+      | inl memory ↦ text_is_missing (inl (outcome ∙ ap (λ z. status_of (fault_of z)) memory)) put.offset put.count refl
       | inr fault ↦
           let own : TextFault (text_form kind) v f = subst (λ z. TextFault z v f) form fault in
           text_is_missing
           (IsMissing-fault octets offset ((s : List ℕ) × IsTextAt octets offset s) IsTextTag
-          (IsLeafAt-text octets offset)
-          c.nothing_put-in-Err-read.result.status n
-          v (kind, same) u f (of_text kind same own) told)
+          (IsLeafAt-text octets offset) c.nothing_put-in-Err-read.result.status n
+          v (kind, same) u f (of_text kind same own) outcome)
           put.offset put.count refl
     ]

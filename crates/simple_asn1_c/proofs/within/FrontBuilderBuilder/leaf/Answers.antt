@@ -18,8 +18,7 @@ returns-clause-built c =
     let (limit, found, within) = c.requires.found in
     let single = c.in_ok-check_contents.ensures.encoded o (slice_range x o h.end) (h.start - o) found.encoding in
     let built = HasLeaf-front x h o limit c.args.depth a b i c.encoding_entry-block.result c.count-entry.result found
-    c.requires.leaf single c.encoding_entry-block.ensures
-    c.count-entry.ensures.count c.in_ok-add.ensures in
+    c.requires.leaf single c.encoding_entry-block.ensures c.count-entry.ensures.count c.in_ok-add.ensures in
     subst (λ z. HasLeaf holds_front x o h.end c.args.depth a i b z) (sym c.in_ok-add-2.ensures) built
 
 pub returns-in_err-check_contents-clause-refused : goal.returns-in_err-check_contents-clause-refused

@@ -1,7 +1,7 @@
--- For `reading::fault_of_refused`: `unreachable` may be called and what cannot happen does not.
+-- For `document_entries::fault_of_refused`: `unreachable` may be called and what cannot happen does not.
 use Rattle.std.proofs.Common.{◌<◌, ◌^◌, length, arith}
 use Rattle.std.proofs.lemmas.Grind.{common_steps}
-use Rattle.simple_asn1_c.proofs.reading.fault_of_refused.Goals as goal
+use Rattle.simple_asn1_c.proofs.document_entries.fault_of_refused.Goals as goal
 
 pub unreachable-requires : goal.unreachable-requires
 unreachable-requires c =

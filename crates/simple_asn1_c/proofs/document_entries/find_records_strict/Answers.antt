@@ -1,7 +1,7 @@
--- For `reading::find_records_strict`: what it returns is right (`document`, `fault`).
+-- For `document_entries::find_records_strict`: what it returns is right (`document`, `fault`).
 use Rattle.std.proofs.Common.{inl, inr, subst}
 use Rattle.asn1_outline.specs.Entries.{AreEntriesOf}
-use Rattle.simple_asn1_c.proofs.reading.find_records_strict.Goals as goal
+use Rattle.simple_asn1_c.proofs.document_entries.find_records_strict.Goals as goal
 
 pub returns-in-Ok-check_strict-clause-document : goal.returns-in-Ok-check_strict-clause-document
 returns-in-Ok-check_strict-clause-document c =

@@ -1,10 +1,10 @@
--- For `reading::strict_fault`: what it returns is right.
+-- For `document_entries::strict_fault`: what it returns is right.
 use Rattle.std.proofs.Common.{refl, inl, inr, subst}
 use Rattle.simple_asn1.specs.Fault.{OutOfMemoryOr}
 use Rattle.simple_asn1.specs.Strict.{StrictFault}
 use Rattle.asn1_headers.specs.declared.error.ASN1DecodeErr.TheVariants.{NotCanonical}
 use Rattle.simple_asn1_c.proofs.Refusals.{IsNotCanonicalAt-strict_fault}
-use Rattle.simple_asn1_c.proofs.reading.strict_fault.Goals as goal
+use Rattle.simple_asn1_c.proofs.document_entries.strict_fault.Goals as goal
 
 pub returns-in-NotCanonical : goal.returns-in-NotCanonical
 returns-in-NotCanonical c =
