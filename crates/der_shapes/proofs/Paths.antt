@@ -1,6 +1,5 @@
--- The path of the elements that are open, for `walk::FieldWalk::enter` and `walk::FieldWalk::leave`.
-use Rattle.std.proofs.Common.{◌≡◌, List, [], ◌∷◌, ◌++◌, Option, Some, None, Bool, true, false, map, reverse}
-use Rattle.std.proofs.Common.{ap, ◌∙◌, subst, sym}
+-- The path of the elements that are open, for `field_walk::FieldWalk::enter` and `field_walk::FieldWalk::leave`.
+use Rattle.std.proofs.Common.{◌≡◌, List, [], ◌∷◌, ◌++◌, Option, Some, None, Bool, true, false, map, reverse, ap, ◌∙◌, subst, sym}
 use Rattle.std.proofs.Math.Logic.{∥∥₁_map}
 use Rattle.std.proofs.lemmas.List.{map-append, reverse-append, append-nil}
 use Rattle.std.specs.Prelude.{if◌then◌else◌}
@@ -10,7 +9,7 @@ use Rattle.der_shapes.specs.Walks.{path_of}
 use Rattle.der_shapes.specs.declared.shapes.Shapes.{Shapes}
 use Rattle.der_shapes.specs.declared.take.Inside.{Inside}
 use Rattle.der_shapes.specs.declared.take.Spot.{Spot}
-use Rattle.der_shapes.specs.declared.walk.Frame.{Frame}
+use Rattle.der_shapes.specs.declared.field_walk.Frame.{Frame}
 
 -- the path of frames with one more begins with the spot of that frame
 pub path_of-append : (frames : List Frame) (frame : Frame) →

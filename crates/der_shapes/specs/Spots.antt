@@ -1,7 +1,6 @@
 -- Which field of its shape an element is. A shape is a type of X.680: a record is a SEQUENCE or a SET (25, 27), items
 -- are those of a SEQUENCE OF or a SET OF (26, 28), or what a string holds; a choice is of 29, tags are of 31.
-use Rattle.std.specs.Prelude.{◌≡◌, ◌⊎◌, ℕ, ◌<◌, ◌≤◌, Option, Some, None, List, [], ◌∷◌, MatchBool, slice_get}
-use Rattle.std.specs.Prelude.{⊤}
+use Rattle.std.specs.Prelude.{◌≡◌, ◌⊎◌, ℕ, ◌<◌, ◌≤◌, Option, Some, None, List, [], ◌∷◌, MatchBool, slice_get, ⊤}
 use Rattle.asn1_headers.specs.declared.header.ASN1Class.TheVariants.{Universal}
 use Rattle.der_shapes.specs.declared.shapes.Shapes.{Shapes}
 use Rattle.der_shapes.specs.declared.shapes.Shape.{Shape}

@@ -3,7 +3,7 @@ use Rattle.std.specs.Prelude.{◌≡◌, ℕ, List, ◌∷◌, length, map, reve
 use Rattle.der_shapes.specs.declared.shapes.Shapes.{Shapes}
 use Rattle.der_shapes.specs.declared.take.Inside.{Inside}
 use Rattle.der_shapes.specs.declared.take.Spot.{Spot}
-use Rattle.der_shapes.specs.declared.walk.Frame.{Frame}
+use Rattle.der_shapes.specs.declared.field_walk.Frame.{Frame}
 use Rattle.der_shapes.specs.Spots.{IsPath}
 
 -- the elements that are open, the innermost first

@@ -1,7 +1,7 @@
 // Which shape a document has: by the label of a PEM text, or by what fits.
+use crate::field_walk::FieldWalk;
 use crate::shapes::{Shapes, Tag};
 use crate::tables::LABELS;
-use crate::walk::FieldWalk;
 use asn1_headers::header::{identifier_at, length_at};
 use std::alloc::{AllocError, Global};
 

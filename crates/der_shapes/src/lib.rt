@@ -31,17 +31,17 @@
 //! ```
 #![tactic(auto)]
 
+mod field_walk;
 mod fit;
 mod identifier;
 mod named;
-mod read;
 mod shapes;
+mod shapes_text;
 mod tables;
 mod take;
-mod walk;
 
+pub use field_walk::FieldWalk;
 pub use named::Named;
-pub use read::ShapesFault;
 pub use shapes::{Shapes, Tag};
+pub use shapes_text::ShapesFault;
 pub use take::Spot;
-pub use walk::FieldWalk;

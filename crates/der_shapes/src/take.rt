@@ -1,8 +1,6 @@
 // Which elements a field or a shape takes by their tags, and what stands inside them.
 ghost use Rattle.std.specs.Prelude.{◌≡◌, ◌↔◌, ℕ, ◌<◌, ◌≤◌, IfSome, IsTrue, slice_get};
-ghost use Rattle.der_shapes.specs.Spots.{IsAlternative, IsAnything, IsByField, IsChosen, IsOfField, IsOfShape};
-ghost use Rattle.der_shapes.specs.Spots.{IsOfWhole};
-ghost use Rattle.der_shapes.specs.Spots.{IsOne, IsPlain, IsSaid, IsTagged, IsUniversal, inside_of as inside_is};
+ghost use Rattle.der_shapes.specs.Spots.{IsAlternative, IsAnything, IsByField, IsChosen, IsOfField, IsOfShape, IsOfWhole, IsOne, IsPlain, IsSaid, IsTagged, IsUniversal, inside_of as inside_is};
 
 use crate::shapes::{Part, Shape, ShapeKind, Shapes, Tag};
 use asn1_headers::header::ASN1Class;

@@ -1,7 +1,7 @@
--- For `walk::FieldWalk::enter`: the element stands inside those that are open.
+-- For `field_walk::FieldWalk::enter`: the element stands inside those that are open.
 use Rattle.std.specs.Result.{is_ok}
 use Rattle.der_shapes.proofs.Paths.{IsPath-entered}
-use Rattle.der_shapes.proofs.walk.FieldWalk.enter.Goals as goal
+use Rattle.der_shapes.proofs.field_walk.FieldWalk.enter.Goals as goal
 
 pub invariant_of-self : goal.invariant_of-self
 invariant_of-self c =

@@ -1,6 +1,6 @@
--- For `walk::FieldWalk::leave`: what each turn of its loop keeps and what grows less, so that it ends.
+-- For `field_walk::FieldWalk::leave`: what each turn of its loop keeps and what grows less, so that it ends.
 use Rattle.std.proofs.Common.{◌≡◌, length}
-use Rattle.der_shapes.proofs.walk.FieldWalk.leave.Given as goal
+use Rattle.der_shapes.proofs.field_walk.FieldWalk.leave.Given as goal
 
 -- the shapes stay, and what stands around all
 abbrev pub invariant-loop-self : goal.invariant-loop-self

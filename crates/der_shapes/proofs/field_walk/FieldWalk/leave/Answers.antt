@@ -1,6 +1,6 @@
--- For `walk::FieldWalk::leave`: those that stay open stand one inside the next.
+-- For `field_walk::FieldWalk::leave`: those that stay open stand one inside the next.
 use Rattle.der_shapes.proofs.Paths.{IsPath-left}
-use Rattle.der_shapes.proofs.walk.FieldWalk.leave.Goals as goal
+use Rattle.der_shapes.proofs.field_walk.FieldWalk.leave.Goals as goal
 
 pub invariant_of-self : goal.invariant_of-self
 invariant_of-self c =
