@@ -13,6 +13,7 @@ use Rattle.der_elements.specs.declared.cursor.Step.TheVariants.{Into, Out, Past}
 pub drop-ends_of : (m : Cursor) (left : Left) (at : IsLeftOf m left) → drop 1 (ends_of m) ≡ at.around
 drop-ends_of m left at = ap (drop 1) at.ends_are
 
+-- where contents octets were left, the next around them are left if they are of definite length and have ended
 HasLeft-ended :
     (octets : List ℕ) (offset : ℕ) (old new : List End) (end : End) (around : List End) →
     HasLeft octets offset old new → new ≡ end ∷ around → end.is_indefinite ≡ false →
@@ -22,6 +23,7 @@ HasLeft-ended octets offset old new end around (none_left e) is form none =
 HasLeft-ended octets offset old new end around (one_left first others e f n left) is form none =
     one_left first others e f n (HasLeft-ended octets offset others new end around left is form none)
 
+-- a cursor without the innermost end has left these contents octets, if they are of definite length and have ended
 pub HasLeft-left :
     (old : List End) (m n : Cursor) (end : End) (around : List End) → HasLeft m.octets.now m.offset old (ends_of m) →
     ends_of m ≡ end ∷ around → end.is_indefinite ≡ false → slice_range m.octets.now m.offset end.offset ≡ [] →
@@ -34,10 +36,12 @@ HasLeft-left old m n end around left is form none o g ends =
     (subst (λ z. HasLeft m.octets.now z old (ends_of n)) (sym g)
     (subst (λ z. HasLeft m.octets.now m.offset old z) last more))
 
+-- ends that are not none are the first of them and then the others
 cons-get_or_drop : (ends : List End) (d : End) → 0 < length ends → ends ≡ get_or ends 0 d ∷ drop 1 ends
 cons-get_or_drop [] d some = absurd (omega (arith, some))
 cons-get_or_drop (end ∷ ends) d some = refl
 
+-- ends that are not none have the last of them at the front when reversed
 pub reverse-innermost :
     (ends : List End) (d : End) → 0 < length ends →
     (around : List End) × (reverse ends ≡ get_or ends (length ends - 1) d ∷ around)
@@ -48,6 +52,7 @@ reverse-innermost ends d some =
     get_or-reverse ends 0 d some ∙ ap (λ n. get_or ends n d) last in
     (drop 1 (reverse ends), head ∙ ap (λ z. z ∷ drop 1 (reverse ends)) is)
 
+-- after contents octets were left, no more are open than before
 length-HasLeft_le :
     (octets : List ℕ) (offset : ℕ) (old new : List End) → HasLeft octets offset old new → length new ≤ length old
 length-HasLeft_le octets offset old new (none_left e) = omega (arith, ap length e)
@@ -64,6 +69,7 @@ offset-before_end m left at some =
     let d : length (drop m.offset octets) ≡ length octets - m.offset = length-drop m.offset octets in
     omega (arith, l, d, some)
 
+-- an encoding takes some octets, where it announces some and some are there
 pub taken-some : (indefinite : Bool) (n there : ℕ) → 0 < n → 0 < there → 0 < taken indefinite n there
 taken-some true n there some left = left
 taken-some false n there some left = omega (arith, some, left)
@@ -87,6 +93,7 @@ to_go-step_lt m n left (Out size) at any (o, g, ends) =
     let e : length (ends_of m) ≡ suc (length at.around) = ap length at.ends_are in
     omega (arith, l, g, d, e, length-reverse n.ends.items, length-reverse m.ends.items)
 
+-- a cursor that left contents octets that have ended has no more to go than before
 pub to_go-left_le :
     (m n : Cursor) → n.octets.now ≡ m.octets.now → n.offset ≡ m.offset →
     HasLeft n.octets.now n.offset (ends_of m) (ends_of n) → to_go n ≤ to_go m
@@ -101,6 +108,7 @@ to_go-left_le m n o g left =
       length-reverse m.ends.items,
     )
 
+-- a step leaves the octets of a cursor as they are
 pub octets-step : (m n : Cursor) (step : Step) → Goes step m n → n.octets.now ≡ m.octets.now
 octets-step m n (Into header size indefinite) (o, g, e) = o
 octets-step m n (Past size) (o, g, e) = o

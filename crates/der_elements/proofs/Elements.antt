@@ -1,6 +1,5 @@
 -- Elements of the definite and of the indefinite form, for `element`.
-use Rattle.std.proofs.Common.{◌≡◌, ℕ, zero, suc, ◌+◌, ◌-◌, ◌<◌, ◌≤◌, min, Bool, Bor, true, false, List, [], ◌∷◌, ◌++◌, inr}
-use Rattle.std.proofs.Common.{drop, length, take, refl, sym, ap, ◌∙◌, subst, append_assoc, length-append, arith}
+use Rattle.std.proofs.Common.{◌≡◌, ℕ, zero, suc, ◌+◌, ◌-◌, ◌<◌, ◌≤◌, min, Bool, Bor, true, false, List, [], ◌∷◌, ◌++◌, inr, drop, length, take, refl, sym, ap, ◌∙◌, subst, append_assoc, length-append, arith}
 use Rattle.std.proofs.lemmas.List.{take-append-drop}
 use Rattle.std.specs.Prelude.{◌↔◌, not, IfNone, IfSome, MatchOption, None, Option, Some}
 use Rattle.asn1_headers.proofs.IndefiniteForms.{begins_with_end-cons}
@@ -10,22 +9,23 @@ use Rattle.asn1_headers.specs.Header.{IsLength}
 use Rattle.asn1_headers.specs.declared.header.ASN1Class.{ASN1Class}
 use Rattle.asn1_blocks.specs.Places.{EncodingAt, HasNoEncodingAt, IsEncoding}
 use Rattle.asn1_headers.specs.Indefinite.{begins_with_end}
-use Rattle.der_elements.specs.Elements.{ElementAt, HasContents, HasNoContents, HasNoElement, IsElement}
-use Rattle.der_elements.specs.Elements.{StandsBehindIndefinite, end_octets, no_more, of_definite_form, of_definite_length}
-use Rattle.der_elements.specs.Elements.{of_indefinite_form, of_indefinite_length, one_more}
+use Rattle.der_elements.specs.Elements.{ElementAt, HasContents, HasNoContents, HasNoElement, IsElement, StandsBehindIndefinite, end_octets, no_more, of_definite_form, of_definite_length, of_indefinite_form, of_indefinite_length, one_more}
 use Rattle.der_elements.specs.SeekSteps.{Closes}
 use Rattle.asn1_blocks.proofs.EncodingSizes.{IsEncoding-two_le, EncodingAt-append}
 
+-- octets that do not begin with end-of-contents octets are not two octets 0 and others
 begins_with_end-not_cons : (xs ys : List ℕ) → begins_with_end xs ≡ false → xs ≡ 0 ∷ 0 ∷ ys → ⊥
 begins_with_end-not_cons xs ys e is =
     let so : true ≡ false = sym (ap begins_with_end is) ∙ e in
     absurd (cc so)
 
+-- whether two octets or more begin with end-of-contents octets does not depend on octets behind them
 begins_with_end-append : (xs ys : List ℕ) → 2 ≤ length xs → begins_with_end (xs ++ ys) ≡ begins_with_end xs
 begins_with_end-append [] ys l = absurd (omega (arith, l))
 begins_with_end-append (a ∷ []) ys l = absurd (omega (arith, l))
 begins_with_end-append (a ∷ b ∷ xs) ys l = refl
 
+-- an element has two octets at least
 IsElement-two_octets : (xs : List ℕ) → IsElement xs → 2 ≤ length xs
 IsElement-two_octets xs (of_definite_form not e) = IsEncoding-two_le xs e
 IsElement-two_octets xs (of_indefinite_form contents (identifier, e, (class, tag, i)) more) =
@@ -36,6 +36,7 @@ IsElement-two_octets xs (of_indefinite_form contents (identifier, e, (class, tag
       IsIdentifier-not_empty identifier class true tag i,
     )
 
+-- octets that are a header of the indefinite form and others have the indefinite form
 pub HasIndefiniteForm-behind : (xs behind : List ℕ) → StandsBehindIndefinite xs behind → HasIndefiniteForm xs
 HasIndefiniteForm-behind xs behind (identifier, e, is) = (identifier, behind, e, is)
 
@@ -48,6 +49,7 @@ StandsBehindIndefinite-unique xs a b (identifier, e, (class, tag, i)) (identifie
     let rest : 128 ∷ a ≡ 128 ∷ b = same.rest in
     cc rest
 
+-- octets appended to others are appended to what stands behind their header of the indefinite form
 StandsBehindIndefinite-append :
     (xs behind ys : List ℕ) → StandsBehindIndefinite xs behind → StandsBehindIndefinite (xs ++ ys) (behind ++ ys)
 StandsBehindIndefinite-append xs behind ys (identifier, e, is) =
@@ -63,9 +65,7 @@ HasIndefiniteForm-front part rest e (identifier, behind, is, (class, tag, i)) =
     ∙ ap (λ z. f.identifier ++ z) (append_assoc f.len e.contents rest))) ∙ is in
     let same =
     IsIdentifier-unique f.identifier identifier (f.len ++ (e.contents ++ rest)) (128 ∷ behind) e.class class
-    e.constructed
-    true
-    e.tag tag f.identifier_octets i whole in
+    e.constructed true e.tag tag f.identifier_octets i whole in
     let none : IsLength (128 ∷ []) 0 = inr (refl, omega arith, refl) in
     let len =
     IsLength-unique f.len (128 ∷ []) (e.contents ++ rest) behind (length e.contents) 0 f.length_octets none
@@ -77,20 +77,19 @@ HasIndefiniteForm-front part rest e (identifier, behind, is, (class, tag, i)) =
       (class, tag, i),
     )
 
+-- octets of the indefinite form keep it with others behind them
 HasIndefiniteForm-append : (xs ys : List ℕ) → HasIndefiniteForm xs → HasIndefiniteForm (xs ++ ys)
 HasIndefiniteForm-append xs ys (identifier, behind, e, is) =
     (identifier, behind ++ ys, ap (λ z. z ++ ys) e ∙ append_assoc identifier (128 ∷ behind) ys, is)
 
--- elements before end-of-contents octets begin with the first element
-append-regrouped : (first rest more : List ℕ) → (first ++ rest) ++ 0 ∷ 0 ∷ more ≡ first ++ (rest ++ 0 ∷ 0 ∷ more)
-append-regrouped first rest more = append_assoc first rest (0 ∷ 0 ∷ more)
-
+-- octets that are elements and end-of-contents octets begin with the first of the elements
 append-first_element :
     (xs contents first rest more : List ℕ) → xs ≡ contents ++ 0 ∷ 0 ∷ more → contents ≡ first ++ rest →
     xs ≡ first ++ (rest ++ 0 ∷ 0 ∷ more)
 append-first_element xs contents first rest more e f =
-    e ∙ (ap (λ z. z ++ 0 ∷ 0 ∷ more) f ∙ append-regrouped first rest more)
+    e ∙ (ap (λ z. z ++ 0 ∷ 0 ∷ more) f ∙ append_assoc first rest (0 ∷ 0 ∷ more))
 
+-- where there are no contents octets, end-of-contents octets stand at the front
 append-no_elements : (contents more : List ℕ) → contents ≡ [] → contents ++ 0 ∷ 0 ∷ more ≡ 0 ∷ 0 ∷ more
 append-no_elements contents more e = ap (λ z. z ++ 0 ∷ 0 ∷ more) e
 
@@ -112,10 +111,12 @@ Closes-end_octets depth xs is after = (to, λ more. ([], drop 2 xs, begins_with_
         absurd (cc so)
 
 module _ (xs : List ℕ) (not : begins_with_end xs ≡ false) where
+  -- contents octets before end-of-contents octets are not empty where the octets do not begin with these
   append-not_ended : (contents more : List ℕ) → xs ≡ contents ++ 0 ∷ 0 ∷ more → contents ≡ [] → ⊥
   append-not_ended contents more e none =
       begins_with_end-not_cons xs more not (e ∙ append-no_elements contents more none)
 
+  -- an element at the front does not begin with end-of-contents octets where the octets do not
   begins_with_end-first_element :
       (first rest : List ℕ) → xs ≡ first ++ rest → IsElement first → begins_with_end first ≡ false
   begins_with_end-first_element first rest e element =
@@ -156,7 +157,7 @@ module _ (xs : List ℕ) (not : begins_with_end xs ≡ false) where
           let element : IsElement first = of_indefinite_form inner (identifier, refl, fields) inside in (
             first ++ rest,
             more,
-            w ∙ sym (append-regrouped first rest more),
+            w ∙ sym (append_assoc first rest (0 ∷ 0 ∷ more)),
             one_more first rest refl (begins_with_end-first_element first
                 (rest ++ 0 ∷ 0 ∷ more) w element) element others,
             later,
@@ -175,8 +176,7 @@ module _ (xs : List ℕ) (not : begins_with_end xs ≡ false) where
             let w = append-first_element xs contents first rest more e f in
             let same =
             Encoding-unique part first _ _ _ _ _ _ _ _ _ _ left (rest ++ 0 ∷ 0 ∷ more) encoding.encoding
-            first_one.encoding
-            (sym whole ∙ w) in
+            first_one.encoding (sym whole ∙ w) in
             (rest, more, same.rest, others, later)
         to (contents, more, e, one_more first rest f n (of_indefinite_form inner standing inside) others, later) =
             let w = append-first_element xs contents first rest more e f in
@@ -192,7 +192,7 @@ module _ (xs : List ℕ) (not : begins_with_end xs ≡ false) where
             encoding in (
               part ++ rest,
               more,
-              whole ∙ (ap (λ z. part ++ z) e ∙ sym (append-regrouped part rest more)),
+              whole ∙ (ap (λ z. part ++ z) e ∙ sym (append_assoc part rest (0 ∷ 0 ∷ more))),
               one_more part rest refl (begins_with_end-first_element part left whole element) element others,
               later,
             )
@@ -227,6 +227,7 @@ module _ (xs : List ℕ) (definite : HasIndefiniteForm xs → ⊥) where
         (HasIndefiniteForm-append element at.rest form))) at.encoding;
   }
 
+  -- no element stands at the front of octets not of the indefinite form where no encoding does
   pub HasNoElement-no_encoding : HasNoEncodingAt xs 0 → HasNoElement xs
   HasNoElement-no_encoding none element at = without at.is_element
     where
@@ -238,10 +239,12 @@ module _ (xs : List ℕ) (definite : HasIndefiniteForm xs → ⊥) where
           (HasIndefiniteForm-append element at.rest
           (HasIndefiniteForm-behind element (contents ++ end_octets) standing)))
 
+-- of joined octets, as many as the first are the first
 take-length_append : (first rest : List ℕ) → take (length first) (first ++ rest) ≡ first
 take-length_append [] rest = refl
 take-length_append (x ∷ first) rest = ap (λ z. x ∷ z) (take-length_append first rest)
 
+-- without as many octets as stand at the end, the octets at the front are left
 take-length_minus : (xs first rest : List ℕ) → xs ≡ first ++ rest → take (length xs - length rest) xs ≡ first
 take-length_minus xs first rest e =
     let n : length xs - length rest ≡ length first = omega (arith, ap length e, length-append first rest) in
@@ -266,6 +269,7 @@ module _ (xs behind : List ℕ) (standing : StandsBehindIndefinite xs behind) wh
         is_element = subst IsElement (sym front) (of_indefinite_form contents (identifier, refl, fields) inside);
       }
 
+  -- no element stands at the front where nothing closes the contents octets behind its header of the indefinite form
   pub HasNoElement-not_closed : ((after : List ℕ) → Closes 1 behind after → ⊥) → HasNoElement xs
   HasNoElement-not_closed none element at = without at.is_element
     where
@@ -292,15 +296,17 @@ Closes-past_end (suc depth) around xs ys some e is f after =
     subst (λ z. Closes (suc depth) xs after ↔ Closes z ys after) same
     (subst (λ z. Closes (suc depth) xs after ↔ Closes depth z after) (sym f) (Closes-end_octets depth xs is after))
 
+-- open contents octets close from a header of the indefinite form on exactly if, one deeper, they close behind it
 pub Closes-past_header :
     (depth inside : ℕ) (xs behind : List ℕ) → 0 < depth → inside ≡ depth + 1 → begins_with_end xs ≡ false →
     StandsBehindIndefinite xs behind → (after : List ℕ) → Closes depth xs after ↔ Closes inside behind after
 Closes-past_header zero inside xs behind some e not at after = absurd (omega (arith, some))
 Closes-past_header (suc depth) inside xs behind some e not at after =
     let is : suc (suc depth) ≡ inside = omega (arith, e) in
-    subst (λ z. Closes (suc depth) xs after ↔ Closes z behind after) is
-    (Closes-inside xs not depth behind at after)
+    subst (λ z. Closes (suc depth) xs after ↔ Closes z behind after) is (Closes-inside xs not depth behind at after)
 
+-- open contents octets close behind an encoding, neither of the indefinite form nor end-of-contents octets, exactly if
+-- they close from its front on
 pub Closes-past_encoding :
     (depth : ℕ) (xs part ys : List ℕ) → 0 < depth → begins_with_end xs ≡ false → (HasIndefiniteForm xs → ⊥) →
     EncodingAt xs 0 part → ys ≡ drop (min (length part) (length xs)) xs → (after : List ℕ) →
@@ -309,6 +315,7 @@ Closes-past_encoding zero xs part ys some not definite at e after = absurd (omeg
 Closes-past_encoding (suc depth) xs part ys some not definite at e after =
     Closes-behind_encoding xs not definite depth part ys (EncodingAt-append xs part ys at e) at.encoding after
 
+-- octets that begin with no end-of-contents octets, no indefinite form and no encoding close no contents octets
 pub Closes-nothing :
     (depth : ℕ) (xs : List ℕ) → 0 < depth → begins_with_end xs ≡ false → (HasIndefiniteForm xs → ⊥) →
     HasNoEncodingAt xs 0 → (after : List ℕ) → Closes depth xs after → ⊥
@@ -352,6 +359,7 @@ StandsBehindIndefinite-header xs s n c k t h (identifier, behind, e, (class, tag
     let len = IsLength-unique h.len (128 ∷ []) (drop s xs) behind n 0 h.length_octets none same.rest in
     (identifier, e ∙ ap (λ z. identifier ++ 128 ∷ z) (sym len.rest), (class, tag, i))
 
+-- octets that begin with no header do not have the indefinite form
 pub HasIndefiniteForm-no_header : (xs : List ℕ) → HasNoHeader xs → HasIndefiniteForm xs → ⊥
 HasIndefiniteForm-no_header xs none (identifier, behind, e, (class, tag, i)) =
     none (identifier ++ 128 ∷ []) behind (
@@ -360,20 +368,7 @@ HasIndefiniteForm-no_header xs none (identifier, behind, e, (class, tag, i)) =
       refl,
       (tag, (class, true, i)),
       (0, inr (refl, omega arith, refl)),
-    )
-    (e ∙ sym (append_assoc identifier (128 ∷ []) behind))
-
-pub true-not_false : (b : Bool) → not b ≡ false → b ≡ true
-true-not_false true e = refl
-true-not_false false e =
-    let never : true ≡ false = e in
-    absurd (cc never)
-
-pub false-not_true : (b : Bool) → not b ≡ true → b ≡ true → ⊥
-false-not_true true e f =
-    let never : false ≡ true = e in
-    absurd (cc never)
-false-not_true false e f = absurd (cc f)
+    ) (e ∙ sym (append_assoc identifier (128 ∷ []) behind))
 
 -- octets without a header begin with no element
 pub HasNoElement-no_header : (xs : List ℕ) → HasNoHeader xs → HasNoElement xs
@@ -397,6 +392,7 @@ HasNoElement-no_header xs none element at = without at.is_element
         HasIndefiniteForm-no_header xs none (subst HasIndefiniteForm (sym at.at_front)
         (HasIndefiniteForm-append element at.rest (HasIndefiniteForm-behind element (contents ++ end_octets) standing)))
 
+-- no element stands at the front where there are no octets
 pub HasNoElement-nil : (xs : List ℕ) → xs ≡ [] → HasNoElement xs
 HasNoElement-nil xs none element at =
     absurd (omega (

@@ -1,8 +1,7 @@
 -- What stands behind a header at the front of octets, for `element::behind_header`.
 use Rattle.std.proofs.Common.{ℕ, List, drop, take, sym}
 use Rattle.std.proofs.lemmas.List.{take-append-drop}
-use Rattle.asn1_headers.specs.Front.{IsHeader}
-use Rattle.asn1_headers.specs.Front.{IsAtFront}
+use Rattle.asn1_headers.specs.Front.{IsHeader, IsAtFront}
 use Rattle.asn1_headers.specs.declared.whole_header.Header.{Header}
 use Rattle.der_elements.specs.Headers.{StandsBehindHeader}
 

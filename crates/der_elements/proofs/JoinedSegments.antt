@@ -1,6 +1,5 @@
 -- Segments of a string that are joined one after another, for `segments`.
-use Rattle.std.proofs.Common.{◌≡◌, ℕ, ◌+◌, ◌≤◌, ◌&&◌, ◌==◌, Bool, true, false, List, [], ◌∷◌, ◌++◌, drop, length, length-append, inl, inr}
-use Rattle.std.proofs.Common.{slice_range, refl, sym, ap, ◌∙◌, subst, arith}
+use Rattle.std.proofs.Common.{◌≡◌, ℕ, ◌+◌, ◌≤◌, ◌&&◌, ◌==◌, Bool, true, false, List, [], ◌∷◌, ◌++◌, drop, length, length-append, inl, inr, slice_range, refl, sym, ap, ◌∙◌, subst, arith}
 use Rattle.std.proofs.lemmas.Result.{IfOk-weaker}
 use Rattle.asn1_headers.specs.Front.{BeginsWithHeader, HasIndefiniteForm, IsAtFront}
 use Rattle.asn1_headers.specs.declared.whole_header.Header.{Header}
@@ -11,10 +10,8 @@ use Rattle.der_elements.specs.Ends.{end_at, taken}
 use Rattle.asn1_headers.specs.Indefinite.{begins_with_end}
 use Rattle.asn1_headers.specs.declared.tags.TheConstants.{BIT_STRING}
 use Rattle.der_elements.specs.Headers.{is_stray_form}
-use Rattle.der_elements.specs.Segments.{AreSegments, Joins, JoinsBits, constructed_one, ended_by_octets, no_more, one_ended}
-use Rattle.der_elements.specs.Segments.{AreSegmentsOf, no_segments, primitive_one, segment_tag}
-use Rattle.der_elements.specs.Steps.{Goes, HasLeft, HasNoSegment, HasNoWhole, IsLeftOf, IsSegment, Takes, ends_of, none_left}
-use Rattle.der_elements.specs.Steps.{one_left}
+use Rattle.der_elements.specs.Segments.{AreSegments, Joins, JoinsBits, constructed_one, ended_by_octets, no_more, one_ended, AreSegmentsOf, no_segments, primitive_one, segment_tag}
+use Rattle.der_elements.specs.Steps.{Goes, HasLeft, HasNoSegment, HasNoWhole, IsLeftOf, IsSegment, Takes, ends_of, none_left, one_left}
 use Rattle.der_elements.specs.declared.cursor.Cursor.{Cursor}
 use Rattle.der_elements.specs.declared.cursor.End.{End}
 use Rattle.der_elements.specs.declared.cursor.Left.{Left}
@@ -26,6 +23,7 @@ use Rattle.der_elements.proofs.Seeking.{BeginsWithHeader-some, BeginsWithHeader-
 abbrev pub AreLeft : ℕ → Cursor → List ℕ → List ℕ → Type 0
 AreLeft tag cursor = AreSegments tag cursor.octets.now cursor.offset (ends_of cursor)
 
+-- segments that a cursor has yet to come to are segments of its octets, from its offset on, with its ends
 pub AreSegments-cursor :
     (tag : ℕ) (n : Cursor) (octets : List ℕ) (offset : ℕ) (ends : List End) (before after : List ℕ) →
     n.octets.now ≡ octets → n.offset ≡ offset → ends_of n ≡ ends → AreLeft tag n before after →
@@ -35,6 +33,7 @@ AreSegments-cursor tag n octets offset ends before after p q r h =
     (subst (λ z. AreSegments tag n.octets.now z ends before after) q
     (subst (λ z. AreSegments tag n.octets.now n.offset z before after) r h))
 
+-- segments to come behind contents octets that have ended and were left are segments to come inside these
 AreSegments-before_left :
     (tag : ℕ) (octets : List ℕ) (offset : ℕ) (old new : List End) (before after : List ℕ) →
     HasLeft octets offset old new → AreSegments tag octets offset new before after →
@@ -89,6 +88,7 @@ AreLeft-before_segment tag m n left (Out size) before between after at (within, 
     (AreSegments-cursor tag n m.octets.now (m.offset + 2) at.around between after o x
     (ends ∙ ap (drop 1) at.ends_are) later))
 
+-- a step over a segment, or over the end of one, takes some octets or leaves contents octets
 pub Takes-segment :
     (tag : ℕ) (left : Left) (step : Step) (before after : List ℕ) → IsSegment tag left step before after →
     Takes step left
@@ -100,6 +100,7 @@ Takes-segment tag left (Past size) before after (guard, header, announced, h, l,
     (omega (arith, is, some), omega (arith, l, some))
 Takes-segment tag left (Out size) before after is = tt
 
+-- octets whose header is of class Universal, of the form and of the tag begin with such a header
 BeginsWithHeader-segment :
     (left : List ℕ) (header : Header) (constructed : Bool) (tag : ℕ) → IsAtFront left header →
     header.class ≡ Universal →
@@ -110,6 +111,8 @@ BeginsWithHeader-segment left header constructed tag front c k t =
     (subst (λ z. BeginsWithHeader left header.size header.announced Universal z header.tag) k
     (subst (λ z. BeginsWithHeader left header.size header.announced z header.constructed header.tag) c front))
 
+-- a constructed encoding with the tag of segments is a segment that is gone into, if it is whole and no end stands
+-- there
 pub IsSegment-constructed :
     (tag : ℕ) (left : Left) (header : Header) (size : ℕ) (joined : List ℕ) →
     (left.is_indefinite && begins_with_end left.octets.now) ≡ false → IsAtFront left.octets.now header →
@@ -128,6 +131,8 @@ IsSegment-constructed tag left header size joined guard front whole form c k t i
   refl,
 )
 
+-- a primitive encoding with the tag of segments is a segment, if it is whole, not of a stray form, can be joined and
+-- no end stands there
 pub IsSegment-primitive :
     (tag : ℕ) (left : Left) (header : Header) (before after : List ℕ) →
     (left.is_indefinite && begins_with_end left.octets.now) ≡ false → IsAtFront left.octets.now header →
@@ -140,8 +145,7 @@ pub IsSegment-primitive :
 IsSegment-primitive tag left header before after guard front whole c k t stray joins =
     let segment = BeginsWithHeader-segment left.octets.now header false (segment_tag tag) front c k t in
     let form = is_stray_form-unique left.octets.now header.size header.announced Universal false
-    (segment_tag tag) header.size
-    header.announced header.class header.constructed header.tag segment front in
+    (segment_tag tag) header.size header.announced header.class header.constructed header.tag segment front in
     (guard, header.size, header.announced, segment, whole, form ∙ stray front, refl, joins)
 
 -- contents octets of definite length of which nothing is left have ended
@@ -186,6 +190,7 @@ AreSegments-ended tag octets offset ends before after end around e form none
       BeginsWithHeader-some left size announced Universal true (segment_tag tag) header,
     ))
 
+-- segments to come inside contents octets that have ended and were left are segments to come behind these
 AreSegments-after_left :
     (tag : ℕ) (octets : List ℕ) (offset : ℕ) (old new : List End) (before after : List ℕ) →
     HasLeft octets offset old new → AreSegments tag octets offset old before after →
@@ -205,6 +210,7 @@ AreLeft-on tag m n before after o g left h =
     (subst (λ z. AreSegments tag z n.offset (ends_of m) before after) (sym o)
     (subst (λ z. AreSegments tag m.octets.now z (ends_of m) before after) (sym g) h))
 
+-- segments of octets, from an offset on with some ends, are left to a cursor that has this offset and these ends
 AreLeft-segments :
     (tag : ℕ) (n : Cursor) (octets : List ℕ) (offset : ℕ) (ends : List End) (before after : List ℕ) →
     n.octets.now ≡ octets → n.offset ≡ offset → ends_of n ≡ ends → AreSegments tag octets offset ends before after →
@@ -224,23 +230,28 @@ record FirstSegment (tag : ℕ) (m : Cursor) (left : Left) (before after : List 
 -- the first of the ends is that of the innermost contents octets that are open
 module _ (m : Cursor) (left : Left) (at : IsLeftOf m left) (one : End) (others : List End)
     (e : ends_of m ≡ one ∷ others) where
+  -- the end of what is left is the first of the ends of the cursor
   end-equal : at.end ≡ one
   end-equal =
       let same : at.end ∷ at.around ≡ one ∷ others = sym at.ends_are ∙ e in
       cc same
 
+  -- what is left are the octets from the offset of the cursor up to the first end
   octets-equal : (octets : List ℕ) → octets ≡ slice_range m.octets.now m.offset one.offset → left.octets.now ≡ octets
   octets-equal octets is =
       at.octets_are ∙ (ap (λ z. slice_range m.octets.now m.offset z.offset) end-equal ∙ sym is)
 
+  -- what is left is of the indefinite form exactly if the first end is
   is_indefinite-equal : left.is_indefinite ≡ one.is_indefinite
   is_indefinite-equal = at.form ∙ ap (λ z. z.is_indefinite) end-equal
 
+  -- octets that do not end contents octets of the form of the first end do not end those of the form of what is left
   and-equal_form :
       (octets : List ℕ) → (one.is_indefinite && begins_with_end octets) ≡ false →
       (left.is_indefinite && begins_with_end octets) ≡ false
   and-equal_form octets guard = ap (λ z. z && begins_with_end octets) is_indefinite-equal ∙ guard
 
+-- where segments are to come, one of them, or the end of one, begins what is left
 FirstSegment-left :
     (tag : ℕ) (m : Cursor) (left : Left) (before after : List ℕ) → IsLeftOf m left → AreLeft tag m before after →
     FirstSegment tag m left before after
@@ -312,6 +323,7 @@ JoinsBits-unique before segment x y (bits, more, unused, p, q, few, none, s)
     s ∙ (ap (λ z. z ∷ (bits ++ more)) b ∙ (ap (λ z. unused' ∷ (z ++ more)) a
     ∙ (ap (λ z. unused' ∷ (bits' ++ z)) c ∙ sym s')))
 
+-- contents octets with one segment more joined to them are determined
 Joins-unique :
     (tag : ℕ) (before segment x y : List ℕ) → Joins tag before segment x → Joins tag before segment y → x ≡ y
 Joins-unique tag before segment x y (inl (k, h)) (inl (k', h')) = JoinsBits-unique before segment x y h h'
@@ -323,6 +335,7 @@ Joins-unique tag before segment x y (inr (k, h)) (inl (k', h')) =
     absurd (cc never)
 Joins-unique tag before segment x y (inr (k, h)) (inr (k', h')) = h ∙ sym h'
 
+-- two truth values that are true under one condition exactly are equal
 pub IsTrue-unique : (a b : Bool) (P : Type 0) → IsTrue a ↔ P → IsTrue b ↔ P → a ≡ b
 IsTrue-unique true true P h k = refl
 IsTrue-unique false false P h k = refl
@@ -333,6 +346,7 @@ IsTrue-unique false true P h k =
     let never : false ≡ true = h.1 (k.0 refl) in
     absurd (cc never)
 
+-- where no end ends what is left, it is not of the indefinite form with end-of-contents octets at the front
 and-not_both :
     (left : Left) → (left.is_indefinite && begins_with_end left.octets.now) ≡ false → left.is_indefinite ≡ true →
     begins_with_end left.octets.now ≡ true → ⊥
@@ -363,8 +377,7 @@ IsSegment-unique tag left (Into h s i) (Into h' s' i') before x y (g, a, b, l, f
 IsSegment-unique tag left (Into h s i) (Past s') before x y (g, a, b, l, f, is, e)
     (g', h', a', b', l', stray', is', j') =
     let same = BeginsWithHeader-unique left.octets.now h a Universal true (segment_tag tag) h' a' Universal false
-    (segment_tag tag)
-    b b' in
+    (segment_tag tag) b b' in
     let never : true ≡ false = same.constructed in
     absurd (cc never)
 IsSegment-unique tag left (Into h s i) (Out s') before x y (g, a, b, l, f, is, e) (within, begins, two, e') =
@@ -372,8 +385,7 @@ IsSegment-unique tag left (Into h s i) (Out s') before x y (g, a, b, l, f, is, e
 IsSegment-unique tag left (Past s) (Into h' s' i') before x y (g, h, a, b, l, stray, is, j)
     (g', a', b', l', f', is', e') =
     let same = BeginsWithHeader-unique left.octets.now h a Universal false (segment_tag tag) h' a' Universal true
-    (segment_tag tag)
-    b b' in
+    (segment_tag tag) b b' in
     let never : false ≡ true = same.constructed in
     absurd (cc never)
 IsSegment-unique tag left (Past s) (Past s') before x y (g, h, a, b, l, stray, is, j)
@@ -428,21 +440,17 @@ module _ (tag : ℕ) (left : Left) (before : List ℕ)
 
   module _ (header : Header) (front : IsAtFront left.octets.now header) where
     -- an encoding of another type is no segment
-    pub HasNoSegment-other_type :
+    pub HasNoSegment-not_segment_tag :
         (header.class ≡ Universal → header.tag ≡ segment_tag tag → ⊥) → HasNoSegment tag left before
-    HasNoSegment-other_type none (Into h s i) after (g, a, b, l, f, is, e) =
+    HasNoSegment-not_segment_tag none (Into h s i) after (g, a, b, l, f, is, e) =
         let same = BeginsWithHeader-unique left.octets.now header.size header.announced header.class header.constructed
-        header.tag
-        h a
-        Universal true (segment_tag tag) front b in
+        header.tag h a Universal true (segment_tag tag) front b in
         none same.class same.tag
-    HasNoSegment-other_type none (Past s) after (g, h, a, b, l, stray, is, j) =
+    HasNoSegment-not_segment_tag none (Past s) after (g, h, a, b, l, stray, is, j) =
         let same = BeginsWithHeader-unique left.octets.now header.size header.announced header.class header.constructed
-        header.tag
-        h a
-        Universal false (segment_tag tag) front b in
+        header.tag h a Universal false (segment_tag tag) front b in
         none same.class same.tag
-    HasNoSegment-other_type none (Out s) after (within, begins, two, e) = and-not_both left guard within begins
+    HasNoSegment-not_segment_tag none (Out s) after (within, begins, two, e) = and-not_both left guard within begins
 
     -- a primitive encoding that cannot be joined to the contents octets before it is no segment
     pub HasNoSegment-not_joined :
@@ -452,16 +460,12 @@ module _ (tag : ℕ) (left : Left) (before : List ℕ)
         HasNoSegment tag left before
     HasNoSegment-not_joined primitive none (Into h s i) after (g, a, b, l, f, is, e) =
         let same = BeginsWithHeader-unique left.octets.now header.size header.announced header.class header.constructed
-        header.tag
-        h a
-        Universal true (segment_tag tag) front b in
+        header.tag h a Universal true (segment_tag tag) front b in
         let never : false ≡ true = sym primitive ∙ same.constructed in
         absurd (cc never)
     HasNoSegment-not_joined primitive none (Past s) after (g, h, a, b, l, stray, is, j) =
         let same = BeginsWithHeader-unique left.octets.now header.size header.announced header.class header.constructed
-        header.tag
-        h a
-        Universal false (segment_tag tag) front b in
+        header.tag h a Universal false (segment_tag tag) front b in
         let here : slice_range left.octets.now h (h + a)
         ≡ slice_range left.octets.now header.size (header.size + header.announced) =
         ap (λ z. slice_range left.octets.now z (z + a)) (sym same.size)
@@ -478,6 +482,7 @@ pub record AreBits (contents : List ℕ) : Type 0 where
   pub few : unused ≤ 7
   pub none : bits ≡ [] → unused ≡ 0
 
+-- contents octets of a BIT STRING with a segment joined to them are bits
 AreBits-joined : (tag : ℕ) (before segment after : List ℕ) → tag ≡ BIT_STRING → Joins tag before segment after →
     AreBits after
 AreBits-joined tag before segment after is (inl (k, (bits, more, unused, p, q, few, none, s))) = record {
@@ -491,6 +496,7 @@ AreBits-joined tag before segment after is (inr (k, e)) =
     let never : true ≡ false = sym (ap (λ z. z == BIT_STRING) is) ∙ k in
     absurd (cc never)
 
+-- segments of a BIT STRING that are joined to bits, one after another, are bits with these
 AreBits-segments :
     (tag : ℕ) (octets : List ℕ) (offset : ℕ) (ends : List End) (before after : List ℕ) → tag ≡ BIT_STRING →
     AreBits before → AreSegments tag octets offset ends before after → AreBits after

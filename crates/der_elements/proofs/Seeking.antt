@@ -1,6 +1,5 @@
 -- Where encodings begin, header after header, for `seek`.
-use Rattle.std.proofs.Common.{◌≡◌, ◌⊎◌, ℕ, zero, suc, nat_lt, ◌+◌, ◌<◌, ◌≤◌, min, Bool, Bor, true, false, List, [], ◌∷◌}
-use Rattle.std.proofs.Common.{◌++◌, drop, length, take, inl, inr, refl, sym, ap, ◌∙◌, subst, append_assoc, arith}
+use Rattle.std.proofs.Common.{◌≡◌, ◌⊎◌, ℕ, zero, suc, nat_lt, ◌+◌, ◌<◌, ◌≤◌, min, Bool, Bor, true, false, List, [], ◌∷◌, ◌++◌, drop, length, take, inl, inr, refl, sym, ap, ◌∙◌, subst, arith}
 use Rattle.std.specs.Prelude.{◌↔◌, Err, IfErr, IfOk, Ok, Result}
 use Rattle.std.proofs.lemmas.List.{drop-drop, drop_at, drop_min, length-append, length-take-le, take-append-drop, take_min}
 use Rattle.asn1_headers.specs.Header.{IsIdentifier, IsLength}
@@ -10,18 +9,17 @@ use Rattle.asn1_headers.proofs.Prefixes.{Encoding-unique, IsIdentifier-unique, I
 use Rattle.asn1_blocks.specs.Places.{EncodingAt, HasNoEncodingAt, IsEncoding}
 use Rattle.asn1_headers.specs.Front.{BeginsWithHeader, HasIndefiniteForm, HasNoHeader}
 use Rattle.asn1_headers.specs.Indefinite.{begins_with_end}
-use Rattle.der_elements.specs.Headers.{is_stray_form}
+use Rattle.der_elements.specs.Headers.{is_stray_form, is_gone_into}
 use Rattle.der_elements.specs.Elements.{ElementAt, HasNoElement}
-use Rattle.der_elements.specs.Headers.{is_gone_into}
+use Rattle.asn1_blocks.proofs.PlacedHeaders.{append-header_parts}
 use Rattle.der_elements.proofs.Elements.{HasNoElement-nil, HasNoElement-no_header}
 use Rattle.asn1_headers.proofs.IndefiniteForms.{begins_with_end-cons}
-use Rattle.der_elements.specs.Seek.{AreEncodings, BeginsAt, HasNoBlockAt, Holds, LacksBlock, LeadsTo, Reaches, behind_element}
-use Rattle.der_elements.specs.Seek.{behind_end, behind_indefinite, ends_contents, holds_bits, holds_blocks, holds_octets}
-use Rattle.der_elements.specs.Seek.{inside_element, is_further, is_here, none_left, one_first}
+use Rattle.der_elements.specs.Seek.{AreEncodings, BeginsAt, HasNoBlockAt, Holds, LacksBlock, LeadsTo, Reaches, behind_element, behind_end, behind_indefinite, ends_contents, holds_bits, holds_blocks, holds_octets, inside_element, is_further, is_here, none_left, one_first}
 use Rattle.der_elements.specs.SeekSteps.{StandsThere}
 use Rattle.der_elements.specs.declared.seek.NoBlock.{NoBlock}
 use Rattle.der_elements.specs.declared.seek.NoBlock.TheVariants.{CutShort, EndOfContents, Nothing, Unreadable}
 
+-- a header has as many octets as its identifier octets and its length octets are
 pub size-length_header :
     (octets : List ℕ) (s n : ℕ) (c : ASN1Class) (k : Bool) (t : ℕ) (h : BeginsWithHeader octets s n c k t) →
     s ≡ length h.identifier + length h.len
@@ -43,13 +41,7 @@ pub record SameHeader (s n : ℕ) (c : ASN1Class) (k : Bool) (t : ℕ) (s' n' : 
   pub constructed : k ≡ k'
   pub tag : t ≡ t'
 
-append-header_parts :
-    (octets : List ℕ) (s n : ℕ) (c : ASN1Class) (k : Bool) (t : ℕ) (h : BeginsWithHeader octets s n c k t) →
-    octets ≡ h.identifier ++ (h.len ++ drop s octets)
-append-header_parts octets s n c k t h =
-    sym (take-append-drop s octets)
-    ∙ (ap (λ z. z ++ drop s octets) h.front_is ∙ append_assoc h.identifier h.len (drop s octets))
-
+-- two headers at the front of the same octets have the same fields
 pub BeginsWithHeader-unique :
     (octets : List ℕ) (s n : ℕ) (c : ASN1Class) (k : Bool) (t : ℕ) (s' n' : ℕ) (c' : ASN1Class) (k' : Bool) (t' : ℕ) →
     BeginsWithHeader octets s n c k t → BeginsWithHeader octets s' n' c' k' t' → SameHeader s n c k t s' n' c' k' t'
@@ -57,8 +49,7 @@ BeginsWithHeader-unique octets s n c k t s' n' c' k' t' h g =
     let whole = sym (append-header_parts octets s n c k t h) ∙ append-header_parts octets s' n' c' k' t' g in
     let i =
     IsIdentifier-unique h.identifier g.identifier (h.len ++ drop s octets) (g.len ++ drop s' octets) c c' k k' t t'
-    h.fields
-    g.fields whole
+    h.fields g.fields whole
     in
     let l = IsLength-unique h.len g.len (drop s octets) (drop s' octets) n n' h.length_octets g.length_octets i.rest in
     let size : s ≡ s' =
@@ -80,8 +71,7 @@ identifier-unique octets s n c k t s' n' c' k' t' h g =
     let whole = sym (append-header_parts octets s n c k t h) ∙ append-header_parts octets s' n' c' k' t' g in
     let i =
     IsIdentifier-unique h.identifier g.identifier (h.len ++ drop s octets) (g.len ++ drop s' octets) c c' k k' t t'
-    h.fields
-    g.fields whole
+    h.fields g.fields whole
     in
     i.octets
 
@@ -134,6 +124,7 @@ pub record SameInside (b b' : ℕ) (i i' : List ℕ) : Type 0 where
   pub before : b ≡ b'
   pub inside : i ≡ i'
 
+-- contents octets of one header hold others at one place alone
 pub Holds-unique :
     (c : ASN1Class) (k : Bool) (t : ℕ) (v : List ℕ) (b b' : ℕ) (i i' : List ℕ) → Holds c k t v b i →
     Holds c k t v b' i' → SameInside b b' i i'
@@ -173,14 +164,17 @@ ends_contents-open o a xs e is not =
     let so : true ≡ false = sym is ∙ (ap (λ z. ends_contents z xs) (sym e) ∙ not) in
     absurd (cc so)
 
+-- where no contents octets of the indefinite form are open, no octets end them
 pub ends_contents-none_open : (d : ℕ) (xs : List ℕ) → d ≤ 0 → nat_lt 0 d ≡ ends_contents d xs
 ends_contents-none_open zero xs none = refl
 ends_contents-none_open (suc d) xs none = absurd (omega (arith, none))
 
+-- where contents octets of the indefinite form are open, end-of-contents octets alone end the innermost
 pub ends_contents-some_open : (d : ℕ) (xs : List ℕ) → 0 < d → begins_with_end xs ≡ ends_contents d xs
 ends_contents-some_open zero xs some = absurd (omega (arith, some))
 ends_contents-some_open (suc d) xs some = refl
 
+-- octets that end contents octets begin with the two end-of-contents octets, and some contents octets are open
 pub ends_contents-octets :
     (d : ℕ) (xs : List ℕ) → ends_contents d xs ≡ true → (0 < d) × (begins_with_end xs ≡ true) × (2 ≤ length xs)
 ends_contents-octets zero xs e =
@@ -268,6 +262,7 @@ Reaches-leads o xs d a ys l some leads e zs = (to, λ at. is_further a ys l lead
         subst (λ z. Reaches z ys l e zs) same.around
         (subst (λ z. Reaches a' z l e zs) same.others (subst (λ z. Reaches a' ys' z e zs) same.later at))
 
+-- octets that lead nowhere reach nothing at an offset above 0
 pub Reaches-nowhere :
     (o : ℕ) (xs : List ℕ) (d : ℕ) → 0 < d →
     ((a : ℕ) (ys : List ℕ) (l : ℕ) → LeadsTo o xs d a ys l → ⊥) → (e : ℕ) (zs : List ℕ) → Reaches o xs d e zs → ⊥
@@ -321,6 +316,8 @@ pub take-contents :
 take-contents octets behind contents s n m b e is =
     is ∙ (ap (λ k. take k behind) e ∙ (take_min n behind ∙ ap (take n) b))
 
+-- what is behind the contents octets, as far as they are there, stands behind the header and as many octets as it
+-- announces
 pub drop-contents :
     (octets behind after : List ℕ) (s n m : ℕ) → behind ≡ drop s octets → m ≡ min n (length behind) →
     after ≡ drop m behind → after ≡ drop (s + n) octets
@@ -346,9 +343,11 @@ Reaches-itself o xs d a ys z (is_further b zs l (behind_indefinite s n c k t not
 module _
     (xs left : List ℕ) (offset depth distance : ℕ) (here : distance ≡ 0)
     (same : (a : ℕ) (ys : List ℕ) → Reaches 0 xs offset a ys ↔ Reaches depth left distance a ys) where
+  -- the octets at the end of the way are reached at the offset
   Reaches-offset : Reaches 0 xs offset depth left
   Reaches-offset = (same depth left).1 (is_here here refl refl)
 
+  -- an element at the end of the way begins at the offset, where no end-of-contents octets stand
   BeginsAt-element :
       (block : List ℕ) → ends_contents depth left ≡ false → ElementAt left block → BeginsAt xs offset block
   BeginsAt-element block no_end element = record {
@@ -359,9 +358,11 @@ module _
     element = element;
   }
 
+  -- what is reached at the offset is what stands at the end of the way
   Reaches-same : (a : ℕ) (ys : List ℕ) → Reaches 0 xs offset a ys → IsSame depth a left ys
   Reaches-same a ys h = Reaches-itself depth left distance a ys here ((same a ys).0 h)
 
+  -- no element begins at the offset, where none stands at the end of the way or end-of-contents octets do
   HasNoBlockAt-no_element : (HasNoElement left ⊎ (ends_contents depth left ≡ true)) → HasNoBlockAt xs offset
   HasNoBlockAt-no_element (inl none) block h =
       let is = Reaches-same h.around h.others h.reached in
@@ -373,14 +374,17 @@ module _
       ∙ (ap (ends_contents h.around) (sym is.others) ∙ h.no_end)) in
       absurd (cc never)
 
+  -- where no octets are left at the end of the way, whatever the offset reaches is empty
   LacksBlock-nil : left ≡ [] → LacksBlock xs offset Nothing
   LacksBlock-nil none a ys h = (Reaches-same a ys h).others ∙ none
 
+  -- an element that was found at the end of the way begins at the offset
   pub IfOk-begins_at :
       (r : Result (Bor (List ℕ)) NoBlock) → StandsThere depth left r → IfOk r (λ block. BeginsAt xs offset block.now)
   IfOk-begins_at (Ok block) (no_end, element) = BeginsAt-element block.now no_end element
   IfOk-begins_at (Err why) h = tt
 
+  -- where no element was found at the end of the way, none begins at the offset
   pub IfErr-no_block :
       (r : Result (Bor (List ℕ)) NoBlock) → StandsThere depth left r → IfErr r (λ _. HasNoBlockAt xs offset)
   IfErr-no_block (Ok block) h = tt
@@ -390,6 +394,7 @@ module _
   IfErr-no_block (Err CutShort) (no_end, header, none) = HasNoBlockAt-no_element (inl none)
   IfErr-no_block (Err Nothing) none = HasNoBlockAt-no_element (inl (HasNoElement-nil left none))
 
+  -- why no element was found at the end of the way is why none begins at the offset
   pub IfErr-lacks_block :
       (r : Result (Bor (List ℕ)) NoBlock) → StandsThere depth left r → IfErr r (LacksBlock xs offset)
   IfErr-lacks_block (Ok block) h = tt

@@ -1,6 +1,5 @@
 -- The octets that a string holds, for `string_value::string_octets`.
-use Rattle.std.proofs.Common.{◌≡◌, ◌==◌, ℕ, Bool, true, false, List, drop, length, inl, inr}
-use Rattle.std.proofs.Common.{refl, sym, ap, ◌∙◌, subst, eqb-true}
+use Rattle.std.proofs.Common.{◌≡◌, ◌==◌, ℕ, Bool, true, false, List, drop, length, inl, inr, refl, sym, ap, ◌∙◌, subst, eqb-true}
 use Rattle.std.specs.Prelude.{◌↔◌, IsTrue}
 use Rattle.asn1_headers.specs.Front.{BeginsWithHeader, HasIndefiniteForm, HasNoHeader, IsAtFront}
 use Rattle.asn1_headers.specs.declared.whole_header.Header.{Header}
@@ -20,23 +19,20 @@ IsString-no_header element none (size, announced, constructed, tag, header, is) 
 
 module _ (element : List ℕ) (header : Header) (front : IsAtFront element header) where
   -- an element of another type is no string
-  pub IsString-other_type : (header.class ≡ Universal → is_string_tag header.tag ≡ true → ⊥) → IsString element → ⊥
-  IsString-other_type none (size, announced, constructed, tag, BeginsWithHeader-front, is) =
+  pub IsString-not_string_tag : (header.class ≡ Universal → is_string_tag header.tag ≡ true → ⊥) → IsString element → ⊥
+  IsString-not_string_tag none (size, announced, constructed, tag, BeginsWithHeader-front, is) =
       let same = BeginsWithHeader-unique element header.size header.announced header.class header.constructed header.tag
-      size
-      announced
-      Universal constructed tag front BeginsWithHeader-front in
+      size announced Universal constructed tag front BeginsWithHeader-front in
       none same.class (subst (λ z. is_string_tag z ≡ true) (sym same.tag) is)
 
   module _ (form : IsTrue header.is_indefinite ↔ HasIndefiniteForm element) (tag : ℕ) (class : header.class ≡ Universal)
       (number : header.tag ≡ tag) (is : is_string_tag tag ≡ true) where
+    -- the element begins with a header of class Universal with the tag, constructed or not as its header is
     BeginsWithHeader-front : (k : Bool) → header.constructed ≡ k →
         BeginsWithHeader element header.size header.announced Universal k tag
     BeginsWithHeader-front k e =
         BeginsWithHeader-same element header.size header.announced header.class header.constructed header.tag
-        header.size
-        header.announced
-        Universal k tag front
+        header.size header.announced Universal k tag front
         (record { size = refl; announced = refl; class = class; constructed = e; tag = number })
 
     -- the element is a string
@@ -44,6 +40,7 @@ module _ (element : List ℕ) (header : Header) (front : IsAtFront element heade
     IsString-tag =
         (header.size, header.announced, header.constructed, tag, BeginsWithHeader-front header.constructed refl, is)
 
+    -- a string, constructed or primitive, holds the octets of its contents octets in one piece
     HoldsOctets-of_form :
         (k : Bool) → header.constructed ≡ k → (contents octets : List ℕ) → IsPiece k tag header element contents →
         AreOctetsOf tag contents octets → HoldsOctets element octets
@@ -67,8 +64,7 @@ module _ (element : List ℕ) (header : Header) (front : IsAtFront element heade
       header = BeginsWithHeader-front false e;
       is_string = is;
       form = is_stray_form-unique element header.size header.announced Universal false tag header.size header.announced
-          header.class
-          header.constructed header.tag (BeginsWithHeader-front false e) front
+          header.class header.constructed header.tag (BeginsWithHeader-front false e) front
           ∙ (ap (λ z. is_stray_form z (drop (length front.identifier) element)) e ∙ stray front);
       contents = contents;
       in_one_piece = same;
@@ -81,6 +77,7 @@ module _ (element : List ℕ) (header : Header) (front : IsAtFront element heade
         HoldsOctets element octets
     HoldsOctets-piece contents octets piece are = HoldsOctets-of_form header.constructed refl contents octets piece are
 
+    -- contents octets of the element in one piece are one by its header, if that is not of a stray form
     IsPiece-one_piece :
         (k : Bool) (contents : List ℕ) → AreInOnePiece element k tag (drop header.size element) contents →
         ((other : IsAtFront element header) → is_stray_form k (drop (length other.identifier) element) ≡ false) →
@@ -94,8 +91,7 @@ module _ (element : List ℕ) (header : Header) (front : IsAtFront element heade
     HasPiece-held : (octets : List ℕ) (h : HoldsOctets element octets) → HasPiece tag header element h.contents
     HasPiece-held octets h =
         let same = BeginsWithHeader-unique element h.size h.announced Universal h.constructed h.tag header.size
-        header.announced
-        header.class header.constructed header.tag h.header front in
+        header.announced header.class header.constructed header.tag h.header front in
         let number' : h.tag ≡ tag = same.tag ∙ number in
         let piece : AreInOnePiece element header.constructed tag (drop header.size element) h.contents =
         subst (λ z. AreInOnePiece element z tag (drop header.size element) h.contents) same.constructed
@@ -108,23 +104,25 @@ module _ (element : List ℕ) (header : Header) (front : IsAtFront element heade
         h.announced
         Universal h.constructed h.tag other h.header ∙ h.form)
 
+    -- the octets that a string holds are those of its contents octets in one piece, by the tag of the header
     AreOctetsOf-held : (octets : List ℕ) (h : HoldsOctets element octets) → AreOctetsOf tag h.contents octets
     AreOctetsOf-held octets h =
         let same = BeginsWithHeader-unique element h.size h.announced Universal h.constructed h.tag header.size
-        header.announced
-        header.class header.constructed header.tag h.header front in
+        header.announced header.class header.constructed header.tag h.header front in
         subst (λ z. AreOctetsOf z h.contents octets) (same.tag ∙ number) h.are_octets
 
     -- without contents octets in one piece a string holds no octets
     pub HoldsNoOctets-no_piece : HasNoPiece tag header element → HoldsNoOctets element
     HoldsNoOctets-no_piece none octets h = none h.contents (HasPiece-held octets h)
 
+    -- it cannot be that contents octets of a BIT STRING which are bits hold no octets of a string
     AreOctetsOf-bits :
         (contents : List ℕ) → tag ≡ BIT_STRING → AreBits contents →
         ((octets : List ℕ) → AreOctetsOf tag contents octets → ⊥) → ⊥
     AreOctetsOf-bits contents e bits none =
         none bits.bits (inl (ap (λ z. z == BIT_STRING) e, (bits.unused, bits.are, bits.few, bits.none)))
 
+    -- where some contents octets of a string in one piece have no octets of a string, no others in one piece have
     AreOctetsOf-same_piece :
         (k : Bool) (contents held octets : List ℕ) → IsPiece k tag header element contents →
         IsPiece k tag header element held → ((octets : List ℕ) → AreOctetsOf tag contents octets → ⊥) →

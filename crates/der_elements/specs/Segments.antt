@@ -1,6 +1,5 @@
 -- The segments of a constructed string, and the contents octets that it has when they are joined.
-use Rattle.std.specs.Prelude.{◌≡◌, ◌↔◌, ◌==◌, ◌⊎◌, ◌&&◌, ℕ, ◌+◌, ◌≤◌, Bool, true, false, IsTrue, if◌then◌else◌, List, [], ◌∷◌}
-use Rattle.std.specs.Prelude.{◌++◌, drop, length, slice_range}
+use Rattle.std.specs.Prelude.{◌≡◌, ◌↔◌, ◌==◌, ◌⊎◌, ◌&&◌, ℕ, ◌+◌, ◌≤◌, Bool, true, false, IsTrue, if◌then◌else◌, List, [], ◌∷◌, ◌++◌, drop, length, slice_range}
 use Rattle.asn1_headers.specs.declared.tags.TheConstants.{BIT_STRING, OCTET_STRING}
 use Rattle.asn1_headers.specs.Front.{BeginsWithHeader, HasIndefiniteForm}
 use Rattle.asn1_headers.specs.declared.header.ASN1Class.TheVariants.{Universal}

@@ -1,6 +1,5 @@
 -- The octets that a string holds, in one piece or in segments.
-use Rattle.std.specs.Prelude.{◌≡◌, ◌↔◌, ◌==◌, ◌⊎◌, ◌||◌, ◌&&◌, ℕ, ◌≤◌, nat_le, Bool, true, false, IsTrue, List, [], ◌∷◌}
-use Rattle.std.specs.Prelude.{Result, Ok, Err, Vec, drop, length}
+use Rattle.std.specs.Prelude.{◌≡◌, ◌↔◌, ◌==◌, ◌⊎◌, ◌||◌, ◌&&◌, ℕ, ◌≤◌, nat_le, Bool, true, false, IsTrue, List, [], ◌∷◌, Result, Ok, Err, Vec, drop, length}
 use Rattle.std.specs.Global.{Global}
 use Rattle.asn1_headers.specs.declared.tags.TheConstants.{BIT_STRING, OCTET_STRING, OBJECT_DESCRIPTOR, UTF8_STRING, NUMERIC_STRING, UNIVERSAL_STRING, BMP_STRING}
 use Rattle.asn1_headers.specs.Front.{BeginsWithHeader, HasIndefiniteForm}

@@ -4,7 +4,7 @@ ghost use Rattle.asn1_headers.specs.Front.{HasIndefiniteForm};
 ghost use Rattle.der_elements.specs.Elements.{ElementAt, HasContents, HasNoContents, HasNoElement, StandsBehindIndefinite, end_octets};
 ghost use Rattle.der_elements.specs.SeekSteps.{Closes};
 
-use crate::header::find_header;
+use crate::element_header::find_header;
 use crate::sum::checked_sum;
 use asn1_blocks::encoding::encoding_at;
 use asn1_headers::indefinite::begins_with_end;

@@ -4,14 +4,14 @@
 //! end-of-contents octets. [`block_at`] finds one by its offset, [`behind_header`] its contents octets, and
 //! [`string_octets`] the octets that a string holds.
 //!
-//! The modules are for `der_pieces`, which goes over the same headers and segments.
+//! The modules are for the crates above: `der_pieces` and what shows its pieces go over the same headers and segments.
 //!
 //! The only error is that memory ran out.
 #![tactic(auto)]
 
 pub mod cursor;
 mod element;
-pub mod header;
+pub mod element_header;
 mod seek;
 pub mod segments;
 pub mod string_value;

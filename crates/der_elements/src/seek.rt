@@ -6,7 +6,7 @@ ghost use Rattle.der_elements.specs.SeekSteps.{IsWhy, LeadsNowhere, LeadsOn, Sta
 ghost use Rattle.asn1_headers.specs.declared.header.ASN1Class.TheVariants.{Universal};
 
 use crate::element::element_at;
-use crate::header::{find_header, has_tag, holds_encodings};
+use crate::element_header::{find_header, has_tag, holds_encodings};
 use crate::sum::checked_sum;
 use asn1_blocks::encoding::encoding_at;
 use asn1_headers::header::ASN1Class;

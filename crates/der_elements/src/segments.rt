@@ -5,7 +5,7 @@ ghost use Rattle.der_elements.specs.Segments.{AreSegmentsOf, HaveNoSegments, Joi
 ghost use Rattle.der_elements.specs.Steps.{HasNoSegment, IsSegment};
 
 use crate::cursor::{Cursor, Left, Step};
-use crate::header::{has_tag, is_universal, size_of, whole_header};
+use crate::element_header::{has_tag, is_universal, size_of, whole_header};
 use asn1_headers::tags;
 use asn1_headers::whole_header::Header;
 use std::alloc::{AllocError, Global};

@@ -5,7 +5,7 @@ ghost use Rattle.asn1_headers.specs.declared.header.ASN1Class.TheVariants.{Unive
 ghost use Rattle.der_elements.specs.StringOctets.{AreOctetsOf, IsStringAnswer, is_string_tag as is_string_tag_is};
 ghost use Rattle.der_elements.specs.StringSteps.{HasNoPiece, HasPiece};
 
-use crate::header::{find_header, has_stray_form, universal_tag};
+use crate::element_header::{find_header, has_stray_form, universal_tag};
 use crate::segments::joined_segments;
 use asn1_headers::tags::{
     BIT_STRING, BMP_STRING, NUMERIC_STRING, OBJECT_DESCRIPTOR, OCTET_STRING, UNIVERSAL_STRING,

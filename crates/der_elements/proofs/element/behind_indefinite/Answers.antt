@@ -1,8 +1,9 @@
 -- For `element::behind_indefinite`: what it returns is right.
-use Rattle.std.proofs.Common.{subst, sym}
+use Rattle.std.proofs.Common.{◌∙◌, subst, sym}
+use Rattle.std.proofs.lemmas.Bool.{false≢true, not-false, not-true}
 use Rattle.asn1_headers.specs.Front.{HasNoHeader, IsAtFront}
 use Rattle.der_elements.specs.Elements.{StandsBehindIndefinite}
-use Rattle.der_elements.proofs.Elements.{HasIndefiniteForm-no_header, StandsBehindIndefinite-header, false-not_true, true-not_false}
+use Rattle.der_elements.proofs.Elements.{HasIndefiniteForm-no_header, StandsBehindIndefinite-header}
 use Rattle.der_elements.proofs.element.behind_indefinite.Goals as goal
 
 pub returns-in_default : goal.returns-in_default
@@ -13,7 +14,7 @@ returns-in_default c =
 pub returns-then-not-header : goal.returns-then-not-header
 returns-then-not-header c = λ form.
     let indefinite = rw c.in-Some.is at c.in_ok-header.ensures.form in
-    false-not_true c.in-Some.header.is_indefinite c.if-not-header.true (indefinite.1 form)
+    false≢true (sym (not-true c.in-Some.header.is_indefinite c.if-not-header.true) ∙ indefinite.1 form)
 
 pub returns : goal.returns
 returns c =
@@ -23,4 +24,4 @@ returns c =
     let indefinite = rw c.in-Some.is at c.in_ok-header.ensures.form in
     subst (StandsBehindIndefinite octets) (sym c.split_at.ensures.back)
     (StandsBehindIndefinite-header octets header.size header.announced header.class header.constructed header.tag front
-    (indefinite.0 (true-not_false header.is_indefinite c.if-not-header.false)))
+    (indefinite.0 (not-false header.is_indefinite c.if-not-header.false)))

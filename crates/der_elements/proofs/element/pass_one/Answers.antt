@@ -15,15 +15,13 @@ returns-in-Some-clause-same c =
     let at : StandsBehindIndefinite c.args.octets.now c.in-Some.behind.now =
     rw c.in-Some.is at c.in_ok-behind.ensures in
     Closes-past_header c.args.depth c.in_ok-checked_sum.field-0 c.args.octets.now c.in-Some.behind.now c.requires
-    c.in_ok-checked_sum.ensures
-    (sym c.begins_with_end.ensures ∙ c.if-begins_with_end.false) at
+    c.in_ok-checked_sum.ensures (sym c.begins_with_end.ensures ∙ c.if-begins_with_end.false) at
 
 pub returns-in_default-encoding_at-clause-same : goal.returns-in_default-encoding_at-clause-same
 returns-in_default-encoding_at-clause-same c =
     let definite : HasIndefiniteForm c.args.octets.now → ⊥ = rw c.in_default.is at c.in_ok-behind.ensures in
     Closes-nothing c.args.depth c.args.octets.now c.requires
-    (sym c.begins_with_end.ensures ∙ c.if-begins_with_end.false)
-    definite c.in_default-encoding_at.ensures.none
+    (sym c.begins_with_end.ensures ∙ c.if-begins_with_end.false) definite c.in_default-encoding_at.ensures.none
 
 pub returns-clause-same : goal.returns-clause-same
 returns-clause-same c =

@@ -36,8 +36,7 @@ returns-clause-found c =
     let here : target.distance ≡ 0 = omega (arith, c.loop-target-test.false) in
     IfOk-weaker c.block_here.result _ _
     (IfOk-begins_at c.args.octets.now target.octets.now c.args.offset target.depth target.distance here
-    c.loop-target.invariant)
-    c.block_here.ensures
+    c.loop-target.invariant) c.block_here.ensures
 
 pub returns-clause-none : goal.returns-clause-none
 returns-clause-none c =
@@ -45,8 +44,7 @@ returns-clause-none c =
     let here : target.distance ≡ 0 = omega (arith, c.loop-target-test.false) in
     IfOk-weaker c.block_here.result _ _
     (IfErr-no_block c.args.octets.now target.octets.now c.args.offset target.depth target.distance here
-    c.loop-target.invariant)
-    c.block_here.ensures
+    c.loop-target.invariant) c.block_here.ensures
 
 pub returns-clause-why : goal.returns-clause-why
 returns-clause-why c =
@@ -54,5 +52,4 @@ returns-clause-why c =
     let here : target.distance ≡ 0 = omega (arith, c.loop-target-test.false) in
     IfOk-weaker c.block_here.result _ _
     (IfErr-lacks_block c.args.octets.now target.octets.now c.args.offset target.depth target.distance here
-    c.loop-target.invariant)
-    c.block_here.ensures
+    c.loop-target.invariant) c.block_here.ensures

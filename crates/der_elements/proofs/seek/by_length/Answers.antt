@@ -10,8 +10,7 @@ returns-then-place-header-clause-found c =
     let header = c.args.header.now in
     let after =
     drop-contents target.octets.now c.split_at.result.1.now c.split_at-2.result.1.now header.size header.announced
-    c.min.result
-    c.split_at.ensures.back c.min.ensures c.split_at-2.ensures.back in
+    c.min.result c.split_at.ensures.back c.min.ensures c.split_at-2.ensures.back in
     let later : target.distance
     ≡ (header.size + header.announced) + (target.distance - header.size - header.announced) =
     omega (arith, c.requires.behind) in
@@ -24,15 +23,13 @@ returns-in_default-clause-found c =
     let header = c.args.header.now in
     let contents =
     take-contents target.octets.now c.split_at.result.1.now c.split_at-2.result.0.now header.size header.announced
-    c.min.result
-    c.split_at.ensures.back c.min.ensures c.split_at-2.ensures.front in
+    c.min.result c.split_at.ensures.back c.min.ensures c.split_at-2.ensures.front in
     let few : target.distance < header.size + header.announced = omega (arith, c.requires.behind) in
     let none : (b : ℕ) (ys : List ℕ) → Holds header.class header.constructed header.tag c.split_at-2.result.0.now b ys →
     ⊥ =
     rw c.in_default.is at c.octets_inside.ensures in
     LeadsTo-in_contents target.depth target.octets.now target.distance c.requires.element header.size header.announced
-    header.class
-    header.constructed header.tag c.requires.front few c.requires.form
+    header.class header.constructed header.tag c.requires.front few c.requires.form
     (λ before inside held. absurd (none before inside
     (subst (λ z. Holds header.class header.constructed header.tag z before inside) (sym contents) held)))
 
@@ -44,18 +41,15 @@ returns-then-place-before-clause-found c =
     let Inside = λ (z : List ℕ). Holds header.class header.constructed header.tag z found.before found.octets.now in
     let contents =
     take-contents target.octets.now c.split_at.result.1.now c.split_at-2.result.0.now header.size header.announced
-    c.min.result
-    c.split_at.ensures.back c.min.ensures c.split_at-2.ensures.front in
+    c.min.result c.split_at.ensures.back c.min.ensures c.split_at-2.ensures.front in
     let held : Inside c.split_at-2.result.0.now = rw c.in-Some.is at c.octets_inside.ensures in
     let few : target.distance < header.size + header.announced = omega (arith, c.requires.behind) in
     LeadsTo-in_contents target.depth target.octets.now target.distance c.requires.element header.size header.announced
-    header.class
-    header.constructed header.tag c.requires.front few c.requires.form
+    header.class header.constructed header.tag c.requires.front few c.requires.form
     (λ before inside other.
     let one =
     Holds-unique header.class header.constructed header.tag (take header.announced (drop header.size target.octets.now))
-    before
-    found.before inside found.octets.now other (subst Inside contents held)
+    before found.before inside found.octets.now other (subst Inside contents held)
     in
     omega (arith, one.before, c.requires.behind))
 
@@ -67,8 +61,7 @@ returns-clause-found c =
     let Inside = λ (z : List ℕ). Holds header.class header.constructed header.tag z found.before found.octets.now in
     let contents =
     take-contents target.octets.now c.split_at.result.1.now c.split_at-2.result.0.now header.size header.announced
-    c.min.result
-    c.split_at.ensures.back c.min.ensures c.split_at-2.ensures.front in
+    c.min.result c.split_at.ensures.back c.min.ensures c.split_at-2.ensures.front in
     let held : Inside c.split_at-2.result.0.now = rw c.in-Some.is at c.octets_inside.ensures in
     let less = target.distance - header.size - found.before in
     let few : found.before + less < header.announced = omega (arith, c.requires.behind) in

@@ -7,8 +7,7 @@ use Rattle.asn1_headers.specs.declared.header.ASN1Class.TheVariants.{Universal}
 use Rattle.der_elements.specs.Headers.{is_stray_form}
 use Rattle.der_elements.specs.Segments.{segment_tag}
 use Rattle.der_elements.specs.Steps.{HasNoWhole}
-use Rattle.der_elements.proofs.JoinedSegments.{HasNoSegment-no_whole, HasNoSegment-not_joined, HasNoSegment-other_type, IsSegment-constructed}
-use Rattle.der_elements.proofs.JoinedSegments.{IsSegment-primitive}
+use Rattle.der_elements.proofs.JoinedSegments.{HasNoSegment-no_whole, HasNoSegment-not_joined, HasNoSegment-not_segment_tag, IsSegment-constructed, IsSegment-primitive}
 use Rattle.der_elements.proofs.segments.join_next.Goals as goal
 
 pub returns-in_default : goal.returns-in_default
@@ -22,7 +21,7 @@ returns-then-not-is_segment c =
     let header = c.in-Some.header in
     let octets = c.args.left.octets.now in
     let front : IsAtFront octets header = rw c.in-Some.is at c.in_ok-header.ensures.front in
-    HasNoSegment-other_type c.args.tag c.args.left c.args.joined.now.items
+    HasNoSegment-not_segment_tag c.args.tag c.args.left c.args.joined.now.items
     (sym c.begins_with_end.ensures ∙ c.if-begins_with_end.false) header front
     (λ class tag. grind (arith, common_steps))
 
@@ -50,8 +49,7 @@ returns-then-branch c =
     rw c.in-Some.is at c.in_ok-header.ensures.no_stray in
     let is : (header.class ≡ Universal) × (header.tag ≡ segment_tag c.args.tag) = search rules in
     IsSegment-primitive c.args.tag c.args.left header _ _ (sym c.begins_with_end.ensures ∙ c.if-begins_with_end.false)
-    front
-    whole is.0 c.if-header.false is.1 stray (c.in_ok-join.ensures.joined c.if-branch.true)
+    front whole is.0 c.if-header.false is.1 stray (c.in_ok-join.ensures.joined c.if-branch.true)
 
 pub returns : goal.returns
 returns c =

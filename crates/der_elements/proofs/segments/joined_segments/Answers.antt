@@ -3,8 +3,7 @@ use Rattle.std.proofs.Common.{◌<◌, ◌≤◌, arith, refl}
 use Rattle.der_elements.specs.Segments.{no_more}
 use Rattle.der_elements.specs.Steps.{HasNoSegment, IsSegment, to_go}
 use Rattle.der_elements.proofs.Cursors.{to_go-left_le, to_go-step_lt}
-use Rattle.der_elements.proofs.JoinedSegments.{AreLeft-back, AreLeft-before_segment, AreLeft-behind_segment, AreLeft-no_segment, Takes-segment}
-use Rattle.der_elements.proofs.JoinedSegments.{AreLeft-on}
+use Rattle.der_elements.proofs.JoinedSegments.{AreLeft-back, AreLeft-before_segment, AreLeft-behind_segment, AreLeft-no_segment, Takes-segment, AreLeft-on}
 use Rattle.der_elements.proofs.segments.joined_segments.Goals as goal
 
 pub loop-left-smaller : goal.loop-left-smaller

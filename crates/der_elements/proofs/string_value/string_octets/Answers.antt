@@ -4,7 +4,7 @@ use Rattle.std.specs.Prelude.{◌↔◌, IsTrue}
 use Rattle.asn1_headers.specs.Front.{HasIndefiniteForm, HasNoHeader, IsAtFront}
 use Rattle.der_elements.specs.StringOctets.{AreOctetsOf}
 use Rattle.der_elements.specs.StringSteps.{HasNoPiece, HasPiece}
-use Rattle.der_elements.proofs.StringOctets.{HoldsNoOctets-no_octets, HoldsNoOctets-no_piece, HoldsOctets-piece, IsString-no_header, IsString-other_type, IsString-tag}
+use Rattle.der_elements.proofs.StringOctets.{HoldsNoOctets-no_octets, HoldsNoOctets-no_piece, HoldsOctets-piece, IsString-no_header, IsString-not_string_tag, IsString-tag}
 use Rattle.der_elements.proofs.string_value.string_octets.Goals as goal
 
 pub returns-in_default : goal.returns-in_default
@@ -16,7 +16,7 @@ pub returns-in_default-string_type : goal.returns-in_default-string_type
 returns-in_default-string_type c =
     let header = c.in-Some.header in
     let front : IsAtFront c.args.element.now header = rw c.in-Some.is at c.in_ok-header.ensures.found in
-    IsString-other_type c.args.element.now header front c.in_default-string_type.ensures
+    IsString-not_string_tag c.args.element.now header front c.in_default-string_type.ensures
 
 pub returns-in_default-2 : goal.returns-in_default-2
 returns-in_default-2 c =

@@ -1,9 +1,9 @@
--- For `header::whole_header`: what it returns is right (`none`).
+-- For `element_header::whole_header`: what it returns is right (`none`).
 use Rattle.std.proofs.Common.{◌≡◌, true, false, length, drop, sym, ◌∙◌, arith}
 use Rattle.asn1_headers.specs.Front.{HasNoHeader, IsAtFront}
 use Rattle.der_elements.specs.Headers.{is_stray_form}
 use Rattle.der_elements.proofs.Seeking.{BeginsWithHeader-unique, HasNoHeader-begins, is_stray_form-unique}
-use Rattle.der_elements.proofs.header.whole_header.Goals as goal
+use Rattle.der_elements.proofs.element_header.whole_header.Goals as goal
 
 pub returns-in_default-clause-none : goal.returns-in_default-clause-none
 returns-in_default-clause-none c size announced class constructed tag begins whole form =
@@ -16,9 +16,7 @@ returns-then-header-octets-clause-none c size announced class constructed tag be
     let header = c.in-Some.header in
     let front : IsAtFront octets header = rw c.in-Some.is at c.in_ok-header.ensures.found in
     let same = BeginsWithHeader-unique octets header.size header.announced header.class header.constructed header.tag
-    size
-    announced
-    class constructed tag front begins in
+    size announced class constructed tag front begins in
     absurd (omega (arith, same.size, same.announced, whole, c.if-header-octets.true))
 
 pub returns-then-has_stray_form-clause-none : goal.returns-then-has_stray_form-clause-none
@@ -29,7 +27,6 @@ returns-then-has_stray_form-clause-none c size announced class constructed tag b
     let stray : is_stray_form header.constructed (drop (length front.identifier) octets) ≡ true =
     sym (c.has_stray_form.ensures front) ∙ c.if-has_stray_form.true in
     let same = is_stray_form-unique octets size announced class constructed tag header.size header.announced
-    header.class
-    header.constructed header.tag begins front in
+    header.class header.constructed header.tag begins front in
     let never : true ≡ false = sym (same ∙ stray) ∙ form in
     absurd (cc never)

@@ -1,8 +1,8 @@
--- For `header::has_indefinite_length`: what it returns is right.
+-- For `element_header::has_indefinite_length`: what it returns is right.
 use Rattle.std.proofs.Common.{ap, ◌∙◌}
 use Rattle.asn1_headers.specs.Indefinite.{is_indefinite}
 use Rattle.der_elements.proofs.Lengths.{IsBehind-drop}
-use Rattle.der_elements.proofs.header.has_indefinite_length.Goals as goal
+use Rattle.der_elements.proofs.element_header.has_indefinite_length.Goals as goal
 
 pub returns : goal.returns
 returns c front =
