@@ -15,11 +15,13 @@ use Rattle.der_contents.specs.Values.{IsBerTime, IsLeaf, IsValue, is_wide}
 use Rattle.der_contents.specs.declared.value.LeafValue.{LeafValue}
 use Rattle.der_contents.specs.declared.value.LeafValue.TheVariants.{BerTime, Bits, Boolean, Identifier, Integer, Moment, NoText, Notation, Null, Octets, Other, OtherText, Tagged, Text, WideText}
 
+-- an encoding that is not gone into is primitive
 pub is_gone_into-primitive : (class : ASN1Class) (constructed : Bool) (tag : ℕ) →
     is_gone_into class constructed tag ≡ false → constructed ≡ false
 is_gone_into-primitive class true tag e = absurd (false≢true (sym e))
 is_gone_into-primitive class false tag e = refl
 
+-- an encoding of class Universal with the tag of a SEQUENCE or SET is gone into, constructed or not
 is_gone_into-group_tag : (constructed : Bool) (g : GroupKind) → is_gone_into Universal constructed (group_tag g) ≡ true
 is_gone_into-group_tag true Sequence = refl
 is_gone_into-group_tag true Set = refl
@@ -51,15 +53,20 @@ module _ (octets contents : List ℕ) (class : ASN1Class) (constructed : Bool) (
     | leaf_tag_of t ↦ absurd (false≢true (sym none ∙ t))
   ]
 
+  -- an encoding of a class other than Universal, and not gone into, encodes what stays as it came
   pub Encodes-tagged : class ≢ Universal → is_gone_into class constructed tag ≡ false →
       Encodes 0 octets (unknown class constructed 0 tag contents)
   Encodes-tagged other closed =
       (refl, header, e, inr (other, λ z. false≢true (sym (is_gone_into-primitive class constructed tag closed) ∙ z.0)))
 
+  -- an encoding whose contents octets mean a leaf is of a block, the last of the three cases of octets that have a
+  -- value
   IsValue-encodes_leaf : (l : Leaf) → IsLeaf class tag contents l →
       (is_wide class tag ≡ true) ⊎ (IsBerTime class tag contents ⊎ ((b : Tree ℕ) × Encodes 0 octets b))
   IsValue-encodes_leaf l is = inr (inr (leaf 0 l, Encodes-leaf l is))
 
+  -- an encoding of class Universal with a tag of no leaf, and not gone into, is of a block, the last of the three
+  -- cases of octets that have a value
   IsValue-encodes_unknown : class ≡ Universal → is_leaf_tag tag ≡ false → is_gone_into class constructed tag ≡ false →
       (is_wide class tag ≡ true) ⊎ (IsBerTime class tag contents ⊎ ((b : Tree ℕ) × Encodes 0 octets b))
   IsValue-encodes_unknown u none closed =

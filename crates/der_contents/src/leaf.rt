@@ -26,7 +26,7 @@ use asn1_leaves::contents::text::TextForm;
 use asn1_leaves::contents::{bit_string, boolean, generalized_time, integer, text, utc_time};
 use asn1_leaves::oid;
 use asn1_numbers::number::big_int::BigInt;
-use der_elements::header::{has_tag, universal_tag};
+use der_elements::element_header::{has_tag, universal_tag};
 use der_values::{
     Characters, Role, fraction_digits, has_text, moment_text, string_of, text_in_form, time_text,
     value_text,
@@ -34,7 +34,6 @@ use der_values::{
 use std::alloc::{AllocError, Global};
 use std::str;
 
-// The tag of an ENUMERATED (X.680 8.4, table 1).
 // The value of contents octets, or what is wrong with them.
 #[derive(Drop)]
 pub struct Read {
@@ -265,11 +264,11 @@ fn unknown_value(alloc: Global, tag: u64, contents: &[u8]) -> Result<LeafValue, 
     if has_text(tag) {
         return value_as_text(alloc, tag, contents);
     }
-    Ok(LeafValue::Other(other_text(alloc, tag, contents)?))
+    Ok(LeafValue::Other(text_of_unknown(alloc, tag, contents)?))
 }
 
 // Contents octets of an unknown type as text, where they may be some.
-fn other_text(alloc: Global, tag: u64, contents: &[u8]) -> Result<Option<String>, AllocError> {
+fn text_of_unknown(alloc: Global, tag: u64, contents: &[u8]) -> Result<Option<String>, AllocError> {
     if tag < 256 {
         printed_text(alloc, contents)
     } else {

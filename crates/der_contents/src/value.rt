@@ -82,7 +82,7 @@ pub struct Bits {
 #[derive(Drop)]
 pub struct Identifier {
     pub components: OID,
-    // these in decimal with points between them, if each is below 2^128
+    // the components in decimal with points between them, if each is below 2^128
     pub dotted: Option<String>,
 }
 

@@ -13,5 +13,4 @@ returns-in-Some-clause-refused c =
     (λ e found. elim found [
       | inl memory ↦ inl memory
       | inr fault ↦ inr (c.in-Universal.is, subst (λ z. LeafFault z c.args.contents.now (fault_of e)) t fault)
-    ])
-    c.universal_value.ensures.refused
+    ]) c.universal_value.ensures.refused
