@@ -5,8 +5,8 @@ use Rattle.der_shapes.specs.Spots.{IsPath}
 use Rattle.der_shapes.specs.Walks.{IsReached, path_of}
 use Rattle.der_shapes.specs.declared.shapes.Shapes.{Shapes}
 use Rattle.der_shapes.specs.declared.take.Spot.{Spot}
-use Rattle.der_shapes.specs.declared.walk.FieldWalk.{FieldWalk}
-use Rattle.der_shapes.specs.declared.walk.Frame.{Frame}
+use Rattle.der_shapes.specs.declared.field_walk.FieldWalk.{FieldWalk}
+use Rattle.der_shapes.specs.declared.field_walk.Frame.{Frame}
 use Rattle.der_pieces.specs.Fields.{EndsPath, GoesOver, StandsAround}
 use Rattle.der_pieces.specs.declared.place.Around.{Around}
 

@@ -30,6 +30,7 @@ use Rattle.der_contents.specs.declared.value.LeafValue.{LeafValue}
 use Rattle.der_contents.proofs.Values.{IsValue-encodes}
 use Rattle.der_elements.proofs.Seeking.{size-length_header}
 
+-- where no end-of-contents octets end what is left, what begins its octets comes next
 pub StartsNext-first :
     (left : Left) (offset depth : ℕ) (front : Front) (step : Step) (faults : List ℕ) →
     (left.is_indefinite && begins_with_end left.octets.now) ≡ false → 0 < length left.octets.now →
@@ -60,10 +61,12 @@ fault_offset-at :
 fault_offset-at Is offset None turn none = absurd none
 fault_offset-at Is offset (Some fault) turn is = ap (λ z. z ∷ []) (turn fault is)
 
+-- the offset of a fault of reading is the offset at which it was found
 pub fault_offset-named : (offset : ℕ) (found : DecodeFault) (fault : Option Fault)
     → IsFault (IsNamed offset found) fault → fault_offset fault ≡ offset ∷ []
 fault_offset-named offset found fault = fault_offset-at (IsNamed offset found) offset fault (λ f is. is.0)
 
+-- the offset of a fault without a name is the offset at which it was found
 pub fault_offset-nameless : (offset : ℕ) (fault : Option Fault) → IsFault (IsNameless offset) fault →
     fault_offset fault ≡ offset ∷ []
 fault_offset-nameless offset fault = fault_offset-at (IsNameless offset) offset fault (λ f is. is.0)
@@ -80,6 +83,8 @@ abbrev pub HasMeaningAs : List ℕ → ℕ → ℕ → List Rule → Option Mean
 HasMeaningAs left offset depth rules meaning header faults =
     HasMeaning left (header_front offset depth rules meaning header) header.class header.constructed header.tag faults
 
+-- a header at the front, with what is wrong, the meaning and the broken rules of its encoding, is an encoding that
+-- begins the octets
 IsFirst-begins :
     (left : List ℕ) (offset depth : ℕ) (rules : List Rule) (meaning : Option Meaning) (header : Header) (opened : Bool)
     (faults : List ℕ) (h : IsAtFront left header) → opened ≡ is_gone_into header.class header.constructed header.tag →
@@ -106,6 +111,7 @@ IsFirst-begins left offset depth rules meaning header opened faults h o form jud
 one_fault-not_empty : (faults : List ℕ) (offset : ℕ) → faults ≡ offset ∷ [] → 0 < length faults
 one_fault-not_empty faults offset e = subst (λ z. 0 < length z) (sym e) (omega arith)
 
+-- an encoding that is cut short takes all octets that are there
 taken-cut : (indefinite : Bool) (n there : ℕ) → there < n → there ≡ taken indefinite n there
 taken-cut true n there less = refl
 taken-cut false n there less = omega (arith, less)
@@ -180,6 +186,7 @@ IsJudgedAs-opened left offset depth rules header fault h l o (inl (stray, is)) =
 IsJudgedAs-opened left offset depth rules header fault h l o (inr (stray, none)) =
     with_encodings l o stray (ap fault_offset none)
 
+-- what was found in contents octets judges a whole encoding that is not gone into and not of a stray form
 IsJudgedAs-meaning :
     (left : List ℕ) (offset depth : ℕ) (rules : List Rule) (meaning : Option Meaning) (header : Header)
     (value : Option LeafValue) (fault : Option Fault) (h : IsAtFront left header) →

@@ -15,6 +15,7 @@ use Rattle.der_elements.proofs.Seeking.{BeginsWithHeader-some}
 use Rattle.der_elements.proofs.Cursors.{drop-ends_of, taken-some}
 use Rattle.std.proofs.lemmas.List.{take-append-drop}
 
+-- what a cursor has yet to come to stands in its octets, from its offset on, with its ends
 pub AreFronts-ahead :
     (n : Cursor) (octets : List ℕ) (offset : ℕ) (ends : List End) (fronts : List Front) (faults : List ℕ) →
     n.octets.now ≡ octets → n.offset ≡ offset → ends_of n ≡ ends → IsAhead n fronts faults →
@@ -24,6 +25,7 @@ AreFronts-ahead n octets offset ends fronts faults p q r h =
     (subst (λ z. AreFronts n.octets.now z ends fronts faults) q
     (subst (λ z. AreFronts n.octets.now n.offset z fronts faults) r h))
 
+-- ends at equal offsets and of equal forms, before the same others, are equal
 cons-end_at :
     (a b : ℕ) (i j : Bool) (ends : List End) → a ≡ b → i ≡ j → end_at a i ∷ ends ≡ end_at b j ∷ ends
 cons-end_at a b i j ends e f = ap (λ z. end_at z i ∷ ends) e ∙ ap (λ z. end_at b z ∷ ends) f
@@ -75,6 +77,7 @@ AreFronts-left octets offset old new fronts faults (none_left e) h =
 AreFronts-left octets offset old new fronts faults (one_left end around e form none left) h =
     one_ended end around e form none (AreFronts-left octets offset around new fronts faults left h)
 
+-- what a cursor has yet to come to, after it left contents octets that have ended, it had to come to before
 pub IsAhead-back :
     (k m : Cursor) (fronts : List Front) (faults : List ℕ) → m.octets.now ≡ k.octets.now → m.offset ≡ k.offset →
     HasLeft m.octets.now m.offset (ends_of k) (ends_of m) → IsAhead m fronts faults → IsAhead k fronts faults
@@ -83,17 +86,20 @@ IsAhead-back k m fronts faults o g left h =
     (subst (λ z. AreFronts m.octets.now z (ends_of k) fronts faults) g
     (AreFronts-left m.octets.now m.offset (ends_of k) (ends_of m) fronts faults left h))
 
+-- a cursor that has left all contents octets, as they have ended, had nothing more to come to before
 pub IsAhead-none :
     (k m : Cursor) → m.octets.now ≡ k.octets.now → m.offset ≡ k.offset →
     HasLeft m.octets.now m.offset (ends_of k) (ends_of m) → ends_of m ≡ [] → IsAhead k [] []
 IsAhead-none k m o g left none = IsAhead-back k m [] [] o g left (all_ended none refl refl)
 
+-- an encoding that begins octets has a header of one octet at least
 IsFirst-header_some :
     (left : List ℕ) (offset depth : ℕ) (f : Front) (opened : Bool) (own : List ℕ) →
     IsFirst left offset depth f opened own → 0 < f.header
 IsFirst-header_some left offset depth f opened own h =
     BeginsWithHeader-some left f.header f.contents h.class h.constructed h.tag h.header
 
+-- a step over what comes next takes some octets or leaves contents octets
 pub Takes-next :
     (offset depth : ℕ) (left : Left) (f : Front) (step : Step) (own : List ℕ) →
     StartsNext left offset depth f step own → Takes step left

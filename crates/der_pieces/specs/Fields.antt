@@ -5,7 +5,7 @@ use Rattle.der_shapes.specs.Spots.{IsPath, document_of}
 use Rattle.der_shapes.specs.declared.shapes.Shapes.{Shapes}
 use Rattle.der_shapes.specs.declared.take.Inside.{Inside}
 use Rattle.der_shapes.specs.declared.take.Spot.{Spot}
-use Rattle.der_shapes.specs.declared.walk.FieldWalk.{FieldWalk}
+use Rattle.der_shapes.specs.declared.field_walk.FieldWalk.{FieldWalk}
 use Rattle.der_pieces.specs.declared.place.Around.{Around}
 use Rattle.der_pieces.specs.declared.place.Around.TheVariants.{Document, Nothing, String}
 

@@ -8,7 +8,9 @@ use asn1_headers::tags;
 use asn1_headers::whole_header::Header;
 use der_contents::leaf::is_right;
 use der_elements::cursor::{Cursor, Left, Step};
-use der_elements::header::{holds_encodings, size_of, step_of, universal_tag, whole_header};
+use der_elements::element_header::{
+    holds_encodings, size_of, step_of, universal_tag, whole_header,
+};
 use std::alloc::{AllocError, Global};
 
 const BIT_STRING: u8 = tags::BIT_STRING as u8;

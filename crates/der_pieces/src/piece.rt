@@ -18,7 +18,7 @@ use der_contents::faults::{Fault, fault_at};
 use der_contents::leaf::{Read, read_contents};
 use der_contents::value::LeafValue;
 use der_elements::cursor::{Left, Step};
-use der_elements::header::{has_stray_form, holds_encodings, size_of, step_of};
+use der_elements::element_header::{has_stray_form, holds_encodings, size_of, step_of};
 use der_elements::sum::checked_sum;
 use der_shapes::{Named, Shapes};
 use der_values::{Extension, Role};

@@ -6,7 +6,7 @@ use crate::style::Style;
 use asn1_headers::header::ASN1Class;
 use asn1_headers::tags;
 use asn1_headers::whole_header::Header;
-use der_elements::header::universal_tag;
+use der_elements::element_header::universal_tag;
 use der_elements::sum::checked_sum;
 use der_shapes::Spot;
 use der_values::{Extension, Role, extension_of, role_in};

@@ -11,7 +11,7 @@ use asn1_headers::whole_header::Header;
 use asn1_numbers::number::big_uint::BigUint;
 use der_contents::leaf::{Read, read_contents};
 use der_contents::value::LeafValue;
-use der_elements::header::{holds_encodings, universal_tag};
+use der_elements::element_header::{holds_encodings, universal_tag};
 use der_elements::segments::joined_segments;
 use der_elements::string_value::is_string_tag;
 use der_values::Role;

@@ -5,9 +5,10 @@ use Rattle.der_pieces.specs.Marks.{breach_of}
 use Rattle.der_pieces.specs.declared.marks.BrokenRule.{BrokenRule}
 use Rattle.der_pieces.proofs.marks.push_breach.Goals as goal
 
-map-breach_of_append_last : (old new : List BrokenRule) (rule : BrokenRule) → new ≡ old ++ rule ∷ [] →
+-- broken rules with one more tell what the others tell, and then what this one tells
+map-breach_of-append_last : (old new : List BrokenRule) (rule : BrokenRule) → new ≡ old ++ rule ∷ [] →
     map breach_of new ≡ map breach_of old ++ breach_of rule ∷ []
-map-breach_of_append_last old new rule e = ap (map breach_of) e ∙ map-append breach_of old (rule ∷ [])
+map-breach_of-append_last old new rule e = ap (map breach_of) e ∙ map-append breach_of old (rule ∷ [])
 
 pub returns : goal.returns
-returns c = map-breach_of_append_last _ _ c.args.rule c.in_ok-push.ensures.items
+returns c = map-breach_of-append_last _ _ c.args.rule c.in_ok-push.ensures.items

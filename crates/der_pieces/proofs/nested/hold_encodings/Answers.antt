@@ -1,7 +1,6 @@
 -- For `nested::hold_encodings`: its loop ends.
 use Rattle.std.proofs.Common.{◌<◌, ◌≤◌, arith}
-use Rattle.der_elements.specs.Steps.{Takes}
-use Rattle.der_elements.specs.Steps.{to_go}
+use Rattle.der_elements.specs.Steps.{Takes, to_go}
 use Rattle.der_elements.proofs.Cursors.{to_go-left_le, to_go-step_lt}
 use Rattle.der_pieces.proofs.nested.hold_encodings.Goals as goal
 

@@ -17,8 +17,7 @@ returns c =
     let meaning = meaning_of (slice_range left header.size (header.size + header.announced)) value in
     record {
       starts = λ depth. StartsWith-whole left offset depth rules meaning header c.size_of.result c.step_of-step.result _
-          r.front r.form
-          (IsJudgedAs-leaf left offset depth rules meaning header value _ r.front r.whole r.closed read)
+          r.front r.form (IsJudgedAs-leaf left offset depth rules meaning header value _ r.front r.whole r.closed read)
           (HasMeaningAs-leaf left offset depth rules header value _ (drop (length r.front.identifier) left) read)
           first c.step_of-step.ensures c.size_of.ensures;
       kind = (r.front, r.whole, r.closed, refl, read);

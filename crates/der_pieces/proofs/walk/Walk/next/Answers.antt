@@ -4,9 +4,8 @@ use Rattle.der_pieces.specs.Fronts.{StandAt}
 use Rattle.der_pieces.specs.PieceFields.{IsSpotIn}
 use Rattle.der_pieces.specs.Pieces.{IsHolding, IsKind, fault_offset, front_of}
 use Rattle.der_elements.specs.Steps.{to_go}
-use Rattle.der_pieces.proofs.Walks.{IsAhead-back, IsAhead-none, Takes-next, IsAhead-step}
+use Rattle.der_pieces.proofs.Walks.{IsAhead-back, IsAhead-none, Takes-next, IsAhead-step, StandAt-left}
 use Rattle.der_elements.proofs.Cursors.{length-ends, octets-step, to_go-left_le, to_go-step_lt}
-use Rattle.der_pieces.proofs.Walks.{StandAt-left}
 use Rattle.der_pieces.proofs.walk.Walk.next.Goals as goal
 
 pub returns-in_default-clause-passes : goal.returns-in_default-clause-passes
