@@ -18,6 +18,7 @@ module _ {A : Type 0} (json : A → Data) where
       ∙ ap (λ z. 44 ∷ z) (sym
       (append_assoc (compact_text (json y)) (texts json true xs) (comma_if true ++ compact_text (json x))))
 
+  -- the texts of items and one more are those of the items, a comma if there are some, and the text of this one
   pub texts-append : (xs : List A) (x : A)
       → texts json false (xs ++ x ∷ []) ≡ texts json false xs ++ (comma_if (are_some xs) ++ compact_text (json x))
   texts-append [] x = append-nil (compact_text (json x))
@@ -25,12 +26,14 @@ module _ {A : Type 0} (json : A → Data) where
       ap (λ z. compact_text (json y) ++ z) (texts-append_later xs x)
       ∙ sym (append_assoc (compact_text (json y)) (texts json true xs) (comma_if true ++ compact_text (json x)))
 
+  -- items of an array behind others are written as their texts, each behind a comma, and the closing bracket
   items_text-items_of_later : (xs : List A) → items_text true (items_of json xs) ≡ texts json true xs ++ 93 ∷ []
   items_text-items_of_later [] = refl
   items_text-items_of_later (x ∷ xs) =
       ap (λ z. 44 ∷ (compact_text (json x) ++ z)) (items_text-items_of_later xs)
       ∙ ap (λ z. 44 ∷ z) (sym (append_assoc (compact_text (json x)) (texts json true xs) (93 ∷ [])))
 
+  -- the items of an array are written as their texts and the closing bracket
   pub items_text-items_of : (xs : List A) → items_text false (items_of json xs) ≡ texts json false xs ++ 93 ∷ []
   items_text-items_of [] = refl
   items_text-items_of (x ∷ xs) =

@@ -37,11 +37,13 @@ append-front :
     (a b rest text : List ℕ) → b ++ rest ≡ text → (a ++ b) ++ rest ≡ a ++ text
 append-front a b rest text e = append_assoc a b rest ∙ ap (λ z. a ++ z) e
 
+-- the text of the member of blocks, if there is one, and the closing bracket are the end of an object with it
 blocks_text-end : (inside : Option Items) → blocks_text inside ++ 125 ∷ [] ≡ members_text true (blocks_if inside)
 unfolding serde_json_on_literals
 blocks_text-end None = refl
 blocks_text-end (Some items) = refl
 
+-- the text of a fault, if there is one, and that of other members are the text of all these members
 fault_text-end :
     (fault : Option FaultData) (others : Members) (rest : List ℕ) → rest ≡ members_text true others →
     fault_text fault ++ rest ≡ members_text true (fault_if fault others)
@@ -49,6 +51,7 @@ unfolding serde_json_on_literals
 fault_text-end None others rest e = e
 fault_text-end (Some f) others rest e = ap (λ z. fault_text (Some f) ++ z) e
 
+-- the text of broken rules, if there are some, and that of other members are the text of all these members
 rules_text-end :
     (broken : List Breach) (others : Members) (rest : List ℕ) → rest ≡ members_text true others →
     rules_text broken ++ rest ≡ members_text true (rules_if broken others)
@@ -56,6 +59,7 @@ unfolding serde_json_on_literals
 rules_text-end [] others rest e = e
 rules_text-end (t ∷ more) others rest e = ap (λ z. rules_text (t ∷ more) ++ z) e
 
+-- the text of the member `shown`, if there is one, and that of other members are the text of all these
 text_member-shown :
     (text : Option (List ℕ)) (others : Members) (rest : List ℕ) → rest ≡ members_text true others →
     text_member (codes ",\"shown\":") text ++ rest ≡ members_text true (member_if (codes "shown") text others)
@@ -63,6 +67,7 @@ unfolding serde_json_on_literals
 text_member-shown None others rest e = e
 text_member-shown (Some t) others rest e = ap (λ z. (codes ",\"shown\":" ++ compact_text (string t)) ++ z) e
 
+-- the text of the member `octets`, if there is one, and that of other members are the text of all these
 text_member-octets :
     (text : Option (List ℕ)) (others : Members) (rest : List ℕ) → rest ≡ members_text true others →
     text_member (codes ",\"octets\":") text ++ rest ≡ members_text true (member_if (codes "octets") text others)
@@ -70,6 +75,7 @@ unfolding serde_json_on_literals
 text_member-octets None others rest e = e
 text_member-octets (Some t) others rest e = ap (λ z. (codes ",\"octets\":" ++ compact_text (string t)) ++ z) e
 
+-- the text of the member `name`, if there is one, and that of other members are the text of all these
 text_member-name :
     (text : Option (List ℕ)) (others : Members) (rest : List ℕ) → rest ≡ members_text true others →
     text_member (codes ",\"name\":") text ++ rest ≡ members_text true (member_if (codes "name") text others)
@@ -77,6 +83,7 @@ unfolding serde_json_on_literals
 text_member-name None others rest e = e
 text_member-name (Some t) others rest e = ap (λ z. (codes ",\"name\":" ++ compact_text (string t)) ++ z) e
 
+-- the text of the member `field`, if there is one, and that of other members are the text of all these
 text_member-field :
     (text : Option (List ℕ)) (others : Members) (rest : List ℕ) → rest ≡ members_text true others →
     text_member (codes ",\"field\":") text ++ rest ≡ members_text true (member_if (codes "field") text others)
@@ -84,6 +91,7 @@ unfolding serde_json_on_literals
 text_member-field None others rest e = e
 text_member-field (Some t) others rest e = ap (λ z. (codes ",\"field\":" ++ compact_text (string t)) ++ z) e
 
+-- the text of the member `of`, if there is one, and that of other members are the text of all these
 text_member-type :
     (text : Option (List ℕ)) (others : Members) (rest : List ℕ) → rest ≡ members_text true others →
     text_member (codes ",\"of\":") text ++ rest ≡ members_text true (member_if (codes "of") text others)
@@ -105,7 +113,7 @@ text_member-others name shown octets broken fault inside =
     let rules = rules_if broken (fault_if fault (blocks_if inside)) in
     let marked = rules_text-end broken (fault_if fault (blocks_if inside)) _ last in
     let digits = text_member-octets octets rules _ marked in
-    let beside = text_member-shown shown (member_if (codes "octets") octets rules) _ digits in
+    let octets_shown = text_member-shown shown (member_if (codes "octets") octets rules) _ digits in
     let n = text_member (codes ",\"name\":") name in
     let s = text_member (codes ",\"shown\":") shown in
     let o = text_member (codes ",\"octets\":") octets in
@@ -114,7 +122,7 @@ text_member-others name shown octets broken fault inside =
     append-front n (s ++ (o ++ (d ++ f))) end (s ++ (o ++ (d ++ (f ++ end))))
     (append-front s (o ++ (d ++ f)) end (o ++ (d ++ (f ++ end)))
     (append-front o (d ++ f) end (d ++ (f ++ end)) (append_assoc d f end)))
-    ∙ text_member-name name (member_if (codes "shown") shown (member_if (codes "octets") octets rules)) _ beside
+    ∙ text_member-name name (member_if (codes "shown") shown (member_if (codes "octets") octets rules)) _ octets_shown
 
 -- the members from the field on are the text
 text_member-named :
@@ -141,6 +149,7 @@ text_member-named field of name shown octets broken fault inside =
     ∙ text_member-field field (member_if (codes "of") of others) (t ++ (o ++ end))
     (text_member-type of others (o ++ end) (text_member-others name shown octets broken fault inside))
 
+-- a text behind nine joined ones is behind the last of them
 append-nine_front :
     (m0 m1 m2 m3 m4 m5 m6 m7 m8 rest : List ℕ) →
     (m0 ++ (m1 ++ (m2 ++ (m3 ++ (m4 ++ (m5 ++ (m6 ++ (m7 ++ m8)))))))) ++ rest
@@ -186,6 +195,7 @@ rules_text-put out a b [] some d e = absurd (omega (arith, some))
 rules_text-put out a b (t ∷ more) some d e =
     append-twice out (codes ",\"not_der\":[") (items_text false (items_of rule_json (t ∷ more))) a b d e
 
+-- where no rules are broken, the text of broken rules is empty
 pub rules_text-none : (broken : List Breach) → length broken ≡ 0 → rules_text broken ≡ []
 rules_text-none [] e = refl
 rules_text-none (x ∷ broken) e = absurd (omega (arith, e))

@@ -1,6 +1,5 @@
 -- What the object of a piece tells, for `piece::object_of` and `rows`.
-use Rattle.std.proofs.Common.{◌≡◌, ◌⊎◌, inl, inr, ℕ, ◌+◌, ◌-◌, ◌≤◌, Bool, true, false, List, drop, length, min, take}
-use Rattle.std.proofs.Common.{slice_range, refl, sym, ap, arith, ◌∙◌, subst}
+use Rattle.std.proofs.Common.{◌≡◌, ◌⊎◌, inl, inr, ℕ, ◌+◌, ◌-◌, ◌≤◌, Bool, true, false, List, drop, length, min, take, slice_range, refl, sym, ap, arith, ◌∙◌, subst}
 use Rattle.std.proofs.lemmas.List.{length-drop, length-take-le}
 use Rattle.std.specs.Prelude.{IfSome, Option, None, Some, option_map, if◌then◌else◌, string_bytes}
 use Rattle.std.specs.Option.{is_some}
@@ -30,6 +29,7 @@ use Rattle.der_json.specs.Rows.{IsHeaderTag, IsTagOf, joined_json, kind_json, ki
 use Rattle.der_json.specs.declared.object.Object.{Object}
 use Rattle.der_json.proofs.Values.{AreShown-value}
 
+-- an encoding that is not gone into is not gone into as a primitive one either
 is_gone_into-not_constructed : (class : ASN1Class) (constructed : Bool) (tag : ℕ)
     → is_gone_into class constructed tag ≡ false →
     is_gone_into class false tag ≡ false
@@ -46,6 +46,7 @@ fault_data-named offset at found (Some f) (o, code) = (
   ap (λ z. Some (record { code = z; offset = Some at; message = string_bytes f.message })) code,
 )
 
+-- a fault without a name tells its offset and a message alone
 fault_data-nameless :
     (offset at : ℕ) (fault : Option PieceFault) → IsFault (IsNameless offset) fault →
     (message : List ℕ) × (option_map (placed_data at) fault ≡ Some (nameless_fault at message))
@@ -62,14 +63,17 @@ IsFault-offset : (Is : PieceFault → Type 0) (offset : ℕ) (fault : Option Pie
 IsFault-offset Is offset None turn none = absurd none
 IsFault-offset Is offset (Some f) turn is = turn f is
 
+-- where nothing is wrong, what is wrong stands at any offset
 IfSome-no_fault : (offset : ℕ) (fault : Option PieceFault) → fault ≡ None → IfSome fault (λ f. f.offset ≡ offset)
 IfSome-no_fault offset fault none = subst (λ z. IfSome z (λ f. f.offset ≡ offset)) (sym none) tt
 
+-- a fault of reading that was found at an offset stands at this offset
 IsFault-named_offset : (offset : ℕ) (found : DecodeFault) (fault : Option PieceFault)
     → IsFault (IsNamed offset found) fault
     → IfSome fault (λ f. f.offset ≡ offset)
 IsFault-named_offset offset found fault = IsFault-offset (IsNamed offset found) offset fault (λ f is. is.0)
 
+-- what is wrong with contents octets, if anything is, stands at the offset of their encoding
 IsMeaning-offset :
     (class : ASN1Class) (tag : ℕ) (contents : List ℕ) (offset : ℕ) (value : Option LeafValue)
     (fault : Option PieceFault) → IsMeaning class tag contents offset value fault →
@@ -78,6 +82,7 @@ IsMeaning-offset class tag contents offset None fault (u, (found, wrong, is)) =
     IsFault-named_offset offset found fault is
 IsMeaning-offset class tag contents offset (Some value) fault (is, none) = IfSome-no_fault offset fault none
 
+-- what is wrong with a piece, if anything is, stands at the offset of the piece
 pub IsKind-offset :
     (left : List ℕ) (offset : ℕ) (kind : PieceKind) (fault : Option PieceFault) → IsKind left offset kind fault →
     IfSome fault (λ f. f.offset ≡ offset)
@@ -94,6 +99,7 @@ IsKind-offset left offset (Leaf header contents value) fault (h, whole, o, e, in
 IsKind-offset left offset (Leaf header contents value) fault (h, whole, o, e, inr (stray, is)) =
     IsMeaning-offset header.class header.tag _ offset value fault is
 
+-- an option that has a value when a function is applied to it has one before
 is_some-option_map : {A B : Type 0} → (f : A → B) (o : Option A) (y : B) → option_map f o ≡ Some y → is_some o ≡ true
 is_some-option_map f None y e = absurd (cc e)
 is_some-option_map f (Some x) y e = refl
@@ -106,6 +112,7 @@ wrong_octets-named offset found None contents none = absurd none
 wrong_octets-named offset found (Some f) contents (o, code) =
     ap (λ z. if z then Some (encode_lower contents) else None) (is_some-option_map (λ t. t.now) f.code _ code)
 
+-- contents octets with a fault that has no name are not told in hex digits
 wrong_octets-nameless :
     (offset : ℕ) (fault : Option PieceFault) (contents : List ℕ) → IsFault (IsNameless offset) fault →
     wrong_octets fault contents ≡ None
@@ -119,6 +126,7 @@ opened_json-fault : (Is : PieceFault → Type 0) (fault : Option PieceFault) (jo
 opened_json-fault Is None joined none = absurd none
 opened_json-fault Is (Some f) joined some = refl
 
+-- the value of the joined segments of a string, or null where none are joined, is shown of what is gone into
 IsOpenedValue-joined :
     (header : Header) (contents : List ℕ) (joined : Option Joined) → IfSome joined (IsJoined header contents) →
     IsOpenedValue header.class header.tag contents header.is_indefinite (joined_json joined)
@@ -127,12 +135,14 @@ IsOpenedValue-joined header contents (Some j) (u, segments, closed, is) =
     of_segments u j.contents.items segments 0 (value_octets j.contents.items j.value)
     (AreShown-value 0 header.class header.tag j.contents.items j.value closed is)
 
+-- a size that is told of definite lengths alone is how many octets an encoding takes at most
 if-taken :
     (indefinite : Bool) (n m there : ℕ) → (indefinite ≡ false → n ≡ min m there) →
     (if indefinite then None else Some n) ≡ (if indefinite then None else Some (taken indefinite m there))
 if-taken true n m there e = refl
 if-taken false n m there e = ap Some (e refl)
 
+-- the start of a slice and its length are its end
 add-length_slice_range : (left : List ℕ) (a b : ℕ) → a ≤ b → b ≤ length left → a + length (slice_range left a b) ≡ b
 add-length_slice_range left a b l m =
     let d : length (drop a left) ≡ length left - a = length-drop a left in
@@ -166,9 +176,11 @@ module _ (left : List ℕ) (offset depth : ℕ) (rules : List Rule) (object : Ob
     judged = judged;
   })
 
+  -- the object of a piece that has no fault tells none
   option_map-no_fault : fault ≡ None → option_map fault_data object.fault ≡ None
   option_map-no_fault none = fault_is ∙ ap (option_map (placed_data object.offset)) none
 
+  -- the object of end-of-contents octets tells no fault where they are there, and one of reading where they are missing
   fault_data-end :
       (size : ℕ) → ((size ≡ 2) × (fault ≡ None)) ⊎ ((size ≡ 0) × IsFault (IsNamed offset incomplete) fault) →
       ((size ≡ 2) × (option_map fault_data object.fault ≡ None))
@@ -179,6 +191,7 @@ module _ (left : List ℕ) (offset depth : ℕ) (rules : List Rule) (object : Ob
       let (message, named) = fault_data-named offset object.offset incomplete fault is in
       inr (zero, (message, fault_is ∙ named))
 
+  -- the object of an encoding that is gone into tells what is shown of it and what is wrong with it
   IsJudged-opened :
       {meaning : Option Meaning} (header : Header) (stray : Bool) (contents : List ℕ) (joined : Option Joined) →
       is_gone_into header.class header.constructed header.tag ≡ true →
@@ -198,6 +211,7 @@ module _ (left : List ℕ) (offset depth : ℕ) (rules : List Rule) (object : Ob
       (sym (v ∙ ap (λ z. opened_json z joined) none)) (IsOpenedValue-joined header contents joined j)))
       d (option_map-no_fault none)
 
+  -- the object of an encoding that is not gone into tells the value of its contents octets, or what is wrong with these
   AreShown-meaning :
       (header : Header) (contents : List ℕ) (value : Option LeafValue) →
       is_gone_into header.class header.constructed header.tag ≡ false →
@@ -217,6 +231,7 @@ module _ (left : List ℕ) (offset depth : ℕ) (rules : List Rule) (object : Ob
       (AreShown-value object.offset header.class header.tag contents value
       (is_gone_into-not_constructed header.class header.constructed header.tag o) is)))
 
+  -- the object of an encoding that is not gone into tells what is shown of it and what is wrong with it
   IsJudged-leaf :
       {meaning : Option Meaning} (header : Header) (h : IsAtFront left header) (contents : List ℕ)
       (value : Option LeafValue) →
@@ -277,8 +292,7 @@ module _ (left : List ℕ) (offset depth : ℕ) (rules : List Rule) (object : Ob
       let there : length contents.now ≡ length (drop header.size left) = ap length e in
       IsRowOf-encoding header h
       (s ∙ if-taken header.is_indefinite _ (header.size + header.announced) (length left)
-      (λ _. omega (arith, n, there, l, h.within)))
-      t
+      (λ _. omega (arith, n, there, l, h.within))) t
       (cut_short l
       (v ∙ ap (λ z. if is_gone_into header.class header.constructed header.tag then null else string (encode_lower z))
       e)
@@ -291,8 +305,7 @@ module _ (left : List ℕ) (offset depth : ℕ) (rules : List Rule) (object : Ob
       ap length (e ∙ ap (λ z. slice_range left header.size (taken z all (length left))) definite) in
       let m : header.size + length (slice_range left header.size (min all (length left))) ≡ min all (length left) =
       add-length_slice_range left header.size (min all (length left)) (omega (arith, whole)) (omega arith) in
-      omega (arith, n, m)))
-      t (IsJudged-opened header _ contents.now joined o e j is v d)
+      omega (arith, n, m))) t (IsJudged-opened header _ contents.now joined o e j is v d)
   IsRowOf-kind (Leaf header contents value) s t v d (h, whole, o, e, is) =
       let all = header.size + header.announced in
       let n : length contents.now ≡ length (slice_range left header.size all) = ap length e in

@@ -19,7 +19,7 @@ use Rattle.der_contents.specs.declared.value.Identifier.{Identifier}
 use Rattle.der_contents.specs.declared.value.LeafValue.{LeafValue}
 use Rattle.der_contents.specs.declared.value.LeafValue.TheVariants.{BerTime, Bits, Boolean, Identifier as OfIdentifier, Integer, Moment, NoText, Notation, Null, Octets, Other, OtherText, Tagged, Text, WideText}
 use Rattle.der_contents.proofs.Values.{Encodes-leaf, Encodes-tagged, Encodes-unknown}
-use Rattle.der_json.specs.Json.{AreShown, IsIdentifierValue, IsLeafValue, IsValueOf, as_text, as_time, in_their_form, in_notation, is_text_type, of_block, of_characters, of_no_text, of_other_type, other_value, whole_json, with_value, without_characters}
+use Rattle.der_json.specs.Json.{AreShown, IsIdentifierValue, IsLeafValue, IsValueOf, as_text, as_time, in_their_form, in_notation, is_text_type, of_block, of_characters, of_no_text, of_enumerated, enumerated_value, whole_json, with_value, without_characters}
 use Rattle.der_json.specs.Rows.{value_json, value_octets}
 
 -- the tag of a leaf is not that of a type whose values are text
@@ -39,6 +39,7 @@ has_text-leaf_tag (text bmp cs) = refl
 has_text-leaf_tag (utc_time m) = refl
 has_text-leaf_tag (generalized_time m) = refl
 
+-- the tag of a leaf is not that of an ENUMERATED
 eqb-leaf_tag_enumerated : (l : Leaf) → (leaf_tag l == ENUMERATED) ≡ false
 eqb-leaf_tag_enumerated (boolean b) = refl
 eqb-leaf_tag_enumerated (integer n) = refl
@@ -63,38 +64,44 @@ is_wide_tag-no_leaf tag none =
     or_from (tag == UNIVERSAL_STRING) (tag == BMP_STRING) (or_parts _ (tag == UNIVERSAL_STRING) others).1 bmp_no
 
 module _ (class : ASN1Class) (tag : ℕ) (contents : List ℕ) (u : class ≡ Universal) where
+  -- in class Universal, the tag tells whether values of the type are text
   is_text_type-universal : (b : Bool) → has_text tag ≡ b → is_text_type class tag ≡ b
   is_text_type-universal b e = subst (λ z. is_text_type z tag ≡ b) (sym u) e
 
-  other_value-none : (tag == ENUMERATED) ≡ false → other_value class tag contents ≡ None
-  other_value-none e =
-      subst (λ z. other_value z tag contents ≡ None) (sym u)
+  -- contents octets with another tag than that of ENUMERATED have no number of one
+  enumerated_value-not_enumerated : (tag == ENUMERATED) ≡ false → enumerated_value class tag contents ≡ None
+  enumerated_value-not_enumerated e =
+      subst (λ z. enumerated_value z tag contents ≡ None) (sym u)
       (ap (λ z. if z then Some (whole_json (signed_number contents)) else None) e)
 
+  -- contents octets have no wide characters where the tag is not that of a UniversalString or BMPString
   has_wide_characters-narrow : is_wide_tag tag ≡ false → has_wide_characters class tag contents ≡ false
   has_wide_characters-narrow e =
       subst (λ z. has_wide_characters z tag contents ≡ false) (sym u)
       (ap (λ z. not (length contents == 0) && z) e ∙ and_right (not (length contents == 0)) false refl)
 
-is_text_type-other_class : (class : ASN1Class) (tag : ℕ) → class ≢ Universal → is_text_type class tag ≡ false
-is_text_type-other_class Universal tag other = absurd (other refl)
-is_text_type-other_class Application tag other = refl
-is_text_type-other_class ContextSpecific tag other = refl
-is_text_type-other_class Private tag other = refl
+-- values of another class than Universal are of no type whose values are text
+is_text_type-not_universal : (class : ASN1Class) (tag : ℕ) → class ≢ Universal → is_text_type class tag ≡ false
+is_text_type-not_universal Universal tag other = absurd (other refl)
+is_text_type-not_universal Application tag other = refl
+is_text_type-not_universal ContextSpecific tag other = refl
+is_text_type-not_universal Private tag other = refl
 
-has_wide_characters-other_class : (class : ASN1Class) (tag : ℕ) (contents : List ℕ) → class ≢ Universal →
+-- contents octets of another class than Universal have no wide characters
+has_wide_characters-not_universal : (class : ASN1Class) (tag : ℕ) (contents : List ℕ) → class ≢ Universal →
     has_wide_characters class tag contents ≡ false
-has_wide_characters-other_class Universal tag contents other = absurd (other refl)
-has_wide_characters-other_class Application tag contents other = refl
-has_wide_characters-other_class ContextSpecific tag contents other = refl
-has_wide_characters-other_class Private tag contents other = refl
+has_wide_characters-not_universal Universal tag contents other = absurd (other refl)
+has_wide_characters-not_universal Application tag contents other = refl
+has_wide_characters-not_universal ContextSpecific tag contents other = refl
+has_wide_characters-not_universal Private tag contents other = refl
 
-other_value-other_class : (class : ASN1Class) (tag : ℕ) (contents : List ℕ) → class ≢ Universal →
-    other_value class tag contents ≡ None
-other_value-other_class Universal tag contents other = absurd (other refl)
-other_value-other_class Application tag contents other = refl
-other_value-other_class ContextSpecific tag contents other = refl
-other_value-other_class Private tag contents other = refl
+-- contents octets of another class than Universal have no number of an ENUMERATED
+enumerated_value-not_universal : (class : ASN1Class) (tag : ℕ) (contents : List ℕ) → class ≢ Universal →
+    enumerated_value class tag contents ≡ None
+enumerated_value-not_universal Universal tag contents other = absurd (other refl)
+enumerated_value-not_universal Application tag contents other = refl
+enumerated_value-not_universal ContextSpecific tag contents other = refl
+enumerated_value-not_universal Private tag contents other = refl
 
 -- the text of an object identifier is that of its components, whether or not it is held
 unwrap_or-dotted : {A : Type 0} (f : A → List ℕ) (dotted : Option A) (n : List ℕ) → IfSome dotted (λ d. f d ≡ n) →
@@ -102,6 +109,7 @@ unwrap_or-dotted : {A : Type 0} (f : A → List ℕ) (dotted : Option A) (n : Li
 unwrap_or-dotted f None n none = refl
 unwrap_or-dotted f (Some d) n e = e
 
+-- an object identifier is shown as null where it has more than 1,024 contents octets, and otherwise as its text
 IsIdentifierValue-by_size : (contents components : List ℕ) (identifier : Identifier) (b : Bool) →
     nat_lt 1024 (length contents) ≡ b → IsIdentifier components identifier →
     IsIdentifierValue contents components (if b then null
@@ -128,10 +136,11 @@ module _ (offset : ℕ) (class : ASN1Class) (tag : ℕ) (contents : List ℕ) wh
       (subst (λ z. has_text z ≡ false) (sym t) (has_text-leaf_tag l))) wide
       (leaf 0 l) (λ all header e. Encodes-leaf all contents class false tag header e l (u, t, means))
       (of_block
-      (other_value-none class tag contents u
+      (enumerated_value-not_enumerated class tag contents u
       (subst (λ z. (z == ENUMERATED) ≡ false) (sym t) (eqb-leaf_tag_enumerated l))) is)
       refl refl
 
+  -- the value of a leaf is shown where its tag is not that of a UniversalString or BMPString
   AreShown-plain_leaf : (l : Leaf) (json : Data) → is_wide_tag (leaf_tag l) ≡ false → IsLeaf class tag contents l →
       IsLeafValue contents l json → AreShown offset class tag contents json None None
   AreShown-plain_leaf l json e (u, t, means) is =
@@ -160,9 +169,9 @@ AreShown-value offset class tag contents (Integer n) o (inl is) =
 AreShown-value offset class tag contents (Integer n) o (inr (u, ten, same)) =
     AreShown-other offset class tag contents _ u (subst (λ z. is_leaf_tag z ≡ false) (sym ten) refl) o
     (subst (λ z. has_text z ≡ false) (sym ten) refl)
-    (of_other_type
-    (subst (λ z. other_value z tag contents ≡ Some (whole_json n)) (sym u)
-    (subst (λ z. other_value Universal z contents ≡ Some (whole_json n)) (sym ten)
+    (of_enumerated
+    (subst (λ z. enumerated_value z tag contents ≡ Some (whole_json n)) (sym u)
+    (subst (λ z. enumerated_value Universal z contents ≡ Some (whole_json n)) (sym ten)
     (ap (λ z. Some (whole_json z)) (sym same)))))
 AreShown-value offset class tag contents (Bits bits) o is =
     AreShown-plain_leaf offset class tag contents (bit_string bits.count bits.octets.items) _ refl is refl
@@ -190,12 +199,12 @@ AreShown-value offset class tag contents (Moment shown) o (inr (m, is, (digits, 
 AreShown-value offset class tag contents (BerTime shown) o time = as_time time (string_bytes shown) refl refl refl
 AreShown-value offset class tag contents (Other shown) o ((u, none, has), other) =
     AreShown-other offset class tag contents _ u none o has
-    (of_block (other_value-none class tag contents u other) refl)
+    (of_block (enumerated_value-not_enumerated class tag contents u other) refl)
 AreShown-value offset class tag contents (Tagged value) o other =
-    with_value (is_text_type-other_class class tag other) (has_wide_characters-other_class class tag contents other)
+    with_value (is_text_type-not_universal class tag other) (has_wide_characters-not_universal class tag contents other)
     (unknown class false 0 tag contents)
     (λ all header e. Encodes-tagged all contents class false tag header e other o)
-    (of_block (other_value-other_class class tag contents other) refl) refl refl
+    (of_block (enumerated_value-not_universal class tag contents other) refl) refl refl
 AreShown-value offset class tag contents (NoText shown) o (inl (wide, (kind, characters, is))) =
     without_characters wide refl refl refl
 AreShown-value offset class tag contents (NoText shown) o (inr ((u, none, has), others)) =

@@ -1,6 +1,5 @@
 -- How far the objects of octets were put, for `rows`.
-use Rattle.std.proofs.Common.{◌≡◌, ℕ, suc, ◌+◌, ◌-◌, ◌<◌, Bool, true, false, List, [], ◌∷◌, ◌++◌, map, zero}
-use Rattle.std.proofs.Common.{slice_range, refl, sym, ap, ◌∙◌, subst, arith}
+use Rattle.std.proofs.Common.{◌≡◌, ℕ, suc, ◌+◌, ◌-◌, ◌<◌, Bool, true, false, List, [], ◌∷◌, ◌++◌, map, zero, slice_range, refl, sym, ap, ◌∙◌, subst, arith}
 use Rattle.std.proofs.lemmas.List.{append_assoc, append-nil, map-append}
 use Rattle.std.proofs.lemmas.Slice.Zip.{all_zipped_more}
 use Rattle.std.specs.Prelude.{IfSome, Option, None, Some, option_map}
@@ -18,8 +17,7 @@ use Rattle.der_pieces.specs.declared.nested.Nested.{Nested}
 use Rattle.der_pieces.specs.declared.piece.Piece.{Piece}
 use Rattle.der_pieces.specs.declared.place.Place.{Place}
 use Rattle.der_pieces.specs.declared.walk.Walk.{Walk}
-use Rattle.der_json.specs.Json.{AreInside, AreRows, Departed, IsInside, IsRow, Row, FaultData, earlier_of, fault_offsets, fault_data}
-use Rattle.der_json.specs.Json.{first_fault, items_of, mark_of, marks_at, marks_of, row_json, data_offset}
+use Rattle.der_json.specs.Json.{AreInside, AreRows, Departed, IsInside, IsRow, Row, FaultData, earlier_of, fault_offsets, fault_data, first_fault, items_of, mark_of, marks_at, marks_of, row_json, data_offset}
 use Rattle.der_json.specs.Rows.{AreListed, AreRowsAt, IsArray, IsNestedJson, IsObject, found_departures, row_of, texts, placed_data}
 use Rattle.der_pieces.specs.Marks.{are_some, breach_of}
 use Rattle.der_json.specs.declared.object.Object.{Object}
@@ -69,6 +67,7 @@ pub record RowsTo (strict : Bool) (place : Place) (octets : List ℕ) (walk : Wa
   pub first_is : option_map fault_data found.first ≡ first_fault rows
   pub text_is : Appends a b (shown_text (texts row_json false rows))
 
+-- before the first step of a walk, no objects were put
 pub RowsTo-none :
     (strict : Bool) (place : Place) (octets : List ℕ) (walk : Walk) (found : Problems) (a : Option (List ℕ)) →
     walk.cursor.octets.now ≡ octets →
@@ -91,11 +90,13 @@ RowsTo-none strict place octets walk found a o p ahead none no_fault = record {
   text_is = Appends-nil a;
 }
 
+-- the broken rules of rows and one more are those of the rows and then those of this one
 marks_of-append : (rs : List Row) (r : Row) → marks_of (rs ++ r ∷ []) ≡ marks_of rs ++ mark_of r
 marks_of-append [] r = append-nil (mark_of r)
 marks_of-append (x ∷ xs) r =
     ap (λ z. mark_of x ++ z) (marks_of-append xs r) ∙ sym (append_assoc (mark_of x) (marks_of xs) (mark_of r))
 
+-- the offsets of the faults of rows and one more are those of the rows and then that of this one
 fault_offsets-append : (rs : List Row) (r : Row)
     → fault_offsets (rs ++ r ∷ []) ≡ fault_offsets rs ++ data_offset r.fault
 fault_offsets-append [] r = append-nil (data_offset r.fault)
@@ -103,19 +104,23 @@ fault_offsets-append (x ∷ xs) r =
     ap (λ z. data_offset x.fault ++ z) (fault_offsets-append xs r)
     ∙ sym (append_assoc (data_offset x.fault) (fault_offsets xs) (data_offset r.fault))
 
+-- the first of three faults is found from either side
 earlier_of-assoc : (a b c : Option FaultData) → earlier_of (earlier_of a b) c ≡ earlier_of a (earlier_of b c)
 earlier_of-assoc None b c = refl
 earlier_of-assoc (Some x) b c = refl
 
+-- the first of a fault and of none behind it is this fault
 earlier_of-None : (a : Option FaultData) → a ≡ earlier_of a None
 earlier_of-None None = refl
 earlier_of-None (Some x) = refl
 
+-- the first fault of rows and one more is that of the rows, or else that of this one
 first_fault-append : (rs : List Row) (r : Row) → earlier_of (first_fault rs) r.fault ≡ first_fault (rs ++ r ∷ [])
 first_fault-append [] r = earlier_of-None r.fault
 first_fault-append (x ∷ xs) r =
     earlier_of-assoc x.fault (first_fault xs) r.fault ∙ ap (earlier_of x.fault) (first_fault-append xs r)
 
+-- the fault that an object tells stands at the offset of the fault of its piece, greater by the base of the place
 data_offset-placed :
     (base offset at : ℕ) (fault : Option PieceFault) (shown : Option FaultData) →
     shown ≡ option_map (placed_data at) fault →

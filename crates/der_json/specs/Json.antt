@@ -1,13 +1,10 @@
 -- What is written of octets as JSON: an object that has a row for each line of a dump of them, and the first fault.
-use Rattle.std.specs.Prelude.{◌≡◌, ◌⊎◌, ℕ, zero, suc, ◌+◌, ◌<◌, ◌≤◌, ◌==◌, ◌&&◌, ℤ, unsigned_abs, nat_lt}
-use Rattle.std.specs.Prelude.{Bool, true, false, if◌then◌else◌, List, [], ◌∷◌, ◌++◌, codes, drop, length, map}
-use Rattle.std.specs.Prelude.{Option, None, Some, option_map, string_bytes}
+use Rattle.std.specs.Prelude.{◌≡◌, ◌⊎◌, ℕ, zero, suc, ◌+◌, ◌<◌, ◌≤◌, ◌==◌, ◌&&◌, ℤ, unsigned_abs, nat_lt, Bool, true, false, if◌then◌else◌, List, [], ◌∷◌, ◌++◌, codes, drop, length, map, Option, None, Some, option_map, string_bytes}
 use Rattle.std.specs.List.{AllZip, slice_range}
 use Rattle.std.specs.Option.{is_none, option_to_list}
 use Rattle.std.specs.Str.{chars}
 use Rattle.hex.specs.Hex.{encode_lower}
-use Rattle.serde_json.specs.Data.{Data, array, boolean as boolean_json, null, number, object, string, unsigned}
-use Rattle.serde_json.specs.Data.{Items, no_items, item, Members, no_members, member}
+use Rattle.serde_json.specs.Data.{Data, array, boolean as boolean_json, null, number, object, string, unsigned, Items, no_items, item, Members, no_members, member}
 use Rattle.serde_json.specs.Find.{of_integer}
 use Rattle.serde_json.specs.Written.{compact_text}
 use Rattle.asn1_numbers.specs.Base128.{shortest_base128}
@@ -23,19 +20,16 @@ use Rattle.asn1_headers.specs.declared.tags.TheConstants.{ENUMERATED}
 use Rattle.asn1_leaves.specs.DottedDecimal.{dotted_decimal}
 use Rattle.asn1_blocks.specs.Contents.{LeafFault}
 use Rattle.asn1_blocks.specs.Grammar.{Encodes}
-use Rattle.asn1_blocks.specs.Tree.{Leaf, Tree, leaf, group, explicit, unknown, boolean, integer, bit_string}
-use Rattle.asn1_blocks.specs.Tree.{octet_string, null as null_leaf, object_identifier, text as text_leaf}
-use Rattle.asn1_blocks.specs.Tree.{utc_time, generalized_time}
+use Rattle.asn1_blocks.specs.Tree.{Leaf, Tree, leaf, group, explicit, unknown, boolean, integer, bit_string, octet_string, null as null_leaf, object_identifier, text as text_leaf, utc_time, generalized_time}
 use Rattle.der_pieces.specs.Fronts.{AreFrontsOf, Front, StandAt, size_in}
-use Rattle.der_elements.specs.Headers.{is_stray_form}
-use Rattle.der_elements.specs.Headers.{is_gone_into}
+use Rattle.der_elements.specs.Headers.{is_stray_form, is_gone_into}
 use Rattle.der_pieces.specs.Marks.{Breach, breaches_of}
 use Rattle.der_elements.specs.Segments.{AreSegmentsOf}
 use Rattle.der_contents.specs.Values.{HasShortFront, IsBerTime, has_wide_characters, is_wide}
 use Rattle.der_values.specs.Strings.{has_text, has_notation, is_string}
 use Rattle.der_values.specs.Times.{AreFractionOf, IsMomentText}
 use Rattle.der_json.specs.Shown.{shown_text}
-use Rattle.der_json.specs.declared.fault.Fault.{Fault}
+use Rattle.der_json.specs.declared.fault_object.Fault.{Fault}
 use Rattle.der_json.specs.declared.line.Origin.{Origin}
 
 -- a tag number: greater ones than these are texts, since readers of JSON round them; null where it has more than 1,024
@@ -105,9 +99,9 @@ IsValue contents (explicit class offset tag block) value = value ≡ null
 IsValue contents (unknown class constructed offset tag octets) value = value ≡ string (encode_lower octets)
 
 -- the number of an ENUMERATED, which the library does not read (X.690 8.4)
-abbrev pub other_value : ASN1Class → ℕ → List ℕ → Option Data
-other_value Universal tag contents = if tag == ENUMERATED then Some (whole_json (signed_number contents)) else None
-other_value class tag contents = None
+abbrev pub enumerated_value : ASN1Class → ℕ → List ℕ → Option Data
+enumerated_value Universal tag contents = if tag == ENUMERATED then Some (whole_json (signed_number contents)) else None
+enumerated_value class tag contents = None
 
 -- values of the type are text, which the library does not read
 abbrev pub is_text_type : ASN1Class → ℕ → Bool
@@ -141,9 +135,9 @@ nameless_fault offset message = record { code = None; offset = Some offset; mess
 
 -- the value of contents octets that mean the tree: by their type, or of the block
 pub data IsValueOf (class : ASN1Class) (tag : ℕ) (contents : List ℕ) (tree : Tree ℕ) (value : Data) : Type 0 where
-  of_other_type : other_value class tag contents ≡ Some value → IsValueOf class tag contents tree value
+  of_enumerated : enumerated_value class tag contents ≡ Some value → IsValueOf class tag contents tree value
   of_block :
-      other_value class tag contents ≡ None → IsValue contents tree value →
+      enumerated_value class tag contents ≡ None → IsValue contents tree value →
       IsValueOf class tag contents tree value
 
 -- the value of contents octets of a type whose values are text: the characters of a string, or words; or null, where

@@ -1,3 +1,3 @@
+pub mod Shown
 pub mod Json
 pub mod Rows
-pub mod Shown

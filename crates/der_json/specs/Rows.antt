@@ -1,6 +1,5 @@
 -- The text of an array, as far as it is put, and what is read for a row. Private contracts alone name these.
-use Rattle.std.specs.Prelude.{◌≡◌, ℕ, suc, ◌+◌, ◌-◌, Bool, true, false, List, [], ◌∷◌, ◌++◌, codes, length, map}
-use Rattle.std.specs.Prelude.{Option, None, Some, nat_lt, option_map, string_bytes, unwrap_or, if◌then◌else◌}
+use Rattle.std.specs.Prelude.{◌≡◌, ℕ, suc, ◌+◌, ◌-◌, Bool, true, false, List, [], ◌∷◌, ◌++◌, codes, length, map, Option, None, Some, nat_lt, option_map, string_bytes, unwrap_or, if◌then◌else◌}
 use Rattle.std.specs.Option.{is_some}
 use Rattle.hex.specs.Hex.{encode_lower}
 use Rattle.asn1_headers.specs.Names.{class_name, type_name}
@@ -22,9 +21,7 @@ use Rattle.der_pieces.specs.declared.strings.Joined.{Joined}
 use Rattle.der_contents.specs.declared.value.Identifier.{Identifier}
 use Rattle.der_contents.specs.declared.value.LeafValue.{LeafValue}
 use Rattle.der_contents.specs.declared.value.LeafValue.TheVariants.{BerTime, Bits, Boolean, Identifier as OfIdentifier, Integer, Moment, NoText, Notation, Null, Octets, Other, OtherText, Tagged, Text, WideText}
-use Rattle.der_json.specs.Json.{AreInside, AreRows, AreRowsOf, Departed, IsRowOf, Row, FaultData}
-use Rattle.der_json.specs.Json.{bits_json, boolean_or_null, fault_json, fault_data, first_fault, items_of, marks_of, natural_json}
-use Rattle.der_json.specs.Json.{number_or_null, row_json, rows_text, rule_json, text_or_null, whole_json}
+use Rattle.der_json.specs.Json.{AreInside, AreRows, AreRowsOf, Departed, IsRowOf, Row, FaultData, bits_json, boolean_or_null, fault_json, fault_data, first_fault, items_of, marks_of, natural_json, number_or_null, row_json, rows_text, rule_json, text_or_null, whole_json}
 use Rattle.der_json.specs.Shown.{shown_text}
 use Rattle.der_json.specs.declared.object.Object.{Object}
 use Rattle.der_json.specs.declared.object.Tag.{Tag}

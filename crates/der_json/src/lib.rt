@@ -9,13 +9,15 @@
 //! | `header` | how many identifier and length octets it has |
 //! | `size` | how many octets it has, with its header, and as far as they are there; `null` of an indefinite length |
 //! | `depth` | how many blocks are around it |
-//! | `class` | `universal`, `application`, `context-specific` or `private` |
+//! | `class` | `universal`, `application`, `context-specific` or `private`; `null` where no header begins |
 //! | `constructed` | its constructed bit: `true` or `false` |
 //! | `tag` | its number; greater than 2^53 - 1, a text of its decimal digits; of more than 1,024 octets, `null` |
 //! | `type` | `SEQUENCE` and its like, by X.680 (8.4, table 1); `null` where the tag has no type there |
+//! | `field` | the name of the field that it is, if the type around it is known |
+//! | `of` | the name of its type where that is defined, if it is known |
 //! | `value` | what it holds: the next table |
-//! | `name` | the name of an object identifier, of bits that are set, or of a GeneralName, if it has one |
-//! | `shown` | hex digits of an INTEGER of five octets or more, of a long OBJECT IDENTIFIER; printed text; an address |
+//! | `name` | the name of an object identifier, of a number, of bits that are set or of an alternative, if it has one |
+//! | `shown` | hex digits of a long INTEGER or OBJECT IDENTIFIER; printed text; an address; `truncated: 1 of 2 bytes` |
 //! | `octets` | its contents octets in hex digits, where they have no value of its type: `value` is `null` |
 //! | `not_der` | the rules of DER that it breaks, if it breaks some: an array of the third table |
 //! | `fault` | what is wrong with it, if anything is |
@@ -41,7 +43,8 @@
 //!
 //! Contents octets that are no text of a string or a time, or have no value of another type, stand in `octets`: a text
 //! of hex digits is a value as well. Hex digits are twice as many as octets; a text of characters has as many as the
-//! contents.
+//! contents. Only a block that is cut short has the hex digits of the octets that are there as its value, also where it
+//! is a string; it has a fault.
 //!
 //! End-of-contents octets of the indefinite form (X.690 8.1.5) have an object; where they are missing it has no octets,
 //! and a fault. Octets that begin with no header have one whose `class`, `constructed`, `tag` and `type` are `null`.
@@ -60,7 +63,7 @@
 //! Numbers beyond 2^53 - 1 are texts since `jq` and JavaScript round them, as RFC 7493 (section 2.2) lets readers do.
 #![tactic(auto)]
 
-mod fault;
+mod fault_object;
 mod labels;
 mod line;
 mod member;
@@ -71,6 +74,6 @@ mod shown;
 mod strict;
 mod value;
 
-pub use fault::{Fault, fault_at};
+pub use fault_object::{Fault, fault_at};
 pub use line::{Origin, push_json, push_refusal};
 pub use strict::push_strict_json;

@@ -4,12 +4,11 @@ ghost use Rattle.std.specs.Option.{is_none};
 ghost use Rattle.std.specs.Io.KnownBytes.{Appends};
 ghost use Rattle.der_io.specs.Output.{IsWritten};
 ghost use Rattle.der_pieces.specs.Texts.{Adds};
-ghost use Rattle.der_json.specs.Json.{IsEmptyLine, IsJsonOf, fault_data, first_text, line_text, refusal_json};
-ghost use Rattle.der_json.specs.Json.{origin_data};
+ghost use Rattle.der_json.specs.Json.{IsEmptyLine, IsJsonOf, fault_data, first_text, line_text, refusal_json, origin_data};
 ghost use Rattle.der_json.specs.Rows.{IsRowsLine, end_text};
 ghost use Rattle.der_json.specs.Shown.{shown_text};
 
-use crate::fault::{Fault, fault_at};
+use crate::fault_object::{Fault, fault_at};
 use crate::member::push_text_if;
 use crate::object::push_fault_object;
 use crate::rows::{Problems, push_rows};

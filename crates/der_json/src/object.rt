@@ -3,11 +3,10 @@ ghost use Rattle.std.specs.Prelude.{◌≡◌, ◌++◌, false, IfOk, OnOk, map,
 ghost use Rattle.serde_json.specs.View.{view};
 ghost use Rattle.serde_json.specs.Written.{comma_if, compact_text, has_float, items_text};
 ghost use Rattle.der_pieces.specs.Marks.{breach_of};
-ghost use Rattle.der_json.specs.Json.{boolean_or_null as boolean_or_null_is, fault_json, fault_data, items_of, rule_json};
-ghost use Rattle.der_json.specs.Json.{number_or_null as number_or_null_is, text_or_null as text_or_null_is};
+ghost use Rattle.der_json.specs.Json.{boolean_or_null as boolean_or_null_is, fault_json, fault_data, items_of, rule_json, number_or_null as number_or_null_is, text_or_null as text_or_null_is};
 ghost use Rattle.der_json.specs.Rows.{IsExact, fault_text, first_members, last_members, rules_text};
 
-use crate::fault::{Fault, fault_value};
+use crate::fault_object::{Fault, fault_value};
 use crate::member::{push_member, push_text, push_text_if};
 use der_pieces::marks::BrokenRule;
 use serde_json::{Value, json};

@@ -9,7 +9,7 @@ ghost use Rattle.der_json.specs.Json.{Departed, earlier_of, fault_data, marks_at
 ghost use Rattle.der_json.specs.Shown.{shown_text};
 ghost use Rattle.der_json.specs.Rows.{AreListed, IsArray, IsExact, IsNestedJson, blocks_text, found_departures, row_of, departures_of};
 
-use crate::fault::Fault;
+use crate::fault_object::Fault;
 use crate::object::{Object, members_of};
 use crate::piece::object_of;
 use crate::shown::write_shown;
@@ -39,8 +39,8 @@ pub struct Problems {
 }
 
 impl Problems {
-    // Keeps what one more object tells, and if rules that are broken are listed, its own and those inside it.
-    fn keep(
+    // Adds what one more object tells, and if rules that are broken are listed, its own and those inside it.
+    fn add(
         &mut self,
         object: Object,
         mut inside: Vec<Departure>,
@@ -110,7 +110,7 @@ pub fn push_rows<W: Write>(
         let object = object_of(alloc, names, piece)?;
         write_part(out, comma(is_later))?;
         let inside = push_object(alloc, names, &object, nested, here, is_strict, out)?;
-        found.keep(object, inside, is_strict)?;
+        found.add(object, inside, is_strict)?;
         is_later = true;
     }
     write_part(out, b"]")?;

@@ -3,8 +3,7 @@ ghost use Rattle.std.specs.Prelude.{◌≡◌, ◌++◌, ◌&&◌, false, IfOk, 
 ghost use Rattle.serde_json.specs.View.{view};
 ghost use Rattle.serde_json.specs.Written.{items_text};
 ghost use Rattle.der_io.specs.Output.{IsWritten};
-ghost use Rattle.der_json.specs.Json.{IsStrictJsonOf, departed_json, is_der, items_of, marks_text};
-ghost use Rattle.der_json.specs.Json.{origin_data};
+ghost use Rattle.der_json.specs.Json.{IsStrictJsonOf, departed_json, is_der, items_of, marks_text, origin_data};
 ghost use Rattle.der_json.specs.Rows.{departed_of, departures_of};
 
 use crate::line::{Origin, push_blocks, push_empty, push_end, push_first, push_line};

@@ -12,6 +12,5 @@ returns c =
     let file : Option (List ℕ) = option_map {T = Bor (List ℕ)} (λ t. t.now) c.args.origin.file in
     let label : Option (List ℕ) = option_map {T = Bor (List ℕ)} (λ t. t.now) c.args.origin.label in
     append-three c.args.out.now.items (text_member (codes ",\"file\":") file) (text_member (codes ",\"label\":") label)
-    (125 ∷ []) _ _ _ c.in_ok-push_text_if.ensures c.in_ok-push_text_if-2.ensures
-    c.in_ok-push.ensures.items
+    (125 ∷ []) _ _ _ c.in_ok-push_text_if.ensures c.in_ok-push_text_if-2.ensures c.in_ok-push.ensures.items
     ∙ ap (λ z. c.args.out.now.items ++ z) (text_member-origin file label)

@@ -10,5 +10,4 @@ returns c = on_ok_weaker c.u64-written.result
     (λ added. c.into_inner.ensures.items
     ∙ written-one c.args.out.now.items c.new-writer.result c.u64-written.new.self (number (decimal c.args.number))
     (c.new-writer.ensures.before ∙ ap (λ z. z.items) c.replace.ensures.value) c.new-writer.ensures.tokens
-    c.u64-written.ensures.room.0 added)
-    c.u64-written.ensures.ok
+    c.u64-written.ensures.room.0 added) c.u64-written.ensures.ok

@@ -10,5 +10,4 @@ returns c = on_ok_weaker c.token-written.result
     (λ added. c.into_inner.ensures.items
     ∙ written-one c.args.out.now.items c.new-writer.result c.token-written.new.self (token_of c.args.token)
     (c.new-writer.ensures.before ∙ ap (λ z. z.items) c.replace.ensures.value) c.new-writer.ensures.tokens
-    c.token-written.ensures.room.0 added)
-    c.token-written.ensures.ok
+    c.token-written.ensures.room.0 added) c.token-written.ensures.ok

@@ -27,8 +27,7 @@ returns c = λ left kind.
                 _;
             not_der = c.in_ok-describe.field-0;
             fault = _;
-          })
-          inside marks piece.fault c.placed_if.ensures piece.kind c.in_ok-size_of.ensures tag.value
+          }) inside marks piece.fault c.placed_if.ensures piece.kind c.in_ok-size_of.ensures tag.value
           c.in_ok-value_of.ensures.json c.in_ok-octets_of.ensures kind;
       rules = c.in_ok-describe.ensures;
       fault_is = c.placed_if.ensures;

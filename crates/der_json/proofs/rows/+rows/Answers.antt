@@ -97,14 +97,12 @@ push_rows-loop-walk-preserved g t c =
     let piece = c.in-Some.piece in
     let p : Passes c.loop-walk.walk c.next.new.self piece = rw c.in-Some.is at c.in_ok-piece.ensures.passes in
     let (inside, marks, listed, nested, put) = c.in_ok-inside.ensures in
-    let k = c.in_ok-keep.ensures in
+    let k = c.in_ok-add.ensures in
     RowsTo-append c.args.is_strict c.args.place c.args.octets.now c.loop-walk.walk c.next.new.self piece
     c.in_ok-object.object inside (departures_of c.in_ok-inside.inside.items) marks
-    c.loop-walk.is_later c.loop-walk.found c.keep.new.self (g.W.Write.contents c.args.out.now)
+    c.loop-walk.is_later c.loop-walk.found c.add.new.self (g.W.Write.contents c.args.out.now)
     (g.W.Write.contents c.loop-walk.out) (g.W.Write.contents c.write_part.new.w)
-    (g.W.Write.contents c.push_object.new.out)
-    p c.loop-walk.invariant
-    (c.in_ok-object.ensures p.left p.kind) listed
+    (g.W.Write.contents c.push_object.new.out) p c.loop-walk.invariant (c.in_ok-object.ensures p.left p.kind) listed
     nested (subst (Appends _ _) c.comma.ensures c.in_ok-write_part.ensures.written) put k.marks k.first
 
 pub push_rows-returns : goal.push_rows-returns

@@ -12,7 +12,6 @@ returns c =
     (append-same_value _ (codes ",\"depth\":") _ _ _ c.in_ok-push_member-4.ensures c.from-3.ensures)
     (append-same_value _ (codes ",\"class\":") _ _ _ c.in_ok-push_member-5.ensures c.in_ok-class.ensures.value)
     (append-same_value _ (codes ",\"constructed\":") _ _ _ c.in_ok-push_member-6.ensures
-    c.boolean_or_null-constructed.ensures.value)
-    c.in_ok-push_member-7.ensures
+    c.boolean_or_null-constructed.ensures.value) c.in_ok-push_member-7.ensures
     (append-same_value _ (codes ",\"type\":") _ _ _ c.in_ok-push_member-8.ensures c.in_ok-kind.ensures.value)
     c.in_ok-push_member-9.ensures
