@@ -26,11 +26,13 @@ AreMarked-weaker P Q m fs a (no_more p q) = no_more p q
 AreMarked-weaker P Q m fs a (one f later rest p q h) = one f later rest p q (AreMarked-weaker P Q m later rest h)
 AreMarked-weaker P Q m fs a (one_inside f rest q i h) = one_inside f rest q (m f i) (AreMarked-weaker P Q m fs rest h)
 
+-- of joined fronts, those whose marks count are those of each list
 pub counted-append : (inside : Bool) (fs gs : List Front) →
     counted inside (fs ++ gs) ≡ counted inside fs ++ counted inside gs
 counted-append true fs gs = refl
 counted-append false fs gs = refl
 
+-- of no fronts, no marks count
 pub counted-nil : (inside : Bool) → counted inside [] ≡ []
 counted-nil true = refl
 counted-nil false = refl
@@ -50,6 +52,7 @@ breaches_text-later (y ∷ xs) x =
     ∙ (ap (λ z. separator true ++ z) (sym (append_assoc y.text (breaches_text true xs) (separator true ++ x.text)))
     ∙ sym (append_assoc (separator true) (y.text ++ breaches_text true xs) (separator true ++ x.text)))
 
+-- the texts of breaches and one more are those of the breaches, a separator if there are some, and the text of this one
 breaches_text-append : (xs : List Breach) (x : Breach) →
     breaches_text false (xs ++ x ∷ []) ≡ breaches_text false xs ++ (separator (are_some xs) ++ x.text)
 breaches_text-append [] x = append-nil x.text

@@ -2,9 +2,8 @@
 use Rattle.std.proofs.Common.{◌≡◌, ◌<◌, ℕ, Bool, true, false, List, [], ◌∷◌, ◌++◌, arith, length, take, refl, sym, ap, ◌∙◌, subst, append-nil}
 use Rattle.std.specs.Prelude.{Option, None, Some, Result, Ok, Err, IfOk}
 use Rattle.der_io.specs.declared.StreamFault.{StreamFault}
-use Rattle.der_lines.specs.Dump.{AreFaultLines, AreMarked, IsDump, IsDumpOfSome, StandsInside, down_to}
+use Rattle.der_lines.specs.Dump.{AreFaultLines, AreMarked, IsDump, IsDumpOfSome, StandsInside, down_to, verdict_of, wrong_offsets}
 use Rattle.der_pieces.specs.Fronts.{Front}
-use Rattle.der_lines.specs.Dump.{verdict_of, wrong_offsets}
 use Rattle.der_lines.specs.Steps.{IsFirstFault, IsLast, IsWholeDump, counted, kept_marks, mark_offsets, outer}
 use Rattle.der_lines.specs.declared.document.Verdict.{Verdict}
 use Rattle.der_lines.specs.declared.document.Verdict.TheVariants.{AllRead, Refused}
@@ -17,10 +16,13 @@ use Rattle.der_rows.specs.Printing.{IsPrinted}
 use Rattle.der_rows.specs.declared.printer.Printer.{Printer}
 use Rattle.der_lines.proofs.Dumps.{AreFaultLines-one, AreFaultLines-append}
 
+-- where an offset stands behind others, the verdict on all is a refusal
 verdict_of-append : (offsets : List ℕ) (offset : ℕ) → verdict_of (offsets ++ offset ∷ []) ≡ Refused
 verdict_of-append [] offset = refl
 verdict_of-append (first ∷ offsets) offset = refl
 
+-- the lines of marks and that of the first fault, if there is one, are a line for each that is wrong, and the verdict
+-- is on all
 AreFaultLines-last :
     (first : Option Fault) (marks faults a b : List ℕ) (verdict : Verdict) → IsFirstFault faults first →
     AreFaultLines marks a → IsLast first marks verdict b →
@@ -38,6 +40,7 @@ AreFaultLines-last (Some fault) marks faults a b verdict (later, is) lines (v, l
       v ∙ (sym (verdict_of-append marks fault.offset) ∙ ap verdict_of (sym all)),
     )
 
+-- outside of strings and at base 0, the lines that were put are those of the fronts down to the most depth
 IsDump-outermost :
     (place : Place) (octets : List ℕ) (most : Option ℕ) (fronts : List Front) (text : List ℕ) →
     place.is_inside ≡ false →
@@ -49,11 +52,13 @@ IsDump-outermost place octets most fronts text i z m dump =
     (subst (λ y. IsDump (StandsInside 0 octets) (outer y place.most_depth fronts) text) i
     (subst (λ y. IsDump (StandsInside y octets) (outer place.is_inside place.most_depth fronts) text) z dump))
 
+-- the marks that are kept, and then the first fault, are what is wrong with a document
 wrong_offsets-kept : (strict : Bool) (marks faults : List ℕ) →
     kept_marks strict marks ++ take 1 faults ≡ wrong_offsets strict marks faults
 wrong_offsets-kept true marks faults = refl
 wrong_offsets-kept false marks faults = refl
 
+-- outside of strings and at base 0, the marks of the fronts that count are those of all fronts
 AreMarked-outermost :
     (place : Place) (octets : List ℕ) (fronts : List Front) (marks : List ℕ) → place.is_inside ≡ false →
     place.base ≡ 0 → AreMarked (StandsInside place.base octets) (counted place.is_inside fronts) marks →
@@ -62,6 +67,7 @@ AreMarked-outermost place octets fronts marks i z marked =
     subst (λ y. AreMarked (StandsInside 0 octets) (counted y fronts) marks) i
     (subst (λ y. AreMarked (StandsInside y octets) (counted place.is_inside fronts) marks) z marked)
 
+-- outside of strings and at base 0, the lines of octets, those of their marks and the last line are a dump
 IsDumpOfSome-append :
     (place : Place) (strict : Bool) (octets : List ℕ) (most : Option ℕ) (found : Problems) (marks : List Marked)
     (x y w rest : List ℕ) (v : Verdict) → place.is_inside ≡ false → place.base ≡ 0 → place.most_depth ≡ most →
@@ -86,6 +92,7 @@ IsDumpOfSome-append place strict octets most found marks x y w rest v i z m thes
       is ∙ ap verdict_of wrong,
     )
 
+-- outside of strings and at base 0, a dump was printed where its lines, those of its marks and the last line were
 pub IsDumpOfSome-put :
     {W : Type 0} (contents : W → Option (List ℕ)) (place : Place) (strict : Bool) (octets : List ℕ) (most : Option ℕ)
     (found : Problems) (marks : List Marked)
@@ -100,8 +107,7 @@ IsDumpOfSome-put contents place strict octets most found marks a b c d (Ok v) i 
     IsPrinted-append contents _ _ (IsDumpOfSome strict most octets v) a b d
     (λ x rest dump (y, w, is, are, end). IsDumpOfSome-append place strict octets most found marks x y w rest v i z m
     these dump is
-    are end)
-    put
+    are end) put
     (IsPrinted-append contents _ _
     (λ rest. (y w : List ℕ) × (rest ≡ y ++ w) × AreFaultLines (mark_offsets marks) y
     × IsLast found.fault (mark_offsets marks) v w) b c d (λ y w are end. (y, w, refl, are, end)) lines last)

@@ -1,13 +1,10 @@
 -- Lines are put after lines, for `document`, `encodings` and `lines::push_mark`.
-use Rattle.std.proofs.Common.{◌≡◌, ℕ, zero, suc, ◌+◌, ◌-◌, ◌<◌, List, [], ◌∷◌, ◌++◌, codes, drop, if◌then◌else◌, replicate}
-use Rattle.std.proofs.Common.{Bool, true, false, refl, sym, ap, ◌∙◌, subst, append_assoc, append-nil, arith, length}
+use Rattle.std.proofs.Common.{◌≡◌, ℕ, zero, suc, ◌+◌, ◌-◌, ◌<◌, List, [], ◌∷◌, ◌++◌, codes, drop, if◌then◌else◌, replicate, Bool, true, false, refl, sym, ap, ◌∙◌, subst, append_assoc, append-nil, arith, length}
 use Rattle.std.proofs.lemmas.List.{drop-drop}
 use Rattle.std.specs.Fmt.{decimal}
 use Rattle.std.specs.Prelude.{IfSome, Option}
-use Rattle.der_lines.specs.Dump.{AreFaultLines, IsBlockLine, IsDump, IsFaultLine, IsLine, IsMeaningText}
-use Rattle.der_pieces.specs.Fronts.{Front}
-use Rattle.der_pieces.specs.Fronts.{StandAt, is_too_deep}
-use Rattle.der_lines.specs.Dump.{StandsInside, block_line, down_to, inside_line, no_lines}
+use Rattle.der_lines.specs.Dump.{AreFaultLines, IsBlockLine, IsDump, IsFaultLine, IsLine, IsMeaningText, StandsInside, block_line, down_to, inside_line, no_lines}
+use Rattle.der_pieces.specs.Fronts.{Front, StandAt, is_too_deep}
 use Rattle.der_pieces.specs.Marks.{Breach, breaches_of}
 use Rattle.der_lines.specs.MarkText.{mark_text, breaches_text}
 use Rattle.der_lines.specs.Steps.{IsLineOf, IsLineUnless, outer}
@@ -38,6 +35,7 @@ IsDump-weaker P Q m fs a (block_line f later line rest p q l d) =
 IsDump-weaker P Q m fs a (inside_line f line rest q l i d) =
     inside_line f line rest q l (m f i) (IsDump-weaker P Q m fs rest d)
 
+-- the line of one front, inside octets of a string or not, or nothing where it stands too deep, is a dump
 IsDump-unless :
     (P : Front → Type 0) (inside q : Bool) (f : Front) (text : List ℕ) → IsLineUnless q inside f text → P f →
     IsDump P (if inside then [] else if q then [] else f ∷ []) text
@@ -63,6 +61,7 @@ IsPrintedAs-row contents true inside row f faults a b e prints line = absurd (cc
 IsPrintedAs-row contents false inside row f faults a b e prints line =
     (row_line row ++ 10 ∷ [], prints, (row_line row, refl, line))
 
+-- one front has a line unless it stands inside octets of a string or too deep
 outer-one :
     (inside : Bool) (most : Option ℕ) (f : Front) →
     outer inside most (f ∷ []) ≡ (if inside then [] else if is_too_deep most f.depth then [] else f ∷ [])
@@ -77,24 +76,28 @@ IsDump-start P inside most f text line i =
     subst (λ z. IsDump P z text) (sym (outer-one inside most f))
     (IsDump-unless P inside (is_too_deep most f.depth) f text line i)
 
+-- a front that is left out or kept before joined fronts is left out or kept before the first of these
 down_to-append-one :
     (q : Bool) (f : Front) (xs ys zs : List Front) → xs ≡ ys ++ zs →
     (if q then xs else f ∷ xs) ≡ (if q then ys else f ∷ ys) ++ zs
 down_to-append-one true f xs ys zs e = e
 down_to-append-one false f xs ys zs e = ap (λ z. f ∷ z) e
 
+-- of joined fronts, those down to the most depth are those of each list
 down_to-append : (most : Option ℕ) (fs gs : List Front) → down_to most (fs ++ gs) ≡ down_to most fs ++ down_to most gs
 down_to-append most [] gs = refl
 down_to-append most (f ∷ fs) gs =
     down_to-append-one (is_too_deep most f.depth) f (down_to most (fs ++ gs)) (down_to most fs) (down_to most gs)
     (down_to-append most fs gs)
 
+-- of joined fronts, those with lines of their own are those of each list
 pub outer-append :
     (inside : Bool) (most : Option ℕ) (fs gs : List Front) →
     outer inside most (fs ++ gs) ≡ outer inside most fs ++ outer inside most gs
 outer-append true most fs gs = refl
 outer-append false most fs gs = down_to-append most fs gs
 
+-- of no fronts, none has a line
 pub outer-nil : (inside : Bool) (most : Option ℕ) → outer inside most [] ≡ []
 outer-nil true most = refl
 outer-nil false most = refl
@@ -121,8 +124,7 @@ IsBlockLine-row row f o h c i d w m v width line is =
     let field = on_one_line row.field.now in
     let value = on_one_line row.value.now in
     let fault = on_one_line (fault_message row) in
-    let same : line ≡
-    replicate (width - length (decimal f.offset)) 32
+    let same : line ≡ replicate (width - length (decimal f.offset)) 32
     ++ (decimal f.offset ++ (32 ∷ [] ++ (right_of 2 f.header ++ (32 ∷ []
     ++ (contents_column f.indefinite f.contents ++ (32 ∷ 32 ∷ []
     ++ (indentation f.depth ++ (field ++ (f.type_name ++ ((value ++ fault) ++ on_one_line row.mark.now))))))))))
@@ -141,6 +143,7 @@ IsBlockLine-row row f o h c i d w m v width line is =
       mark_is = m;
     }
 
+-- the line of a row with the fields of a front, inside octets of a string or not, is the line of this front
 pub row_line-front :
     (inside : Bool) (row : Row) (f : Front) → row.is_inside ≡ inside → row.offset ≡ f.offset → row.header ≡ f.header →
     row.contents ≡ f.contents → row.is_indefinite ≡ f.indefinite → row.depth ≡ f.depth →
@@ -163,6 +166,7 @@ drop-append zero xs ys = (ys, refl)
 drop-append (suc n) [] ys = (drop (suc n) ys, refl)
 drop-append (suc n) (x ∷ xs) ys = drop-append n xs ys
 
+-- what stands in a part of octets stands in the octets, later by as many as stand before the part
 pub StandAt-inside : (octets part inner : List ℕ) (m n : ℕ) → StandAt octets m part → StandAt part n inner →
     StandAt octets (m + n) inner
 StandAt-inside octets part inner m n (rest, p) (after, q) =
@@ -206,11 +210,13 @@ pub mark_text-none : (breaches : List Breach) → length breaches ≡ 0 → mark
 mark_text-none [] e = refl
 mark_text-none (x ∷ breaches) e = absurd (omega (arith, e))
 
+-- the mark of some breaches is their texts behind `not DER:`, in parentheses
 mark_text-some : (breaches : List Breach) → 0 < length breaches →
     mark_text breaches ≡ codes " (not DER: " ++ (breaches_text false breaches ++ codes ")")
 mark_text-some [] some = absurd (omega (arith, some))
 mark_text-some (x ∷ breaches) some = refl
 
+-- where the beginning of a mark, the texts of some breaches and the end were put, their mark was put
 pub mark_text-put :
     (a b c d : List ℕ) (breaches : List Breach) → 0 < length breaches → b ≡ a ++ codes " (not DER: " →
     c ≡ b ++ breaches_text false breaches → d ≡ c ++ 41 ∷ [] → d ≡ a ++ mark_text breaches
@@ -224,6 +230,7 @@ pub AreFaultLines-one : (offset : ℕ) (text : List ℕ) → IsLine (IsFaultLine
     AreFaultLines (offset ∷ []) text
 AreFaultLines-one offset text line = (text, [], sym (append-nil text), line, refl)
 
+-- the lines of faults, and then of others, are the lines of all
 pub AreFaultLines-append :
     (xs ys a b : List ℕ) → AreFaultLines xs a → AreFaultLines ys b → AreFaultLines (xs ++ ys) (a ++ b)
 AreFaultLines-append [] ys a b e more = subst (λ z. AreFaultLines ys (z ++ b)) (sym e) more

@@ -38,6 +38,7 @@ pub record ShownTo (place : Place) (octets : List ℕ) (walk : Walk) (first : Op
   pub marked : AreMarked (IsSoFar place.base octets fronts) (counted place.is_inside fronts) marks
   pub dump : IsDump (IsSoFar place.base octets fronts) (outer place.is_inside place.most_depth fronts) text
 
+-- before the first step of a walk, nothing was put
 pub ShownTo-none :
     (place : Place) (octets : List ℕ) (walk : Walk) → walk.cursor.octets.now ≡ octets → walk.place ≡ place →
     ((fronts : List Front) (faults : List ℕ) → IsAhead walk.cursor fronts faults → AreFrontsOf octets fronts faults) →
@@ -68,6 +69,7 @@ AreMarked-same_front P true f g marks e marked = marked
 AreMarked-same_front P false f g marks e marked =
     subst (λ z. AreMarked P (counted false (z ∷ [])) marks) (e refl) marked
 
+-- what is one of the fronts so far, or stands inside the octets, stays one where one more front follows
 IsSoFar-append :
     (base : ℕ) (octets : List ℕ) (fronts : List Front) (g p : Front) → IsSoFar base octets fronts p →
     IsSoFar base octets (fronts ++ g ∷ []) p
@@ -75,12 +77,14 @@ IsSoFar-append base octets fronts g p (inl (f, (earlier, others, e), l)) =
     inl (f, (earlier, others ++ g ∷ [], ap (λ z. z ++ g ∷ []) e ∙ append_assoc earlier (f ∷ others) (g ∷ [])), l)
 IsSoFar-append base octets fronts g p (inr inside) = inr inside
 
+-- the first fault of octets, or else that of others behind them, is the first fault of both
 IsFirstFault-append :
     (faults own : List ℕ) (first next : Option Fault) → IsFirstFault faults first → IsFirstFault own next →
     IsFirstFault (faults ++ own) (earlier_fault first next)
 IsFirstFault-append faults own None next none t = subst (λ z. IsFirstFault (z ++ own) next) (sym none) t
 IsFirstFault-append faults own (Some fault) next (later, e) t = (later ++ own, ap (λ z. z ++ own) e)
 
+-- the fault of a piece, if it has one, is the first of its own faults
 IsFirstFault-one : (fault : Option Fault) → IsFirstFault (fault_offset fault) fault
 IsFirstFault-one None = refl
 IsFirstFault-one (Some fault) = ([], refl)
@@ -92,12 +96,15 @@ module _ (place : Place) (octets : List ℕ) (fronts : List Front) (old new : Wa
   abbrev one_more : List Front
   one_more = fronts ++ front_of p.levels piece ∷ []
 
+  -- a piece has the base of the place that the walk goes over
   base_is : piece.place.base ≡ place.base
   base_is = p.base ∙ ap (λ z. z.base) same
 
+  -- a piece stands inside octets of a string exactly if the place does
   inside_is : piece.place.is_inside ≡ place.is_inside
   inside_is = p.inside ∙ ap (λ z. z.is_inside) same
 
+  -- the front of the piece, as the document has it, is one of the fronts with one more
   IsSoFar-own : IsSoFar place.base octets one_more (shown_front piece)
   IsSoFar-own =
       let f = front_of p.levels piece in
@@ -123,6 +130,7 @@ module _ (place : Place) (octets : List ℕ) (fronts : List Front) (old new : Wa
       ∙ (ap (λ z. kind_front piece.offset z rules spare piece.kind) (omega (arith, p.depth, deep, no_depth))
       ∙ ap (λ z. kind_front piece.offset p.levels rules z piece.kind) (p.no_list (inside_is ∙ out)))
 
+  -- what stands inside the contents octets of the piece stands inside the octets
   IsSoFar-inside : (h : Front) → StandsInPiece p.left piece h → IsSoFar place.base octets one_more h
   IsSoFar-inside h s =
       let header = kind_header piece.kind in
@@ -170,11 +178,13 @@ module _ (place : Place) (octets : List ℕ) (fronts : List Front) (old new : Wa
       subst (λ z. AreMarked P z (marked_offset g ++ marks)) (append-nil (counted place.is_inside (f ∷ [])))
       (AreMarked-append P (counted place.is_inside (f ∷ [])) [] (marked_offset g) marks first rest)
 
+-- of joined marks, those that are kept are those of each list
 kept_marks-append : (strict : Bool) (xs ys : List ℕ) →
     kept_marks strict (xs ++ ys) ≡ kept_marks strict xs ++ kept_marks strict ys
 kept_marks-append true xs ys = refl
 kept_marks-append false xs ys = refl
 
+-- of no marks, none is kept
 pub kept_marks-nil : (strict : Bool) → kept_marks strict [] ≡ []
 kept_marks-nil true = refl
 kept_marks-nil false = refl
@@ -184,6 +194,7 @@ abbrev pub ShownKept : Bool → Place → List ℕ → Walk → Option Fault →
 ShownKept strict place octets walk first kept text =
     (marks : List ℕ) × (kept ≡ kept_marks strict marks) × ShownTo place octets walk first marks text
 
+-- with the line of one piece more, and the lines inside it, what was put goes up to the next place of the walk
 pub ShownKept-append :
     (strict : Bool) (place : Place) (octets : List ℕ) (old new : Walk) (piece : Piece) (first : Option Fault)
     (kept more_kept inside text own : List ℕ) (p : Passes old new piece) →
@@ -240,6 +251,7 @@ ShownKept-append strict place octets old new piece first kept more_kept inside t
       },
     )
 
+-- a front that is one of all fronts of octets, or of an encoding inside these, stands inside the octets
 StandsInside-so_far :
     (base : ℕ) (octets : List ℕ) (fronts : List Front) (faults : List ℕ) (p : Front) →
     AreFrontsOf octets fronts faults →
@@ -269,6 +281,7 @@ StandsInside-so_far base octets fronts faults p read (inl (f, (earlier, others, 
     }
 StandsInside-so_far base octets fronts faults p read (inr inside) = inside
 
+-- where the walk is at its end, what was put are the lines of all octets
 pub IsWholeDump-shown :
     (strict : Bool) (place : Place) (octets : List ℕ) (walk : Walk) (found : Problems) (text : List ℕ) →
     IsAhead walk.cursor [] [] →

@@ -18,6 +18,7 @@ use Rattle.der_pieces.specs.declared.piece.PieceKind.TheVariants.{Cut, EndOfCont
 use Rattle.der_rows.proofs.OneLine.{IsOneLine-append, IsOneLine-decimal, IsOneLine-if}
 use Rattle.der_rows.specs.Rows.{IsOneLine, is_shown}
 
+-- the text of a rule has no control characters
 IsOneLine-text_of : (rule : Rule) → IsOneLine (text_of rule)
 IsOneLine-text_of LongIdentifier = refl
 IsOneLine-text_of PaddedTag = refl
@@ -47,10 +48,12 @@ IsOneLine-text_of Time = refl
 IsOneLine-text_of Order = refl
 IsOneLine-text_of NotEncodings = refl
 
+-- what separates two breaches has no control characters
 IsOneLine-separator : (later : Bool) → IsOneLine (separator later)
 IsOneLine-separator true = refl
 IsOneLine-separator false = refl
 
+-- the texts of breaches, one after another, have no control characters
 IsOneLine-breaches_text : (later : Bool) (rules : List Rule) (spare : Bool)
     → IsOneLine (breaches_text later (breaches_of rules spare))
 IsOneLine-breaches_text later [] false = refl
@@ -75,26 +78,31 @@ abbrev is_shown_name : Option (List ℕ) → Bool
 is_shown_name None = true
 is_shown_name (Some name) = list_all is_shown name
 
+-- where no name in a list has control characters, the name at an index, if there is one, has none
 is_shown_name-get_or : (names : List (Option (List ℕ))) (tag : ℕ) → list_all is_shown_name names ≡ true →
     is_shown_name (get_or names tag None) ≡ true
 is_shown_name-get_or [] tag all = refl
 is_shown_name-get_or (name ∷ names) zero all = (and_parts _ _ all).0
 is_shown_name-get_or (name ∷ names) (suc tag) all = is_shown_name-get_or names tag (and_parts _ _ all).1
 
+-- a name, or another text where there is none, has no control characters if neither of both has
 IsOneLine-unwrap_or : (name : Option (List ℕ)) (other : List ℕ) → is_shown_name name ≡ true → IsOneLine other →
     IsOneLine (unwrap_or name other)
 IsOneLine-unwrap_or None other none one = one
 IsOneLine-unwrap_or (Some name) other some one = some
 
+-- a tag number in words has no control characters
 IsOneLine-tag_number : (tag : ℕ) → IsOneLine (tag_number tag)
 IsOneLine-tag_number tag =
     IsOneLine-if (nat_lt tag (2 ^ 128)) (decimal tag) (codes "beyond 2^128") (IsOneLine-decimal tag) refl
 
+-- a text without control characters, a tag number behind it and a closing bracket have none
 IsOneLine-numbered : (front : List ℕ) (tag : ℕ) → IsOneLine front → IsOneLine (front ++ (tag_number tag ++ codes "]"))
 IsOneLine-numbered front tag one =
     IsOneLine-append front (tag_number tag ++ codes "]") one
     (IsOneLine-append (tag_number tag) (codes "]") (IsOneLine-tag_number tag) refl)
 
+-- a tag in words has no control characters
 IsOneLine-tag_name : (class : ASN1Class) (tag : ℕ) → IsOneLine (tag_name class tag)
 IsOneLine-tag_name Universal tag =
     IsOneLine-unwrap_or (type_name Universal tag) _ (is_shown_name-get_or universal_names tag refl)

@@ -1,5 +1,5 @@
-pub mod Dump
 pub mod MarkText
-pub mod PieceRows
-pub mod Steps
 pub mod ValueText
+pub mod Dump
+pub mod Steps
+pub mod PieceRows

@@ -1,6 +1,5 @@
 -- The rows of a piece, and of what stands inside it. Private contracts alone name these.
-use Rattle.std.specs.Prelude.{◌≡◌, ◌⊎◌, ℕ, ◌+◌, Bool, List, [], ◌∷◌, ◌++◌, if◌then◌else◌, is_some, slice_range}
-use Rattle.std.specs.Prelude.{IfSome, MatchOption, None, Option, Some}
+use Rattle.std.specs.Prelude.{◌≡◌, ◌⊎◌, ℕ, ◌+◌, Bool, List, [], ◌∷◌, ◌++◌, if◌then◌else◌, is_some, slice_range, IfSome, MatchOption, None, Option, Some}
 use Rattle.der_contents.specs.Scalars.{after_space}
 use Rattle.der_lines.specs.ValueText.{IsValueText, opened_text, parenthesized_if, spaced_if}
 use Rattle.der_lines.specs.declared.values.ValueStyle.{ValueStyle}

@@ -1,6 +1,5 @@
 -- The text of values, as it stands behind the type of an encoding.
-use Rattle.std.specs.Prelude.{◌≡◌, ℕ, ◌==◌, ◌&&◌, ℤ, Bool, true, false, nat_lt, if◌then◌else◌, List, [], ◌++◌, codes, decimal, length}
-use Rattle.std.specs.Prelude.{Option, None, Some, option_map, string_bytes}
+use Rattle.std.specs.Prelude.{◌≡◌, ℕ, ◌==◌, ◌&&◌, ℤ, Bool, true, false, nat_lt, if◌then◌else◌, List, [], ◌++◌, codes, decimal, length, Option, None, Some, option_map, string_bytes}
 use Rattle.asn1_numbers.specs.Decimal.{whole_numeral}
 use Rattle.asn1_numbers.specs.TwosComplement.{shortest_octets}
 use Rattle.der_contents.specs.Scalars.{after_space, hex_text, in_form, quoted}

@@ -18,7 +18,7 @@ use asn1_headers::whole_header::Header;
 use der_contents::faults::Fault;
 use der_contents::scalars::write_after_space;
 use der_contents::value::LeafValue;
-use der_elements::header::holds_encodings;
+use der_elements::element_header::holds_encodings;
 use der_elements::sum::checked_sum;
 use der_io::StreamFault;
 use der_names::Names;
@@ -49,8 +49,8 @@ pub struct Problems {
 }
 
 impl Problems {
-    // Keeps what is wrong with one more piece, and, strictly, the marks inside it.
-    fn keep(
+    // Adds what is wrong with one more piece, and, strictly, the marks inside it.
+    fn add(
         &mut self,
         alloc: Global,
         is_strict: bool,
@@ -63,12 +63,12 @@ impl Problems {
     {
         self.mark(alloc, is_strict, &piece)?;
         self.marks.append(&mut inside)?;
-        self.keep_fault(piece.fault);
+        self.add_fault(piece.fault);
         Ok(())
     }
 
-    // Keeps what is wrong with one more piece, unless something is wrong with an earlier one.
-    fn keep_fault(&mut self, fault: Option<Fault>)
+    // Adds what is wrong with one more piece, unless something is wrong with an earlier one.
+    fn add_fault(&mut self, fault: Option<Fault>)
         ensures fault { self.new.fault ≡ earlier_fault self.old.fault fault }
         ensures marks { self.new.marks ≡ self.old.marks }
     {
@@ -77,7 +77,7 @@ impl Problems {
         }
     }
 
-    // Keeps the mark of a piece, if it has one: strictly, since else it is not listed.
+    // Adds the mark of a piece, if it has one: strictly, since else it is not listed.
     fn mark(&mut self, alloc: Global, is_strict: bool, piece: &Piece<'_>) -> Result<(), AllocError>
         ensures fault { OnOk result (self.new.fault ≡ self.old.fault) }
         ensures marks { OnOk result (mark_offsets self.new.marks.items
@@ -86,10 +86,10 @@ impl Problems {
         if !is_strict {
             return Ok(());
         }
-        self.keep_mark(alloc, piece)
+        self.add_mark(alloc, piece)
     }
 
-    fn keep_mark(&mut self, alloc: Global, piece: &Piece<'_>) -> Result<(), AllocError>
+    fn add_mark(&mut self, alloc: Global, piece: &Piece<'_>) -> Result<(), AllocError>
         ensures fault { OnOk result (self.new.fault ≡ self.old.fault) }
         ensures marks { OnOk result (mark_offsets self.new.marks.items
             ≡ mark_offsets self.old.marks.items ++ marked_offset (shown_front piece.now)) }
@@ -125,7 +125,7 @@ pub fn push_encodings<W: Write>(
     let mut walk = Walk::over(alloc, &names.shapes, octets, place)?;
     while let Some(piece) = walk.next(alloc)? {
         let inside = push_piece(alloc, names, &piece, is_strict, printer)?;
-        found.keep(alloc, is_strict, piece, inside)?;
+        found.add(alloc, is_strict, piece, inside)?;
     }
     Ok(found)
 }

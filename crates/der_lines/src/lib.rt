@@ -10,13 +10,14 @@
 //! ```
 //!
 //! A line has the offset of its encoding, in octets from the first of the document, how many octets its header has, how
-//! many contents octets it announces, its type, and its value. In the place of their number `inf` stands where the
-//! length is indefinite (X.690 8.1.3.6); then end-of-contents octets end what stands inside, and have a line, too. A
-//! string that is constructed has the value of its segments joined, if these are well-formed, and each of them a line.
-//! Encodings inside the bytes of a string have lines that begin with `>`. What is wrong with an encoding is said on its
-//! line, and the first fault again on the last line, which begins with `!`; what came of it is the [`Verdict`]. Where
-//! the library reads otherwise than X.690, on purpose, lines show what X.690 has. What breaks a rule of DER has a mark
-//! at the end of its line, with the rules that `asn1_departures` finds, and [`push_strict_document`] lists it.
+//! many contents octets it announces, the name of its field, if it is known, its type, and its value. In the place of
+//! their number `inf` stands where the length is indefinite (X.690 8.1.3.6); then end-of-contents octets end what
+//! stands inside, and have a line, too. A string that is constructed has the value of its segments joined, if these are
+//! well-formed, and each of them a line. Encodings inside the bytes of a string have lines that begin with `>`. What is
+//! wrong with an encoding is said on its line, and the first fault again on the last line, which begins with `!`; what
+//! came of it is the [`Verdict`]. Where the library reads otherwise than X.690, on purpose, lines show what X.690 has.
+//! What breaks a rule of DER has a mark at the end of its line, with the rules that `asn1_departures` finds, and
+//! [`push_strict_document`] lists it.
 //! [`push_fault_line`] prints the line of a fault that others find.
 //!
 //! [`push_label`] and [`push_refusal`] put the other lines of what is written: `=` and the label of a document, `!` and

@@ -8,7 +8,7 @@ use asn1_headers::whole_header::Header;
 use asn1_numbers::number::big_int::BigInt;
 use der_contents::scalars::{LEAST_HEX, write_after_space, write_as, write_hex, write_quoted};
 use der_contents::value::{Bits, Identifier, LeafValue, TaggedValue};
-use der_elements::header::{holds_encodings, universal_tag};
+use der_elements::element_header::{holds_encodings, universal_tag};
 use der_names::Names;
 use der_pieces::piece::Piece;
 use der_pieces::strings::Joined;

@@ -17,5 +17,4 @@ returns g c =
     let some : 0 < length c.args.octets.now = grind (arith, common_steps) in
     IfOk-weaker c.push_lines.result _ _
     (λ verdict. IsPrinted-weaker g.W.Write.contents _ _ c.args.printer.now c.push_lines.new.printer
-    (λ text lines. inl (some, lines)))
-    c.push_lines.ensures
+    (λ text lines. inl (some, lines))) c.push_lines.ensures

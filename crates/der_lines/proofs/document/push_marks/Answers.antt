@@ -20,9 +20,7 @@ loop-mark-preserved g c =
     subst (λ z. IsPrinted g.W.Write.contents (AreFaultLines z) c.args.printer.now c.push_mark_line.new.printer)
     (sym more)
     (IsPrinted-append g.W.Write.contents _ _ (AreFaultLines (mark_offsets (take i marks) ++ mark.offset ∷ []))
-    c.args.printer.now
-    c.loop-mark.printer
-    c.push_mark_line.new.printer
+    c.args.printer.now c.loop-mark.printer c.push_mark_line.new.printer
     (λ text line lines last. AreFaultLines-append (mark_offsets (take i marks)) (mark.offset ∷ []) text line lines
     (AreFaultLines-one mark.offset line last))
     c.loop-mark.invariant c.in_ok-push_mark_line.ensures)

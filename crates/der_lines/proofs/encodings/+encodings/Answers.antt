@@ -8,8 +8,7 @@ use Rattle.der_pieces.specs.Pieces.{Passes, kind_header}
 use Rattle.der_pieces.specs.Steps.{IsAhead}
 use Rattle.der_lines.specs.Steps.{earlier_fault, mark_offsets}
 use Rattle.der_rows.proofs.Printed.{IsPrinted-append, IsPrinted-nil, IsPrinted-weaker}
-use Rattle.der_lines.proofs.Fronts.{ShownKept, kept_marks-nil, IsWholeDump-shown, ShownKept-append, ShownTo-none}
-use Rattle.der_lines.proofs.Fronts.{IsNestedDump-inside}
+use Rattle.der_lines.proofs.Fronts.{ShownKept, kept_marks-nil, IsWholeDump-shown, ShownKept-append, ShownTo-none, IsNestedDump-inside}
 use Rattle.der_lines.proofs.encodings.+encodings.Goals as goal
 
 pub push_encodings-loop-walk-init : goal.push_encodings-loop-walk-init
@@ -29,13 +28,11 @@ push_encodings-loop-walk-preserved g t c =
     let found = c.loop-walk.found in
     let piece = c.in-Some.piece in
     let p : Passes c.loop-walk.walk c.next.new.self piece = rw c.in-Some.is at c.in_ok-piece.ensures.passes in
-    let k = c.in_ok-keep.ensures in
+    let k = c.in_ok-add.ensures in
     let all = IsPrinted-append g.W.Write.contents _ _ (ShownKept c.args.is_strict place octets c.next.new.self
-    (earlier_fault found.fault piece.fault) _)
-    c.args.printer.now c.loop-walk.printer c.push_piece.new.printer
+    (earlier_fault found.fault piece.fault) _) c.args.printer.now c.loop-walk.printer c.push_piece.new.printer
     (λ text own s put. ShownKept-append c.args.is_strict place octets c.loop-walk.walk c.next.new.self piece found.fault
-    _ _ _ text own p
-    k.marks
+    _ _ _ text own p k.marks
     c.requires s put) c.loop-walk.invariant (c.in_ok-inside.ensures p.left p.holding)
     in
     rw (k.fault) all
@@ -45,8 +42,7 @@ push_encodings-returns g t c =
     let ended : IsAhead c.loop-walk.walk.cursor [] [] = rw c.in_default.is at c.in_ok-piece.ensures.passes in
     IsPrinted-weaker g.W.Write.contents _ _ c.args.printer.now c.loop-walk.printer
     (λ text. IsWholeDump-shown c.args.is_strict c.args.place c.args.octets.now c.loop-walk.walk c.loop-walk.found text
-    ended)
-    c.loop-walk.invariant
+    ended) c.loop-walk.invariant
 
 pub push_nested-returns-in_default : goal.push_nested-returns-in_default
 push_nested-returns-in_default g t c = λ left holding.
@@ -72,9 +68,7 @@ push_nested-returns g t c = λ left holding.
       c.header_size.ensures,
     ) in
     IsNestedDump-inside g.W.Write.contents c.args.is_strict c.in_ok-inside.inside left piece nested.octets.now
-    nested.before
-    c.in_ok-found.found c.args.printer.now
-    c.push_encodings.new.printer stands i.inside base
+    nested.before c.in_ok-found.found c.args.printer.now c.push_encodings.new.printer stands i.inside base
     c.in_ok-found.ensures
 
 pub push_piece-returns : goal.push_piece-returns
@@ -83,10 +77,7 @@ push_piece-returns g t c =
     IfOk-weaker c.push_nested.result _ _
     (λ marks inside left holding.
     IsPrinted-append g.W.Write.contents _ _ (IsPieceDump c.args.is_strict left piece (mark_offsets marks.items))
-    c.args.printer.now
-    c.push_row.new.printer
-    c.push_nested.new.printer
+    c.args.printer.now c.push_row.new.printer c.push_nested.new.printer
     (λ first rest line more. record
     { first = first; rest = rest; text_is = refl; line = line; inside = more.0; marked = more.1 })
-    (row_faults piece, c.in_ok-push_row.ensures) (inside left holding))
-    c.push_nested.ensures
+    (row_faults piece, c.in_ok-push_row.ensures) (inside left holding)) c.push_nested.ensures

@@ -49,8 +49,7 @@ returns g c =
     let type_line = ap on_one_line c.requires.type_name
     ∙ on_one_line-shown (kind_type_name piece.kind) (IsOneLine-kind_type_name piece.kind) in
     IsPrintedAs-row g.W.Write.contents (is_too_deep place.most_depth place.depth) place.is_inside row
-    (shown_front piece)
-    (is_some piece.fault ∷ [])
+    (shown_front piece) (is_some piece.fault ∷ [])
     c.args.printer.now c.push.new.self (sym c.is_too_deep.ensures ∙ c.if-is_too_deep.false)
     (subst (λ z. Prints g.W.Write.contents (z ∷ []) (row_line row ++ 10 ∷ []) c.args.printer.now c.push.new.self) fault
     c.in_ok-push.ensures)
