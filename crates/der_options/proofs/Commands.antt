@@ -13,14 +13,18 @@ unfolding command
 is_simple_and_free-command = refl
 
 module _ (a : App) (arguments : List Text) (e : a ≡ command) where
+  -- the matches of a command that is equal to the command of the tool are the matches of this one
   pub matches_of-equal : (rows : List Row) → rows ≡ matches_of a arguments → rows ≡ matches_of command arguments
   matches_of-equal rows h = h ∙ ap (λ x. matches_of x arguments) e
 
+  -- the kinds of faults that clap may give for the command of the tool are those for an equal one
   pub fault_of-equal : fault_of command arguments ≡ fault_of a arguments
   fault_of-equal = sym (ap (λ x. fault_of x arguments) e)
 
+  -- clap states exactly the matches of a command that is equal to the command of the tool
   pub is_simple-equal : is_simple a ≡ true
   is_simple-equal = ap is_simple e ∙ is_simple-command
 
+  -- clap states the kinds of the faults of a command that is equal to the command of the tool
   pub is_simple_and_free-equal : is_simple_and_free a ≡ true
   is_simple_and_free-equal = ap is_simple_and_free e ∙ is_simple_and_free-command

@@ -1,17 +1,15 @@
 -- Which arguments of a command line give which options, by what `clap` makes of them.
-use Rattle.std.specs.Prelude.{◌≡◌, ◌≢◌, ◌⊎◌, ◌&&◌, ℕ, ◌<◌, ◌^◌, Bool, true, false, not, List, [], ◌∷◌, ◌++◌, codes, drop, fold, map, take}
-use Rattle.std.specs.Prelude.{Option, Some, None, is_some, option_map, if◌then◌else◌}
+use Rattle.std.specs.Prelude.{◌≡◌, ◌≢◌, ◌⊎◌, ◌&&◌, ℕ, ◌<◌, ◌^◌, Bool, true, false, not, List, [], ◌∷◌, ◌++◌, codes, drop, fold, map, take, Option, Some, None, is_some, option_map, if◌then◌else◌}
 use Rattle.std.specs.List.{All, list_all, list_any}
 use Rattle.std.specs.Str.{bytes_eq}
 use Rattle.std.specs.Str.Parse.{IsNumeral, digits_value, without_leading_plus}
-use Rattle.clap.specs.Words.{App, IsAmong, Row, Rule, Text, all_of, fault_of, first_of, kind_of, matches_of, new_app}
-use Rattle.clap.specs.Words.{new_rule, with_rule}
+use Rattle.clap.specs.Words.{App, IsAmong, Row, Rule, Text, all_of, fault_of, first_of, kind_of, matches_of, new_app, new_rule, with_rule}
 use Rattle.clap.specs.declared.builder.action.ArgAction.TheVariants.{Append, Set, SetTrue}
 use Rattle.clap.specs.declared.error.Error.{Error}
 use Rattle.clap.specs.declared.error.kind.ErrorKind.{ErrorKind}
 use Rattle.clap.specs.declared.error.kind.ErrorKind.TheVariants.{DisplayHelp, DisplayVersion, OutOfMemory as memory_kind}
-use Rattle.der_options.specs.declared.fault.OptionsFault.{OptionsFault}
-use Rattle.der_options.specs.declared.fault.OptionsFault.TheVariants.{Command, NoColor, NoNumber, NotTogether}
+use Rattle.der_options.specs.declared.options_fault.OptionsFault.{OptionsFault}
+use Rattle.der_options.specs.declared.options_fault.OptionsFault.TheVariants.{Command, NoColor, NoNumber, NotTogether}
 use Rattle.der_options.specs.declared.options.Color.{Color}
 use Rattle.der_options.specs.declared.options.Color.TheVariants.{Always, Auto, Never}
 use Rattle.der_options.specs.declared.options.Options.{Options}

@@ -4,8 +4,8 @@ use Rattle.clap.specs.Words.{IsAmong, Row, Text, fault_of, found_of, kind_of, ma
 use Rattle.clap.specs.declared.error.kind.ErrorKind.TheVariants.{OutOfMemory as memory_kind}
 use Rattle.clap.specs.declared.parser.matches.ArgMatches.{ArgMatches}
 use Rattle.der_options.specs.Options.{AsksForNothing, IsMemory, command}
-use Rattle.der_options.specs.declared.fault.OptionsFault.{OptionsFault}
-use Rattle.der_options.specs.declared.fault.OptionsFault.TheVariants.{Command}
+use Rattle.der_options.specs.declared.options_fault.OptionsFault.{OptionsFault}
+use Rattle.der_options.specs.declared.options_fault.OptionsFault.TheVariants.{Command}
 
 -- clap takes the arguments, and these are their matches
 abbrev pub IsMatched : List Text → ArgMatches → Type 0

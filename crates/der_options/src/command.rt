@@ -1,9 +1,7 @@
 // The command, as `clap` has it.
 ghost use Rattle.std.specs.Prelude.{◌≡◌, IfOk, false};
 ghost use Rattle.clap.specs.Words.{app_of, rule_of};
-ghost use Rattle.der_options.specs.Options.{command as command_is, flag as flag_is, valued as valued_is};
-ghost use Rattle.der_options.specs.Options.{bare_command, field_rules, form_rules, look_rules, style_rules};
-ghost use Rattle.der_options.specs.Options.{task_rules, with_rules};
+ghost use Rattle.der_options.specs.Options.{command as command_is, flag as flag_is, valued as valued_is, bare_command, field_rules, form_rules, look_rules, style_rules, task_rules, with_rules};
 
 use clap::{Arg, ArgAction, Command};
 use std::alloc::{AllocError, Global};

@@ -5,8 +5,8 @@
 #![tactic(auto)]
 
 mod command;
-mod fault;
 mod options;
+mod options_fault;
 
-pub use fault::OptionsFault;
 pub use options::{Color, Options, Task, options_of};
+pub use options_fault::OptionsFault;

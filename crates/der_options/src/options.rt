@@ -1,17 +1,11 @@
 // The options, and how the matches of `clap` give them.
-ghost use Rattle.std.specs.Prelude.{◌≡◌, ℕ, IfOk, IfErr, MatchOption, OnOk, Some, codes, drop, map, option_map, true};
-ghost use Rattle.std.specs.Prelude.{false};
+ghost use Rattle.std.specs.Prelude.{◌≡◌, ℕ, IfOk, IfErr, MatchOption, OnOk, Some, codes, drop, map, option_map, true, false};
 ghost use Rattle.clap.specs.Words.{all_of, first_of, found_of, rows_of};
-ghost use Rattle.der_options.specs.Options.{AsksFor, AsksForNothing, IsNumberOf, IsRefused, IsTask, Means};
-ghost use Rattle.der_options.specs.Options.{are_both_given, are_exclusive, go_together, is_given as is_given_by};
-ghost use Rattle.der_options.specs.Options.{color_exclusions, go_together_of, html_exclusions, json_exclusions};
-ghost use Rattle.der_options.specs.Options.{oids_exclusions, task_exclusions, text_exclusions, type_exclusions};
-ghost use Rattle.der_options.specs.Options.{IsNumber, begins_hex, is_true, names_of, takes_number};
-ghost use Rattle.der_options.specs.Options.{color_by, color_in as color_in_is};
+ghost use Rattle.der_options.specs.Options.{AsksFor, AsksForNothing, IsNumberOf, IsRefused, IsTask, Means, are_both_given, are_exclusive, go_together, is_given as is_given_by, color_exclusions, go_together_of, html_exclusions, json_exclusions, oids_exclusions, task_exclusions, text_exclusions, type_exclusions, IsNumber, begins_hex, is_true, names_of, takes_number, color_by, color_in as color_in_is};
 ghost use Rattle.der_options.specs.Steps.{IsMatched, IsUnmatched, LacksOptions};
 
 use crate::command::command;
-use crate::fault::OptionsFault;
+use crate::options_fault::OptionsFault;
 use clap::ArgMatches;
 use std::alloc::{AllocError, Global};
 use std::convert::AsStr;
