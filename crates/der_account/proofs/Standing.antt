@@ -25,15 +25,18 @@ module _ (entries : List Entry) (index offset : ℕ) (header : PlacedHeader) (it
   abbrev pub first_entry : Entry
   first_entry = shape_entry offset header (shape_count items) (suc index + length inside) s.depth
 
+  -- the entries from the index on are that of the first encoding, those inside it, those behind it, and others
   split-first : drop index entries ≡ first_entry ∷ (inside ++ (after ++ s.behind))
   split-first = s.split ∙ ap (λ z. first_entry ∷ z) (append_assoc inside after s.behind)
 
+  -- at the index stands the entry of the first encoding
   pub entry_at-first : entry_at entries index ≡ first_entry
   entry_at-first =
       let same : index + 0 ≡ index = omega arith in
       ap (λ z. get_or entries z no_entry) (sym same)
       ∙ (sym (get_or-drop index entries 0 no_entry) ∙ ap (λ z. get_or z 0 no_entry) split-first)
 
+  -- the index at which an encoding stands is below the number of entries
   pub index-lt : index < length entries
   index-lt =
       let some : length (drop index entries) ≡ suc (length (inside ++ (after ++ s.behind))) = ap length split-first in
@@ -45,9 +48,11 @@ module _ (entries : List Entry) (index offset : ℕ) (header : PlacedHeader) (it
       let next : index + 1 ≡ suc index = omega arith in
       ap (λ z. drop z entries) (sym next) ∙ drop-next entries index first_entry _ split-first
 
+  -- the encodings inside the first stand from the next index on
   pub StandAt-inside : StandAt entries (suc index) items
   StandAt-inside = record { depth = suc s.depth; behind = after ++ s.behind; split = drop-suc }
 
+  -- the encodings behind the first stand where the entries inside it end
   pub StandAt-behind : StandAt entries (suc index + length inside) rest
   StandAt-behind = record {
     depth = s.depth;

@@ -7,6 +7,7 @@ use Rattle.der_account.specs.Places.{AreLeft, HasTaken, begin_with, behind_first
 use Rattle.der_account.specs.declared.node.Items.{Items}
 use Rattle.der_account.proofs.Types.{are_of-one, are_of-optional}
 
+-- nothing is taken and all is left, where the encodings do not begin with one of the type
 pub HasTaken-none : (wanted : ElementType) (shapes : Shapes) (items : Items) → begin_with wanted shapes ≡ false →
     AreLeft items shapes → HasTaken wanted shapes false items
 HasTaken-none wanted shapes items other left = record {
@@ -14,6 +15,7 @@ HasTaken-none wanted shapes items other left = record {
   left = subst (λ z. AreLeft items (if z then behind_first shapes else shapes)) (sym other) left;
 }
 
+-- the first encoding is taken and the encodings behind it are left, where it is of the type
 pub HasTaken-first : (wanted : ElementType) (shapes : Shapes) (items : Items) → begin_with wanted shapes ≡ true →
     AreLeft items (behind_first shapes) → HasTaken wanted shapes true items
 HasTaken-first wanted shapes items same left = record {
@@ -28,6 +30,7 @@ IsReached items all fields = (now : Shapes) × AreLeft items now × (all ≡ are
 -- what is left where the next field was taken
 module _ (wanted : ElementType) (fields : Fields) (old new : Items) (all taken : Bool)
     (take : (shapes : Shapes) → AreLeft old shapes → HasTaken wanted shapes taken new) where
+  -- behind a field that was taken, the fields that follow decide whether all are there
   pub IsReached-one : taken ≡ true → IsReached old all (one wanted fields) → IsReached new all fields
   IsReached-one same (now, left, is) =
       let found : begin_with wanted now ≡ true = sym (take now left).first ∙ same in (
@@ -36,11 +39,13 @@ module _ (wanted : ElementType) (fields : Fields) (old new : Items) (all taken :
         is ∙ (are_of-one wanted fields now ∙ ap (λ z. z && are_of fields (behind_first now)) found),
       )
 
+  -- where the next field has to be there and was not taken, the fields are not all there
   pub one-missing : taken ≡ false → IsReached old all (one wanted fields) → all ≡ false
   one-missing other (now, left, is) =
       let found : begin_with wanted now ≡ false = sym (take now left).first ∙ other in
       is ∙ (are_of-one wanted fields now ∙ ap (λ z. z && are_of fields (behind_first now)) found)
 
+  -- behind an optional field, taken or not, the fields that follow decide whether all are there
   pub IsReached-optional : IsReached old all (optional wanted fields) → IsReached new all fields
   IsReached-optional (now, left, is) = (
     if begin_with wanted now then behind_first now else now,

@@ -4,6 +4,7 @@ use Rattle.asn1_blocks.specs.declared.parsed.PlacedHeader.{PlacedHeader}
 use Rattle.asn1_outline.specs.Shapes.{Shapes, more_shapes, no_shapes}
 use Rattle.der_account.specs.Kinds.{Fields, ElementType, are_of, are_of_some, bit_string, each, is_of, no_more, one, optional, request_info, sequence, signed_kinds, some_sequence, tbs_certificate, tbs_list, time, validity_fields}
 use Rattle.der_account.specs.Places.{begin_with, behind_first, contents, signed_fields}
+use Rattle.std.proofs.Math.Bool.{and-true}
 use Rattle.std.proofs.lemmas.Bool.{and_right}
 
 -- a field takes the first encoding, which has to be of its type, and the fields behind it take the others
@@ -12,6 +13,7 @@ pub are_of-one : (wanted : ElementType) (fields : Fields) (shapes : Shapes) →
 are_of-one wanted fields no_shapes = refl
 are_of-one wanted fields (more_shapes offset header items rest) = refl
 
+-- to ask fields of two lists of encodings and choose an answer is to ask them of the chosen list
 if-fields : (fields : Fields) (yes : Bool) (a b : Shapes) →
     (if yes then are_of fields a else are_of fields b) ≡ are_of fields (if yes then a else b)
 if-fields fields true a b = refl
@@ -24,10 +26,6 @@ pub are_of-optional : (wanted : ElementType) (fields : Fields) (shapes : Shapes)
 are_of-optional wanted fields no_shapes = refl
 are_of-optional wanted fields (more_shapes offset header items rest) =
     if-fields fields (is_of wanted header items) rest (more_shapes offset header items rest)
-
-and-true : (a : Bool) → (a && true) ≡ a
-and-true true = refl
-and-true false = refl
 
 -- the fields of a Validity are two types of time
 pub are_of-validity : (shapes : Shapes) →
@@ -58,18 +56,21 @@ pub are_of_some-later : (fields : Fields) (others : List Fields) (shapes : Shape
 are_of_some-later fields others shapes some other later =
     later ∙ sym (ap (λ z. z || are_of_some others shapes) other)
 
+-- a condition of the first alternative and of all others is a condition of the whole
 and-or : (all a others : Bool) → ((a && all) || (all && others)) ≡ (all && (a || others))
 and-or true true others = refl
 and-or true false others = refl
 and-or false true others = refl
 and-or false false others = refl
 
+-- a condition of the last alternative is a condition of the whole
 and-last : (all a : Bool) → ((a && all) || false) ≡ (all && (a || false))
 and-last true true = refl
 and-last true false = refl
 and-last false true = refl
 and-last false false = refl
 
+-- two conditions of each of three alternatives are conditions of the whole
 one-of-three : (first all a b c : Bool) →
     (((first && a) && all) || (((first && b) && all) || (((first && c) && all) || false)))
     ≡ ((first && all) && (a || (b || (c || false))))

@@ -35,13 +35,13 @@ pub enum Key {
 // What is asked of the next field of a SEQUENCE.
 #[derive(Clone, Copy)]
 pub enum Field {
-    // It has the tag.
+    // An element with the tag.
     One(Tag),
-    // It has the tag, or it is missing.
+    // An element with the tag, or none.
     Optional(Tag),
-    // It is a Validity: a SEQUENCE that begins with two times.
+    // A Validity: a SEQUENCE that begins with two times.
     Validity,
-    // It is missing, and so are all others.
+    // No further element.
     NoMore,
 }
 

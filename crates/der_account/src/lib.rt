@@ -9,7 +9,7 @@
 //!   serial number       0A1B2C
 //!   not before          2026-01-01T00:00:00Z
 //!   not after           2027-01-01T00:00:00Z (35 days left)
-//!   public key          EC, prime256v1
+//!   public key          EC, secp256r1
 //!   alternative names   DNS:example.org, IP Address:192.0.2.1
 //!   signature           ecdsa-with-SHA256
 //!   SHA-256             5A6B..

@@ -181,7 +181,7 @@ pub struct Items<'h, 'd> {
 }
 
 impl<'h, 'd> Items<'h, 'd> {
-    // Those inside an encoding.
+    // The items inside an encoding.
     pub fn of(node: &Node<'h, 'd>) -> Items<'h, 'd>
         ensures { (offset : ℕ) (header : PlacedHeader) (items rest : Shapes)
             → IsAt node.now offset header items rest → AreLeft result items }

@@ -8,6 +8,7 @@ use Rattle.der_account.specs.Places.{IsAt, StandAt, entries_around}
 use Rattle.der_account.specs.declared.node.Node.{Node}
 use Rattle.der_account.proofs.known_account.Goals as goal
 
+-- no encodings stand between an offset and an end only where these are equal
 no_shapes-end : (octets : List ℕ) (offset end : ℕ) → AreShapes octets offset end no_shapes → offset ≡ end
 no_shapes-end octets offset end (no_more same) = same
 
@@ -33,8 +34,7 @@ pub returns-in_default-clause-kind : goal.returns-in_default-clause-kind
 returns-in_default-clause-kind c all shapes =
     sym (ap is_some c.in_default.is)
     ∙ is_known-document c.args.octets.now all c.first-first.result (is_some c.kind_of.result) shapes
-    c.first-first.ensures.index
-    (ap walked_entries c.first-first.ensures.headers ∙ c.in-Ok.ensures.accepts all shapes)
+    c.first-first.ensures.index (ap walked_entries c.first-first.ensures.headers ∙ c.in-Ok.ensures.accepts all shapes)
     c.kind_of.ensures
 
 pub returns-clause-unreadable : goal.returns-clause-unreadable
@@ -44,6 +44,5 @@ pub returns-clause-kind : goal.returns-clause-kind
 returns-clause-kind c all shapes =
     sym (ap is_some c.in-Some.is)
     ∙ is_known-document c.args.octets.now all c.first-first.result (is_some c.kind_of.result) shapes
-    c.first-first.ensures.index
-    (ap walked_entries c.first-first.ensures.headers ∙ c.in-Ok.ensures.accepts all shapes)
+    c.first-first.ensures.index (ap walked_entries c.first-first.ensures.headers ∙ c.in-Ok.ensures.accepts all shapes)
     c.kind_of.ensures

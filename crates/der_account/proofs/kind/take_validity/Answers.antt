@@ -14,8 +14,7 @@ returns-then-not-has_times c (more_shapes offset header items rest) left =
     let first = c.first-first.ensures.first offset header items rest left in
     HasTaken-none (sequence validity_fields) (more_shapes offset header items rest) c.args.items.now
     (is_of-no_sequence validity_fields header items
-    (sym (c.has_times.ensures offset header items rest first) ∙ c.if-not-has_times.true))
-    left
+    (sym (c.has_times.ensures offset header items rest first) ∙ c.if-not-has_times.true)) left
 
 pub returns : goal.returns
 returns c no_shapes left =

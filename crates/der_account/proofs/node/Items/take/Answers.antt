@@ -14,8 +14,7 @@ returns-then-self-eq0 c (more_shapes offset header items rest) left =
       | then-self-eq0-via-else-self-eq0+then-not-is w ↦
           HasTaken-none (element_type c.args.tag) (more_shapes offset header items rest) c.args.self.now
           (sym (w.is.ensures offset header items rest (c.first-first.ensures.first offset header items rest left))
-          ∙ w.if-not-is.true)
-          left
+          ∙ w.if-not-is.true) left
     ]
 
 pub returns : goal.returns
@@ -23,5 +22,4 @@ returns c no_shapes left = absurd (omega (arith, left.count, c.if-self-eq0.false
 returns c (more_shapes offset header items rest) left =
     HasTaken-first (element_type c.args.tag) (more_shapes offset header items rest) c.skip.new.self
     (sym (c.is.ensures offset header items rest (c.first-first.ensures.first offset header items rest left))
-    ∙ c.if-not-is.false)
-    (c.skip.ensures offset header items rest left)
+    ∙ c.if-not-is.false) (c.skip.ensures offset header items rest left)
