@@ -6,6 +6,7 @@ use Rattle.der_color.specs.Paints.{Paints, Piece, paint, part, sequence, text_in
 use Rattle.der_color.specs.declared.paint.Paint.{Paint}
 use Rattle.der_color.specs.declared.paint.Paint.TheVariants.{Plain}
 
+-- the text in joined pieces is that in the first of them and then that in the others
 text_in-append : (ps qs : List Piece) → text_in (ps ++ qs) ≡ text_in ps ++ text_in qs
 text_in-append [] qs = refl
 text_in-append (paint p ∷ ps) qs = text_in-append ps qs
@@ -38,6 +39,7 @@ Paints-sequence p a b e = record {
   after_is = e ∙ ap (λ z. a ++ z) (sym (append-nil (sequence p)));
 }
 
+-- pieces that are exactly a text are exactly each text equal to it
 pub Paints-equal_text : (s t a b : List ℕ) → s ≡ t → Paints s a b → Paints t a b
 Paints-equal_text s t a b e h = record { pieces = h.pieces; text_is = h.text_is ∙ e; after_is = h.after_is }
 

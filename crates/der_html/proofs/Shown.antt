@@ -4,9 +4,9 @@ use Rattle.std.specs.List.{flat_map}
 use Rattle.std.proofs.lemmas.Grind.{flat_map-append}
 use Rattle.std.proofs.lemmas.List.Folds.{flat_map-map}
 use Rattle.der_html.specs.declared.markup.Markup.{Markup}
-use Rattle.der_html.specs.Page.{Piece, Shows, element_faults, faults_in, hex_octet, line_end, markup, number}
-use Rattle.der_html.specs.Page.{octet, octets_in, text, text_in, written}
+use Rattle.der_html.specs.Page.{Piece, Shows, element_faults, faults_in, hex_octet, line_end, markup, number, octet, octets_in, text, text_in, written}
 
+-- the elements that joined pieces begin are those of the first pieces and then those of the others
 faults_in-append : (ps qs : List Piece) → faults_in (ps ++ qs) ≡ faults_in ps ++ faults_in qs
 faults_in-append [] qs = refl
 faults_in-append (markup m ∷ ps) qs =
@@ -16,6 +16,7 @@ faults_in-append (number n ∷ ps) qs = faults_in-append ps qs
 faults_in-append (text shown ∷ ps) qs = faults_in-append ps qs
 faults_in-append (octet b ∷ ps) qs = faults_in-append ps qs
 
+-- the text of rows in joined pieces is that in the first pieces and then that in the others
 text_in-append : (ps qs : List Piece) → text_in (ps ++ qs) ≡ text_in ps ++ text_in qs
 text_in-append [] qs = refl
 text_in-append (markup m ∷ ps) qs =
@@ -25,6 +26,7 @@ text_in-append (text shown ∷ ps) qs =
     ap (λ z. shown ++ z) (text_in-append ps qs) ∙ sym (append_assoc shown (text_in ps) (text_in qs))
 text_in-append (octet b ∷ ps) qs = text_in-append ps qs
 
+-- the octets in joined pieces are those in the first pieces and then those in the others
 octets_in-append : (ps qs : List Piece) → octets_in (ps ++ qs) ≡ octets_in ps ++ octets_in qs
 octets_in-append [] qs = refl
 octets_in-append (markup m ∷ ps) qs = octets_in-append ps qs
@@ -32,6 +34,7 @@ octets_in-append (number n ∷ ps) qs = octets_in-append ps qs
 octets_in-append (text shown ∷ ps) qs = octets_in-append ps qs
 octets_in-append (octet b ∷ ps) qs = ap (λ z. b ∷ z) (octets_in-append ps qs)
 
+-- lists joined are equal where both parts are
 append-equal : {A : Type 0} (a b c d : List A) → a ≡ c → b ≡ d → a ++ b ≡ c ++ d
 append-equal a b c d e f = ap (λ z. z ++ b) e ∙ ap (λ z. c ++ z) f
 
@@ -68,6 +71,7 @@ pub Shows-nil_append :
     (gs : List Bool) (ys vs a b c : List ℕ) → Shows [] [] [] a b → Shows gs ys vs b c → Shows gs ys vs a c
 Shows-nil_append gs ys vs a b c s t = Shows-append [] gs [] ys [] vs a b c s t
 
+-- pieces that show elements, text and octets show all that are equal to these
 pub Shows-equal :
     (fs gs : List Bool) (xs ys us vs a b : List ℕ) → fs ≡ gs → xs ≡ ys → us ≡ vs → Shows fs xs us a b →
     Shows gs ys vs a b
@@ -87,14 +91,17 @@ Shows-append_nil fs xs us a b c s t =
     Shows-equal (fs ++ []) fs (xs ++ []) xs (us ++ []) us a c (append-nil fs) (append-nil xs) (append-nil us)
     (Shows-append fs [] xs [] us [] a b c s t)
 
+-- pieces for octets begin no elements
 faults_in-map-octet : (os : List ℕ) → faults_in (map octet os) ≡ []
 faults_in-map-octet [] = refl
 faults_in-map-octet (o ∷ os) = faults_in-map-octet os
 
+-- pieces for octets show no text of rows
 text_in-map-octet : (os : List ℕ) → text_in (map octet os) ≡ []
 text_in-map-octet [] = refl
 text_in-map-octet (o ∷ os) = text_in-map-octet os
 
+-- pieces for octets show exactly these octets
 octets_in-map-octet : (os : List ℕ) → octets_in (map octet os) ≡ os
 octets_in-map-octet [] = refl
 octets_in-map-octet (o ∷ os) = ap (λ z. o ∷ z) (octets_in-map-octet os)
@@ -111,6 +118,7 @@ Shows-markup m a b e =
       after_is = e ∙ ap (λ z. a ++ z) (sym (append-nil (written (markup m))));
     }
 
+-- a number that is pushed begins no element, and shows no text of rows and no octets
 pub Shows-number : (n : ℕ) (a b : List ℕ) → b ≡ a ++ written (number n) → Shows [] [] [] a b
 Shows-number n a b e =
     record {
@@ -121,6 +129,7 @@ Shows-number n a b e =
       after_is = e ∙ ap (λ z. a ++ z) (sym (append-nil (written (number n))));
     }
 
+-- text of a row that is pushed is shown exactly, and nothing else with it
 pub Shows-text : (shown a b : List ℕ) → b ≡ a ++ written (text shown) → Shows [] shown [] a b
 Shows-text shown a b e =
     record {
@@ -131,6 +140,7 @@ Shows-text shown a b e =
       after_is = e ∙ ap (λ z. a ++ z) (sym (append-nil (written (text shown))));
     }
 
+-- octets that are pushed in hex digits are shown exactly, and nothing else with them
 pub Shows-octets : (os a b : List ℕ) → b ≡ a ++ flat_map hex_octet os → Shows [] [] os a b
 Shows-octets os a b e =
     record {

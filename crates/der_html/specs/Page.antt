@@ -91,8 +91,8 @@ octets_in (number n ∷ pieces) = octets_in pieces
 octets_in (text shown ∷ pieces) = octets_in pieces
 octets_in (octet b ∷ pieces) = b ∷ octets_in pieces
 
--- pieces were pushed that show exactly this text of rows, in elements of which these are of the class of what is wrong,
--- and exactly these octets
+-- pieces were pushed that show exactly this text of rows and exactly these octets, in elements of which the list says
+-- whether each is of the class of what is wrong
 pub record Shows (faults : List Bool) (shown octets before after : List ℕ) : Type 0 where
   pub pieces : List Piece
   pub faults_are : faults_in pieces ≡ faults

@@ -99,6 +99,7 @@ module _ {W : Type 0} (contents : W → Option (List ℕ)) where
     ),
   )
 
+  -- a printer that is as it was has printed no octets
   pub PrintsOctets-nil : (a : Printer W) → PrintsOctets contents [] a a
   PrintsOctets-nil a = (refl, ([], Shows-nil [], Appends-nil (contents a.out)))
 
@@ -127,21 +128,21 @@ module _ {W : Type 0} (contents : W → Option (List ℕ)) where
       (contents a.out) (contents d.out)
   IsWritten-section Is octets a b c d page (begun, (first, one, put))
       (faults, (lines, (later, (own, made, written)), is))
-      (last, (beside, shown, ended)) =
+      (last, (dump, shown, ended)) =
       let rows : Shows faults lines [] [] own = subst (λ z. Pushes z faults lines [] own) (begun ∙ page) made in
-      let more = Shows-append faults [] lines [] [] octets [] own (own ++ beside) rows
-      (Shows-behind [] [] octets own beside shown) in
-      let body : Shows faults lines octets [] (own ++ beside) =
-      Shows-equal (faults ++ []) faults (lines ++ []) lines octets octets [] (own ++ beside) (append-nil faults)
+      let more = Shows-append faults [] lines [] [] octets [] own (own ++ dump) rows
+      (Shows-behind [] [] octets own dump shown) in
+      let body : Shows faults lines octets [] (own ++ dump) =
+      Shows-equal (faults ++ []) faults (lines ++ []) lines octets octets [] (own ++ dump) (append-nil faults)
       (append-nil lines) refl more in (
-        first ++ (own ++ beside),
-        Appends-trans (contents a.out) (contents b.out) (contents d.out) first (own ++ beside) put
-            (Appends-trans (contents b.out) (contents c.out) (contents d.out) own beside written ended),
+        first ++ (own ++ dump),
+        Appends-trans (contents a.out) (contents b.out) (contents d.out) first (own ++ dump) put
+            (Appends-trans (contents b.out) (contents c.out) (contents d.out) own dump written ended),
         (
           lines,
           faults,
           is,
-          Shows-nil_append faults lines octets [] first (first ++ (own ++ beside)) one
-              (Shows-behind faults lines octets first (own ++ beside) body),
+          Shows-nil_append faults lines octets [] first (first ++ (own ++ dump)) one
+              (Shows-behind faults lines octets first (own ++ dump) body),
         ),
       )

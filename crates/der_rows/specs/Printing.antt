@@ -8,7 +8,7 @@ use Rattle.der_rows.specs.declared.printer.Look.TheVariants.{Colored, Page, Plai
 use Rattle.der_rows.specs.declared.printer.Printer.{Printer}
 
 -- the text was pushed in a look: as it is, with escape sequences between its characters, or in elements of a page, of
--- which these are of the class of what is wrong
+-- each of which the list says whether it is of the class of what is wrong
 abbrev pub Pushes : Look → List Bool → List ℕ → List ℕ → List ℕ → Type 0
 Pushes Plain faults text before after = after ≡ before ++ text
 Pushes Colored faults text before after = Paints text before after

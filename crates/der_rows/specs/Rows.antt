@@ -1,6 +1,5 @@
 -- The lines of rows.
-use Rattle.std.specs.Prelude.{◌≡◌, ◌&&◌, ◌==◌, ℕ, ◌-◌, ◌*◌, Bool, true, false, List, [], ◌∷◌, ◌++◌, codes, decimal, nat_le, not}
-use Rattle.std.specs.Prelude.{if◌then◌else◌, length, map, min, replicate, unwrap_or}
+use Rattle.std.specs.Prelude.{◌≡◌, ◌&&◌, ◌==◌, ℕ, ◌-◌, ◌*◌, Bool, true, false, List, [], ◌∷◌, ◌++◌, codes, decimal, nat_le, not, if◌then◌else◌, length, map, min, replicate, unwrap_or}
 use Rattle.std.specs.List.{list_all}
 use Rattle.std.specs.Option.{option_map}
 use Rattle.der_io.specs.Characters.{colon, equals_sign, exclamation_mark, greater_than_sign, space}

@@ -1,8 +1,7 @@
 // The columns of a row, and text on one line.
 ghost use Rattle.std.specs.Prelude.{◌≡◌, ◌++◌, OnOk, if◌then◌else◌, replicate};
 ghost use Rattle.std.specs.List.{list_all};
-ghost use Rattle.der_rows.specs.Rows.{columns_text, contents_column, is_shown as is_shown_is, offset_column, on_one_line};
-ghost use Rattle.der_rows.specs.Rows.{right_of};
+ghost use Rattle.der_rows.specs.Rows.{columns_text, contents_column, is_shown as is_shown_is, offset_column, on_one_line, right_of};
 
 use crate::row::Row;
 use itoa::Buffer;

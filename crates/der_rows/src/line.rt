@@ -1,8 +1,7 @@
 // Lines of rows and of notes, in a look.
 ghost use Rattle.std.specs.Prelude.{◌≡◌, ◌∷◌, ◌++◌, [], OnOk};
 ghost use Rattle.der_rows.specs.Printing.{Pushes};
-ghost use Rattle.der_rows.specs.Rows.{columns_text, fault_line, fault_message, is_error as is_error_is, note_line, note_mark};
-ghost use Rattle.der_rows.specs.Rows.{on_one_line, row_line};
+ghost use Rattle.der_rows.specs.Rows.{columns_text, fault_line, fault_message, is_error as is_error_is, note_line, note_mark, on_one_line, row_line};
 
 use crate::columns::{is_one_line, push_columns, push_on_one_line};
 use crate::printer::Look;

@@ -10,8 +10,7 @@ pub returns : goal.returns
 returns g c =
     let begun = c.in_ok-begin.ensures in
     let made = Pushes-line c.args.self.now.look c.begin.new.self.look (is_some c.args.row.now.fault ∷ []) _
-    (row_line c.args.row.now) []
-    _ _ _ begun.look
+    (row_line c.args.row.now) [] _ _ _ begun.look
     (ap (λ z. z ∷ []) c.element_of.ensures) begun.line c.in_ok-push_row_line.ensures c.in_ok-push_end.ensures in (
       c.in_ok-write_made.ensures.look ∙ begun.look,
       (
