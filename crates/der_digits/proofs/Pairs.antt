@@ -21,6 +21,7 @@ decode_pair-ok a b i (Some h) (Some l) (Err e) = refl
 decode_pair-ok a b i (Some h) None r = refl
 decode_pair-ok a b i None low r = refl
 
+-- digits that are decoded in pairs, counted from any place on, give the octets that they spell, if they do
 decode_pairs-spelled : (i : ℕ) (digits : List ℕ) → result_ok (decode_pairs i digits) ≡ octets_of_pairs digits
 unfolding decode_pairs
 decode_pairs-spelled i [] = refl
@@ -30,12 +31,14 @@ decode_pairs-spelled i (a ∷ b ∷ digits) =
     ∙ ap (λ z. option_and_then (λ octet. option_map (λ octets. octet ∷ octets) z) (octet_of a b))
     (decode_pairs-spelled (i + 2) digits)
 
+-- where the digits behind a pair spell no octets, there are no octets of the whole
 none-behind :
     (o : Option ℕ) (more : Option (List ℕ)) → more ≡ None →
     option_and_then (λ octet. option_map (λ octets. octet ∷ octets) more) o ≡ None
 none-behind (Some x) more e = rw e refl
 none-behind None more e = refl
 
+-- an odd number of digits spells no octets in pairs
 octets_of_pairs-odd : (digits : List ℕ) → length digits % 2 ≡ 1 → octets_of_pairs digits ≡ None
 octets_of_pairs-odd [] odd = absurd (omega (arith, odd))
 octets_of_pairs-odd (a ∷ []) odd = refl
@@ -50,6 +53,7 @@ decode_of-spelled digits =
       | inr even ↦ ap (λ r. result_ok r) (decode_of-even digits (omega (arith, even))) ∙ decode_pairs-spelled 0 digits
     ]
 
+-- a result whose value is these octets is `Ok` of them
 ok-from_some :
     {E : Type 0} (r : Result (List ℕ) E) (octets : List ℕ) → result_ok r ≡ Some octets → r ≡ Ok octets
 ok-from_some (Ok x) octets e = ap (λ o. Ok (unwrap_or o [])) e
@@ -74,6 +78,7 @@ append-octet (Some x) (Some own) (Some more) all octets e h =
     rw (h own refl, ← is) refl
 append-octet (Some x) (Some own) None all octets e h = rw (h own refl) refl
 
+-- no octets before others, if there are others, change nothing
 option_map-nil : (o : Option (List ℕ)) → o ≡ option_map (λ others. [] ++ others) o
 option_map-nil (Some x) = refl
 option_map-nil None = refl
@@ -88,5 +93,4 @@ octets_of_pairs-append [] more octets e =
 octets_of_pairs-append (a ∷ []) more octets e = cc e
 octets_of_pairs-append (a ∷ b ∷ digits) more octets e =
     append-octet (octet_of a b) (octets_of_pairs digits) (octets_of_pairs more)
-    (octets_of_pairs (digits ++ more)) octets
-    e (octets_of_pairs-append digits more)
+    (octets_of_pairs (digits ++ more)) octets e (octets_of_pairs-append digits more)

@@ -6,6 +6,7 @@ use Rattle.std.proofs.lemmas.List.{take_all, length-drop}
 use Rattle.der_digits.specs.Search.{begins, up_to}
 use Rattle.der_digits.specs.Sources.{behind_equals}
 
+-- with an octet more at the front of a text, what stands before a part stays no longer than the text
 length-up_to_cons : (part : List ℕ) (b : ℕ) (text : List ℕ) (q : Bool) → begins part (b ∷ text) ≡ q
     → length (up_to part text) ≤ length text → length (up_to part (b ∷ text)) ≤ suc (length text)
 length-up_to_cons part b text true e h =

@@ -13,23 +13,27 @@ use Rattle.der_digits.specs.Spelled.{decoded}
 use Rattle.der_digits.specs.declared.hex_decoder.HexDecoder.{HexDecoder}
 use Rattle.der_digits.specs.declared.left_out.Rows.{Rows}
 
+-- where neither of two lists of symbols spells anything, the one that a condition chooses spells nothing
 decoded-if :
     (q : Bool) (x y : Option (List ℕ)) → decoded x ≡ None → decoded y ≡ None → decoded (if q then x else y) ≡ None
 decoded-if true x y h k = h
 decoded-if false x y h k = k
 
+-- symbols made of digits that may be missing spell nothing, if those made of the digits that are there spell nothing
 decoded-and_then :
     (o : Option (List ℕ)) (f : List ℕ → Option (List ℕ)) →
     ((digits : List ℕ) → o ≡ Some digits → decoded (f digits) ≡ None) → decoded (option_and_then f o) ≡ None
 decoded-and_then None f h = refl
 decoded-and_then (Some digits) f h = h digits refl
 
+-- symbols of which one is no hex digit keep it where they are given under a condition
 list_all-if :
     (q : Bool) (all digits : List ℕ) → list_all is_ascii_hexdigit all ≡ false →
     (if q then Some all else None) ≡ Some digits → list_all is_ascii_hexdigit digits ≡ false
 list_all-if true all digits h e = subst (λ z. list_all is_ascii_hexdigit z ≡ false) (ap (λ o. unwrap_or o []) e) h
 list_all-if false all digits h e = cc e
 
+-- symbols of which one is no hex digit keep it where they are given under two conditions
 list_all-else :
     (q r : Bool) (all digits : List ℕ) → list_all is_ascii_hexdigit all ≡ false →
     (if q then None else if r then Some all else None) ≡ Some digits → list_all is_ascii_hexdigit digits ≡ false
@@ -81,6 +85,8 @@ decoded-not_reached decoder is_octal is_left_out before last line lines some wri
     (λ digits e. decoded-behind is_octal (digits ++ column) column false lines
     (list_all-front digits column (subst (λ o. IsReadIf false decoder o) e wrong))))
 
+-- behind symbols that were read and a column, reading goes on in the lines left, or, where the column is not read,
+-- all spells nothing
 GoesOn-at :
     (are_read : Bool) (rows : Rows) (reached : HexDecoder) (is_octal : Bool) (column : List ℕ) (lines : List (List ℕ))
     (o : Option (List ℕ)) → IsReadIf true reached o →

@@ -7,6 +7,7 @@ use Rattle.der_digits.specs.Sources.{due_behind, if_digit, pairs_after}
 use Rattle.der_digits.specs.declared.hex_decoder.HexDecoder.{HexDecoder}
 use Rattle.der_digits.specs.declared.source_text.Due.{Due}
 
+-- where the first octet of what is left is due, all digits are those read with it and those of the rest
 pub pairs_after-first :
     (decoder : HexDecoder) (read : List ℕ) (due next : Due) (rest : List ℕ) → 0 < length rest →
     due_behind due rest ≡ Some next →

@@ -16,9 +16,11 @@ use Rattle.der_digits.specs.Decoded.{ArePairs, octets_of_pairs}
 use Rattle.der_digits.specs.Spelled.{decoded}
 use Rattle.der_digits.specs.Search.{all_of_some}
 
+-- a character that is a hex digit to the decoder is a hex digit of ASCII
 is_ascii_hexdigit-hex : (c : ℕ) → is_hex_digit c ≡ true → is_ascii_hexdigit c ≡ true
 is_ascii_hexdigit-hex c h = grind (arith, nat_tests)
 
+-- where each character is a hex digit to the decoder, all are hex digits of ASCII
 list_all-hex : (digits : List ℕ) → AllPass is_hex_digit digits → list_all is_ascii_hexdigit digits ≡ true
 list_all-hex [] h = refl
 list_all-hex (c ∷ digits) h =
@@ -26,6 +28,7 @@ list_all-hex (c ∷ digits) h =
     let rest = list_all-hex digits (All-tail (λ d. is_hex_digit d ≡ true) c digits h) in
     rw (first, rest) refl
 
+-- symbols that spell octets in pairs are all hex digits
 list_all-pairs :
     (digits octets : List ℕ) → octets_of_pairs digits ≡ Some octets → list_all is_ascii_hexdigit digits ≡ true
 list_all-pairs digits octets e =
@@ -57,6 +60,7 @@ ArePairs-second octets digits high symbol value (pairs, digit, e, first, read) s
     ∙ octets_of_pairs-append pairs (digit ∷ symbol ∷ []) octets read
     ∙ ap (λ z. option_map (λ others. octets ++ others) z) pair)
 
+-- hex digits that are not none pass the test of one digit at least, and of digits alone
 all_of_some-hex :
     (digits : List ℕ) → list_all is_ascii_hexdigit digits ≡ true → (length digits ≡ 0 → ⊥) →
     all_of_some is_ascii_hexdigit digits ≡ true
@@ -101,6 +105,7 @@ pub decoded-not_hex :
 decoded-not_hex [] h = refl
 decoded-not_hex (c ∷ symbols) h = rw h refl
 
+-- symbols whose front is not all hex digits are not all hex digits
 pub list_all-front :
     (front back : List ℕ) → list_all is_ascii_hexdigit front ≡ false →
     list_all is_ascii_hexdigit (front ++ back) ≡ false

@@ -2,6 +2,7 @@
 use Rattle.std.proofs.Common.{◌≡◌, ◌∙◌, ◌++◌, ◌-◌, ◌<◌, ◌≤◌, ℕ, zero, suc, List, ap, append_assoc, append-nil, arith, sym}
 use Rattle.der_digits.specs.Columns.{times}
 
+-- digits repeated at least once are the digits, and then one repetition fewer
 times-positive : (n : ℕ) (digits : List ℕ) → 0 < n → times n digits ≡ digits ++ times (n - 1) digits
 times-positive zero digits h = absurd (omega (arith, h))
 times-positive (suc n) digits h =

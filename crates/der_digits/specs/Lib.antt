@@ -1,7 +1,7 @@
+pub mod Search
+pub mod Digits
 pub mod Columns
 pub mod Decoded
-pub mod Digits
+pub mod Spelled
 pub mod RowsRead
 pub mod Sources
-pub mod Search
-pub mod Spelled

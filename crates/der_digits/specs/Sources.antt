@@ -1,6 +1,5 @@
 -- Octets as sources of programs spell them: an array of numbers in hex digits, or a string with `\x` before each.
-use Rattle.std.specs.Prelude.{ℕ, Bool, ◌==◌, ◌||◌, List, [], ◌∷◌, ◌++◌, drop, length, codes}
-use Rattle.std.specs.Prelude.{Option, Some, None, if◌then◌else◌, suc}
+use Rattle.std.specs.Prelude.{ℕ, Bool, ◌==◌, ◌||◌, List, [], ◌∷◌, ◌++◌, drop, length, codes, Option, Some, None, if◌then◌else◌, suc}
 use Rattle.std.specs.Char.{is_ascii_hexdigit, is_ascii_whitespace}
 use Rattle.std.specs.Option.{option_and_then}
 use Rattle.der_digits.specs.Digits.{begins_prefix}

@@ -2,8 +2,7 @@
 ghost use Rattle.std.specs.Prelude.{◌≡◌, ◌^◌, ◌++◌, ◌∷◌, ◌<◌, ℕ, List, IfOk, IfSome};
 ghost use Rattle.std.specs.Char.{is_ascii_whitespace};
 ghost use Rattle.std.specs.List.{list_all};
-ghost use Rattle.der_digits.specs.Columns.{digits_after, digits_before, digits_in_column, filled};
-ghost use Rattle.der_digits.specs.Columns.{leaves_out, number_after, placed_digits, scaled, some_left_out, times, worth};
+ghost use Rattle.der_digits.specs.Columns.{digits_after, digits_before, digits_in_column, filled, leaves_out, number_after, placed_digits, scaled, some_left_out, times, worth};
 ghost use Rattle.der_digits.specs.Decoded.{HasRead, IsRead, IsReadIf};
 ghost use Rattle.der_digits.specs.RowsRead.{GoesOn};
 ghost use Rattle.der_digits.specs.Spelled.{IsSpelling};

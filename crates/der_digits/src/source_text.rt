@@ -1,8 +1,7 @@
 // Octets as a source of a program spells them.
 ghost use Rattle.std.specs.Prelude.{◌≡◌, ◌++◌, ◌∷◌, ◌<◌, ℕ, List, [], length, IfOk, IfSome};
 ghost use Rattle.der_digits.specs.Decoded.{HasRead};
-ghost use Rattle.der_digits.specs.Sources.{behind_equals as behind_equals_is, due_behind, has_value};
-ghost use Rattle.der_digits.specs.Sources.{if_digit, is_between, pairs_after, source_digits};
+ghost use Rattle.der_digits.specs.Sources.{behind_equals as behind_equals_is, due_behind, has_value, if_digit, is_between, pairs_after, source_digits};
 ghost use Rattle.der_digits.specs.Spelled.{IsSpelling};
 ghost use Rattle.der_digits.specs.Search.{begins_by};
 ghost use Rattle.der_digits.specs.declared.source_text.Due.TheVariants.{Prefix as due_prefix};

@@ -8,11 +8,13 @@ use Rattle.base64.specs.declared.decode.DecodeError.{DecodeError}
 use Rattle.std.specs.Char.{is_ascii_whitespace}
 use Rattle.der_forms.specs.Forms.{without_spaces}
 
+-- octets appended to octets are octets
 IsBytes-append : (a b : List ℕ) → IsBytes a → IsBytes b → IsBytes (a ++ b)
 IsBytes-append [] b h k i = k i
 IsBytes-append (x ∷ a) b h k zero = h 0
 IsBytes-append (x ∷ a) b h k (suc i) = IsBytes-append a b (λ j. h (suc j)) k i
 
+-- the symbols of no octets add nothing to other symbols
 pub encode_of-none : (octets symbols : List ℕ) → octets ≡ [] → encode_of standard octets ++ symbols ≡ symbols
 encode_of-none octets symbols e = rw (e, encode_of-nil standard) refl
 
@@ -38,12 +40,14 @@ pub decode_of-all :
     decode_of standard (encode_of standard octets ++ symbols) ≡ Err e
 decode_of-all octets symbols e none h = rw (encode_of-none octets symbols none) h
 
+-- an octet left out or kept at the front of the first of two parts is left out or kept in the whole
 without_spaces-if :
     (q : Bool) (b : ℕ) (front back all : List ℕ) → front ++ back ≡ all →
     (if q then front else b ∷ front) ++ back ≡ (if q then all else b ∷ all)
 without_spaces-if true b front back all e = e
 without_spaces-if false b front back all e = ap (λ z. b ∷ z) e
 
+-- a text without its white space is its two parts without theirs, wherever it is split
 without_spaces-split :
     (n : ℕ) (text : List ℕ) → without_spaces (take n text) ++ without_spaces (drop n text) ≡ without_spaces text
 without_spaces-split zero [] = refl

@@ -16,23 +16,28 @@ abbrev drop_in_first : ℕ → List (List ℕ) → List (List ℕ)
 drop_in_first n [] = []
 drop_in_first n (line ∷ lines) = drop n line ∷ lines
 
+-- where the first line loses no octets, the lines are as they were
 drop_in_first-zero : (lines : List (List ℕ)) → drop_in_first zero lines ≡ lines
 drop_in_first-zero [] = refl
 drop_in_first-zero (line ∷ lines) = refl
 
+-- a place in the line of one octet is below 1
 lt-one_octet : (n b : ℕ) → suc n < length (first_line (onto_first_line b [])) → suc n < 1
 lt-one_octet n b h = h
 
+-- an octet put onto the first line is lost where one octet more is dropped, if the line is longer than that
 drop_in_first-onto : (n b : ℕ) (lines : List (List ℕ)) → suc n < length (first_line (onto_first_line b lines))
     → drop_in_first (suc n) (onto_first_line b lines) ≡ drop_in_first n lines
 drop_in_first-onto n b [] h = absurd (omega (arith, lt-one_octet n b h))
 drop_in_first-onto n b (line ∷ lines) h = refl
 
+-- a place in the first line with an octet put onto it is, one before, a place in the line without it
 first_line-onto : (n b : ℕ) (lines : List (List ℕ)) → suc n < length (first_line (onto_first_line b lines))
     → n < length (first_line lines)
 first_line-onto n b [] h = absurd (omega (arith, lt-one_octet n b h))
 first_line-onto n b (line ∷ lines) h = omega (arith, h)
 
+-- if a text loses octets in its first line alone, it loses them and an octet more at its front in that line alone
 lines_of-drop_cons : (n b : ℕ) (text : List ℕ) (q : Bool) → (b == line_feed) ≡ q
     → suc n < length (first_line (lines_of (b ∷ text)))
     → (n < length (first_line (lines_of text)) → lines_of (drop n text) ≡ drop_in_first n (lines_of text))
@@ -48,6 +53,7 @@ lines_of-drop_cons n b text false e h rest =
     ∙ sym (drop_in_first-onto n b (lines_of text) longer)
     ∙ ap (drop_in_first (suc n)) (sym same)
 
+-- a text that loses fewer octets than its first line has loses them in that line alone
 lines_of-drop : (n : ℕ) (text : List ℕ) → n < length (first_line (lines_of text))
     → lines_of (drop n text) ≡ drop_in_first n (lines_of text)
 lines_of-drop n [] h = absurd (omega (arith, h))
@@ -72,11 +78,13 @@ objects_in-ended text line later e ended none =
     let whole : objects_in true (line ∷ later) ≡ objects_in false later = rw ended (rw unbegun refl) in
     sym whole ∙ ap (objects_in true) (sym e)
 
+-- the first line is one octet longer with an octet put onto it
 length-onto : (b : ℕ) (lines : List (List ℕ))
     → length (first_line (onto_first_line b lines)) ≡ suc (length (first_line lines))
 length-onto b [] = refl
 length-onto b (line ∷ lines) = refl
 
+-- with an octet more at the front of a text, its first line stays no longer than the text
 length-first_line_cons : (b : ℕ) (text : List ℕ) (q : Bool) → (b == line_feed) ≡ q
     → length (first_line (lines_of text)) ≤ length text → length (first_line (lines_of (b ∷ text))) ≤ suc (length text)
 length-first_line_cons b text true e h =
@@ -87,6 +95,7 @@ length-first_line_cons b text false e h =
     rw e (length-onto b (lines_of text)) in
     omega (arith, same, h)
 
+-- the first line is no longer than the text
 length-first_line-le : (text : List ℕ) → length (first_line (lines_of text)) ≤ length text
 length-first_line-le [] = omega arith
 length-first_line-le (b ∷ text) = length-first_line_cons b text (b == line_feed) refl (length-first_line-le text)

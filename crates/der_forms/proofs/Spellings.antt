@@ -9,12 +9,14 @@ use Rattle.der_digits.specs.Search.{all_of_some}
 use Rattle.der_forms.specs.Forms.{InputKind}
 use Rattle.der_forms.specs.Known.{if_digits, of_hex_digits}
 
+-- where what symbols spell is there under a condition, the form under this condition is that of hex digits
 if-some :
     (q : Bool) (r s : Result (List ℕ) FromHexError) (form : InputKind) → (if q then Some s else None) ≡ Some r →
     (if q then of_hex_digits s else form) ≡ of_hex_digits r
 if-some true r s form e = ap (λ o. of_hex_digits (unwrap_or o s)) e
 if-some false r s form e = cc e
 
+-- where what symbols spell is missing under a condition, the form under this condition is the other one
 if-none :
     (q : Bool) (s : Result (List ℕ) FromHexError) (form : InputKind) → (if q then Some s else None) ≡ None →
     (if q then of_hex_digits s else form) ≡ form

@@ -14,7 +14,7 @@ pub data InputKind : Type 0 where
   -- hex digits, of which one is left over
   odd_digits : InputKind
   -- any other text
-  other_text : InputKind
+  unknown_text : InputKind
   -- the octets of a document, as they are
   plain_octets : InputKind
 

@@ -1,6 +1,5 @@
 -- The form of an input, by its text.
-use Rattle.std.specs.Prelude.{ℕ, Bool, false, not, ◌==◌, ◌||◌, ◌&&◌, ◌+◌, ◌*◌, nat_le, nat_lt, List, [], ◌∷◌}
-use Rattle.std.specs.Prelude.{Option, Some, None, Result, Ok, Err, drop, if◌then◌else◌, length}
+use Rattle.std.specs.Prelude.{ℕ, Bool, false, not, ◌==◌, ◌||◌, ◌&&◌, ◌+◌, ◌*◌, nat_le, nat_lt, List, [], ◌∷◌, Option, Some, None, Result, Ok, Err, drop, if◌then◌else◌, length}
 use Rattle.std.specs.Char.{is_ascii_hexdigit}
 use Rattle.std.specs.Result.{result_ok}
 use Rattle.std.specs.Str.{is_utf8}
@@ -11,11 +10,9 @@ use Rattle.hex.specs.Hex.{decode_of as decode_hex}
 use Rattle.hex.specs.declared.error.FromHexError.{FromHexError}
 use Rattle.der_io.specs.Lines.{lines_of}
 use Rattle.der_digits.specs.Columns.{placed_digits, some_left_out}
-use Rattle.der_forms.specs.Forms.{InputKind, objects, odd_digits, other_text, plain_octets, spelled}
+use Rattle.der_forms.specs.Forms.{InputKind, objects, odd_digits, unknown_text, plain_octets, spelled, has_object, without_mark, without_spaces, is_printed}
 use Rattle.der_digits.specs.Search.{all_of_some, begins}
 use Rattle.der_digits.specs.Digits.{digits_of, has_columns, has_other_columns}
-use Rattle.der_forms.specs.Forms.{has_object, without_mark, without_spaces}
-use Rattle.der_forms.specs.Forms.{is_printed}
 use Rattle.der_digits.specs.Sources.{source_digits}
 
 abbrev pub of_hex_digits : Result (List ℕ) FromHexError → InputKind
@@ -61,11 +58,11 @@ if_sequence (Some octets) form = if is_sequence octets then spelled octets else 
 abbrev pub of_loose_base64 : List ℕ → InputKind
 of_loose_base64 symbols =
     if_sequence (result_ok (decode_base64 standard_pad_indifferent symbols))
-    (if_sequence (result_ok (decode_base64 url_safe_pad_indifferent symbols)) other_text)
+    (if_sequence (result_ok (decode_base64 url_safe_pad_indifferent symbols)) unknown_text)
 
 -- base 64 with its padding is told from words by its first octet, that of a SEQUENCE
 abbrev pub of_base64 : Result (List ℕ) DecodeError → List ℕ → InputKind
-of_base64 (Ok octets) symbols = if begins (48 ∷ []) octets then spelled octets else other_text
+of_base64 (Ok octets) symbols = if begins (48 ∷ []) octets then spelled octets else unknown_text
 of_base64 (Err e) symbols = of_loose_base64 symbols
 
 -- the form of digits, if the symbols are some, and otherwise another form
@@ -84,8 +81,8 @@ of_symbols text =
 -- the form of a text, in which columns with lines left out have to agree with their offsets
 abbrev pub form_of_text : List ℕ → InputKind
 form_of_text text =
-    if has_other_columns text then other_text
-    else if has_columns text && some_left_out (lines_of text) then if_digits (placed_digits text) other_text
+    if has_other_columns text then unknown_text
+    else if has_columns text && some_left_out (lines_of text) then if_digits (placed_digits text) unknown_text
     else of_symbols text
 
 -- a character of ASCII that is printed, or white space but a form feed, the identifier octet of a UTF8String; or an
@@ -101,7 +98,7 @@ abbrev pub form_behind_mark : List ℕ → InputKind
 form_behind_mark text =
     if has_object (lines_of text) then objects
     else if all_of_some is_printed text then form_of_text text
-    else if are_words text then other_text else plain_octets
+    else if are_words text then unknown_text else plain_octets
 
 -- the form of an input
 abbrev pub form_is : List ℕ → InputKind

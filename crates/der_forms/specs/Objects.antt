@@ -1,6 +1,5 @@
 -- The objects of PEM (RFC 7468), one after another.
-use Rattle.std.specs.Prelude.{ℕ, Bool, true, false, ◌==◌, ◌&&◌, List, [], ◌∷◌, ◌++◌, drop, length, if◌then◌else◌, codes}
-use Rattle.std.specs.Prelude.{Option, Some, None}
+use Rattle.std.specs.Prelude.{ℕ, Bool, true, false, ◌==◌, ◌&&◌, List, [], ◌∷◌, ◌++◌, drop, length, if◌then◌else◌, codes, Option, Some, None}
 use Rattle.std.specs.List.{list_any}
 use Rattle.std.specs.Option.{option_and_then}
 use Rattle.std.specs.Result.{result_ok}
@@ -10,9 +9,8 @@ use Rattle.base64.specs.GeneralPurpose.{decode_of as decode_base64}
 use Rattle.der_forms.specs.declared.objects.Ending.{Ending}
 use Rattle.der_forms.specs.declared.objects.Ending.TheVariants.{Closed, Joined, Missing, OtherLabel}
 use Rattle.der_io.specs.Lines.{lines_of}
-use Rattle.der_forms.specs.Forms.{InputKind, begins_object, without_mark, without_spaces}
+use Rattle.der_forms.specs.Forms.{InputKind, begins_object, without_mark, without_spaces, objects, odd_digits, unknown_text, plain_octets, spelled}
 use Rattle.der_digits.specs.Search.{begins, contains, up_to, without_indent}
-use Rattle.der_forms.specs.Forms.{objects, odd_digits, other_text, plain_octets, spelled}
 use Rattle.der_forms.specs.Known.{form_is}
 use Rattle.der_forms.specs.Texts.{text_of}
 use Rattle.der_io.specs.Characters.{colon}
@@ -117,7 +115,7 @@ abbrev pub document_in : InputKind → List ℕ → Option (List ℕ)
 document_in objects input = first_of (objects_of input)
 document_in (spelled octets) input = Some octets
 document_in odd_digits input = None
-document_in other_text input = None
+document_in unknown_text input = None
 document_in plain_octets input = Some input
 
 -- the octets of the document that a text has, the first one of PEM

@@ -2,7 +2,7 @@
 use Rattle.std.specs.Prelude.{Option, Some, None}
 use Rattle.std.specs.Option.{option_map}
 use Rattle.std.specs.Result.{result_ok}
-use Rattle.der_forms.specs.Forms.{InputKind, objects, odd_digits, other_text, plain_octets, spelled}
+use Rattle.der_forms.specs.Forms.{InputKind, objects, odd_digits, unknown_text, plain_octets, spelled}
 use Rattle.der_forms.specs.Objects.{Object}
 use Rattle.der_forms.specs.declared.input.InputForm.{InputForm}
 use Rattle.der_forms.specs.declared.input.InputForm.TheVariants.{Pem, Spelled, OddDigits, OtherColumns, LeftOut, Text, Der}
@@ -12,9 +12,9 @@ abbrev pub shown : InputForm → InputKind
 shown Pem = objects
 shown (Spelled octets) = spelled octets.items
 shown OddDigits = odd_digits
-shown OtherColumns = other_text
-shown (LeftOut line) = other_text
-shown (Text line) = other_text
+shown OtherColumns = unknown_text
+shown (LeftOut line) = unknown_text
+shown (Text line) = unknown_text
 shown Der = plain_octets
 
 -- the form, or another one where there is none

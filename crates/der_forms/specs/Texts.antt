@@ -1,6 +1,5 @@
 -- An input as text: UTF-16 behind a byte order mark, and PEM whose line breaks are lost or spelled.
-use Rattle.std.specs.Prelude.{ℕ, Bool, true, false, not, ◌==◌, ◌||◌, ◌&&◌, ◌+◌, ◌*◌, nat_lt, List, [], ◌∷◌, ◌++◌, drop, if◌then◌else◌}
-use Rattle.std.specs.Prelude.{codes}
+use Rattle.std.specs.Prelude.{ℕ, Bool, true, false, not, ◌==◌, ◌||◌, ◌&&◌, ◌+◌, ◌*◌, nat_lt, List, [], ◌∷◌, ◌++◌, drop, if◌then◌else◌, codes}
 use Rattle.std.specs.Char.{is_ascii_whitespace}
 use Rattle.std.specs.Char.Utf16.{utf16_lossy_chars}
 use Rattle.std.specs.Str.{encode_utf8_all}

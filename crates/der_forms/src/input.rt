@@ -7,9 +7,8 @@ ghost use Rattle.der_digits.specs.Columns.{placed_digits};
 ghost use Rattle.der_digits.specs.Sources.{source_digits};
 ghost use Rattle.der_digits.specs.Spelled.{IsSpelling};
 ghost use Rattle.der_digits.specs.Search.{all_of_some};
-ghost use Rattle.der_forms.specs.Forms.{InputKind, is_printed, other_text, without_spaces};
-ghost use Rattle.der_forms.specs.Known.{are_words, fits_one, fits_three, fits_two, form_is, form_of_text, if_digits, if_sequence};
-ghost use Rattle.der_forms.specs.Known.{is_in_words, is_sequence, length_fits, of_base64, of_loose_base64, of_symbols};
+ghost use Rattle.der_forms.specs.Forms.{InputKind, is_printed, unknown_text, without_spaces};
+ghost use Rattle.der_forms.specs.Known.{are_words, fits_one, fits_three, fits_two, form_is, form_of_text, if_digits, if_sequence, is_in_words, is_sequence, length_fits, of_base64, of_loose_base64, of_symbols};
 ghost use Rattle.der_forms.specs.Objects.{document_in_text, document_of as document_is, first_of, objects_of};
 ghost use Rattle.der_forms.specs.Shown.{shown, shown_or};
 ghost use Rattle.der_forms.specs.declared.input.FormFault.TheVariants.{OutOfMemory};
@@ -74,7 +73,7 @@ fn text_form(alloc: Global, text: &[u8]) -> Result<InputForm, AllocError>
 
 // The form of columns with lines left out.
 fn left_out_form(alloc: Global, text: &[u8]) -> Result<InputForm, AllocError>
-    ensures { IfOk result (λ form. shown form ≡ if_digits (placed_digits text.now) other_text) }
+    ensures { IfOk result (λ form. shown form ≡ if_digits (placed_digits text.now) unknown_text) }
 {
     match form_of_spelling(left_out::spelling_in(alloc, text)?) {
         Some(form) => Ok(form),
@@ -157,7 +156,7 @@ fn loose_base64_form(alloc: Global, symbols: &[u8], text: &[u8]) -> Result<Input
 // The form of base64url.
 fn url_form(alloc: Global, symbols: &[u8], text: &[u8]) -> Result<InputForm, AllocError>
     ensures { IfOk result (λ form. shown form
-        ≡ if_sequence (result_ok (decode_base64 url_safe_pad_indifferent symbols.now)) other_text) }
+        ≡ if_sequence (result_ok (decode_base64 url_safe_pad_indifferent symbols.now)) unknown_text) }
 {
     match base64_text::decode_url(alloc, symbols)? {
         Some(octets) => {

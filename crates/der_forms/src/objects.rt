@@ -1,11 +1,9 @@
 // The objects of PEM, one after another.
-ghost use Rattle.std.specs.Prelude.{◌≡◌, ◌≢◌, ◌∷◌, ◌<◌, ◌≤◌, ℕ, List, [], true, false, length};
-ghost use Rattle.std.specs.Prelude.{IfOk, MatchOption};
+ghost use Rattle.std.specs.Prelude.{◌≡◌, ◌≢◌, ◌∷◌, ◌<◌, ◌≤◌, ℕ, List, [], true, false, length, IfOk, MatchOption};
 ghost use Rattle.std.specs.Option.{option_map};
 ghost use Rattle.std.specs.Result.{result_ok};
 ghost use Rattle.der_forms.specs.Decoded.{IsWhole, symbols_read};
-ghost use Rattle.der_forms.specs.Objects.{ending_by, ending_in, ends_object, is_encrypted, is_openssh, object_in, objects_in, octets_in};
-ghost use Rattle.der_forms.specs.Objects.{symbols_in, unless_openssh};
+ghost use Rattle.der_forms.specs.Objects.{ending_by, ending_in, ends_object, is_encrypted, is_openssh, object_in, objects_in, octets_in, symbols_in, unless_openssh};
 ghost use Rattle.der_forms.specs.Shown.{shown_object};
 ghost use Rattle.der_forms.specs.declared.objects.Ending.TheVariants.{Closed};
 ghost use Rattle.der_io.specs.Lines.{lines_of};

@@ -1,8 +1,7 @@
 // An input as text.
 ghost use Rattle.std.specs.Prelude.{◌≡◌, ◌+◌, ◌*◌, ◌<◌, ◌∷◌, if◌then◌else◌, length, string_bytes, IfOk};
 ghost use Rattle.der_forms.specs.Forms.{without_mark};
-ghost use Rattle.der_forms.specs.Texts.{has_begin, if_text as if_text_is, in_utf8 as in_utf8_is};
-ghost use Rattle.der_forms.specs.Texts.{text_of as text_is, units_of};
+ghost use Rattle.der_forms.specs.Texts.{has_begin, if_text as if_text_is, in_utf8 as in_utf8_is, text_of as text_is, units_of};
 
 use crate::breaks::{unfolded, with_breaks};
 use crate::lines::is_text;

@@ -1,6 +1,6 @@
 // Which line of a text is in no form that is read.
 ghost use Rattle.std.specs.Prelude.{◌≡◌};
-ghost use Rattle.der_forms.specs.Forms.{other_text};
+ghost use Rattle.der_forms.specs.Forms.{unknown_text};
 ghost use Rattle.der_forms.specs.Shown.{shown};
 
 use crate::input::InputForm;
@@ -13,7 +13,7 @@ use der_io::split_line;
 
 // Text, with the first line that is in no form.
 pub fn form_unknown(text: &[u8]) -> InputForm
-    ensures { shown result ≡ other_text }
+    ensures { shown result ≡ unknown_text }
 {
     let in_columns = is_in_columns(text);
     let is_source = contains(b"= {", text) || contains(b"= \"", text);
@@ -40,7 +40,7 @@ pub fn form_unknown(text: &[u8]) -> InputForm
 
 // Columns, with the first line that stands for others.
 pub fn form_left_out(text: &[u8]) -> InputForm
-    ensures { shown result ≡ other_text }
+    ensures { shown result ≡ unknown_text }
 {
     let mut rest = text;
     let mut number: usize = 1;

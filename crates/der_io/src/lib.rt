@@ -10,9 +10,7 @@
 ghost use Rattle.std.specs.Prelude.{◌≡◌, ◌⊎◌, ◌<◌, ◌∷◌, ◌++◌, length, IfOk, IfErr, IfSome, OnOk, IsOk, codes};
 ghost use Rattle.std.specs.Io.KnownBytes.{Appends, IsAtEnd, Keeps};
 ghost use Rattle.der_io.specs.Lines.{lines_of};
-ghost use Rattle.der_io.specs.declared.StreamFault.TheVariants.{Read as read_fault};
-ghost use Rattle.der_io.specs.declared.StreamFault.TheVariants.{Write as write_fault};
-ghost use Rattle.der_io.specs.declared.StreamFault.TheVariants.{Memory as memory_fault};
+ghost use Rattle.der_io.specs.declared.StreamFault.TheVariants.{Read as read_fault, Write as write_fault, Memory as memory_fault};
 
 mod command_line;
 mod escape;

@@ -27,6 +27,7 @@ lines_of-unended (b ∷ c ∷ input) l h =
     rw (ne_eqb b 10 (h 0 (omega arith)))
     (ap (onto_first_line b) (lines_of-unended (c ∷ input) (omega arith) (λ i lt. h (suc i) (omega arith))))
 
+-- as many octets as stand behind a place are all of those behind it
 take-drop_suc : (n : ℕ) (xs : List ℕ) → take (length xs - (n + 1)) (drop (n + 1) xs) ≡ drop (suc n) xs
 take-drop_suc n xs =
     let e : n + 1 ≡ suc n = omega arith in
