@@ -38,9 +38,9 @@ use std::alloc::{AllocError, Global};
 /// first fields have no names.
 #[derive(Drop)]
 pub struct Names {
-    // in the order of the table
+    // the names of the table, in its order
     rows: Vec<&'static str>,
-    // these come before the rows
+    // names of a file, which are taken before those of the table
     own: OwnNames,
     /// The names of fields.
     pub shapes: Shapes,

@@ -1,7 +1,6 @@
 -- Text of times, as ISO 8601 writes them with its marks.
-use Rattle.std.specs.Prelude.{◌≡◌, ◌⊎◌, ◌==◌, ◌&&◌, ◌||◌, ℕ, ◌+◌, ◌-◌, ◌*◌, nat_lt, Bool, true, if◌then◌else◌}
+use Rattle.std.specs.Prelude.{◌≡◌, ◌⊎◌, ◌==◌, ◌&&◌, ◌||◌, ℕ, ◌+◌, ◌-◌, ◌*◌, nat_lt, Bool, true, if◌then◌else◌, List, [], ◌∷◌, ◌++◌, codes, get_or, length, replicate, slice_index}
 use Rattle.asn1_headers.specs.declared.tags.TheConstants.{UTC_TIME, GENERALIZED_TIME}
-use Rattle.std.specs.Prelude.{List, [], ◌∷◌, ◌++◌, codes, get_or, length, replicate, slice_index}
 use Rattle.std.specs.Char.{is_ascii_digit}
 use Rattle.std.specs.List.{list_all}
 use Rattle.std.specs.Str.{byte}

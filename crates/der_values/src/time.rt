@@ -2,9 +2,7 @@
 ghost use Rattle.std.specs.Prelude.{[], ◌≡◌, ◌++◌, ◌-◌, ◌∷◌, ◌≤◌, IfOk, IfSome, IsTrue, length, replicate};
 ghost use Rattle.std.specs.List.{list_all};
 ghost use Rattle.std.specs.Char.{is_ascii_digit};
-ghost use Rattle.der_values.specs.Times.{AreDateTime, IsTime, full_digits as full_digits_are, is_below as is_below_is};
-ghost use Rattle.der_values.specs.Times.{is_clock as is_clock_is, is_fraction as is_fraction_is};
-ghost use Rattle.der_values.specs.Times.{is_size as is_size_is, is_zone as is_zone_is};
+ghost use Rattle.der_values.specs.Times.{AreDateTime, IsTime, full_digits as full_digits_are, is_below as is_below_is, is_clock as is_clock_is, is_fraction as is_fraction_is, is_size as is_size_is, is_zone as is_zone_is};
 
 use asn1_headers::tags::{GENERALIZED_TIME, UTC_TIME};
 use asn1_leaves::contents::generalized_time;

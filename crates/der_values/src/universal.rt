@@ -2,9 +2,7 @@
 ghost use Rattle.std.specs.Prelude.{◌≡◌, false, true, IfOk, IfSome, MatchOption};
 ghost use Rattle.std.specs.List.{list_all};
 ghost use Rattle.std.specs.Str.{is_utf8 as is_utf8_is};
-ghost use Rattle.der_values.specs.Strings.{has_printed_characters, has_text as has_text_is, has_notation as has_notation_is};
-ghost use Rattle.der_values.specs.Strings.{is_iri as is_iri_is, is_numeric as is_numeric_is};
-ghost use Rattle.der_values.specs.Strings.{is_printed as is_printed_is, is_string as is_string_is};
+ghost use Rattle.der_values.specs.Strings.{has_printed_characters, has_text as has_text_is, has_notation as has_notation_is, is_iri as is_iri_is, is_numeric as is_numeric_is, is_printed as is_printed_is, is_string as is_string_is};
 
 use asn1_headers::error::ASN1DecodeErr;
 use asn1_headers::tags::{

@@ -26,6 +26,7 @@ TellsWhy-document (NoDocument f) input octets is fault = absurd fault
 TellsWhy-document (Refused f) input octets is fault = (octets, is, fault)
 TellsWhy-document NotSigned input octets is fault = (octets, is, fault)
 
+-- what is wrong with an input is wrong with the octets that are known of it, if any are
 TellsWhy-known : (known : Option (List ℕ)) (e : RunFault) (input : List ℕ) → IfSome known (λ b. input ≡ b) →
     TellsWhy e input → IfSome known (TellsWhy e)
 TellsWhy-known None e input is why = tt
