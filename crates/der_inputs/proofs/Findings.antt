@@ -15,6 +15,7 @@ use Rattle.der_io.specs.Output.{IsWritten}
 use Rattle.der_lines.specs.declared.document.Verdict.{Verdict}
 use Rattle.der_lines.specs.declared.document.Verdict.TheVariants.{AllRead, Refused}
 
+-- the texts of some, and then the texts of others, are the texts of all in this order
 AreTexts-append :
     {A B : Type 0} (Is : A → B → List ℕ → Type 0) (xs ys : List A) (us vs : List B) (text more : List ℕ) →
     AreTexts Is xs us text → AreTexts Is ys vs more → AreTexts Is (xs ++ ys) (us ++ vs) (text ++ more)
@@ -29,14 +30,17 @@ AreTexts-append Is (x ∷ xs) ys (u ∷ us) vs text more (own, rest, e, is, othe
 AreTexts-append Is [] ys (u ∷ us) vs text more h later = absurd h
 AreTexts-append Is (x ∷ xs) ys [] vs text more h later = absurd h
 
+-- behind a refusal, the verdict on all is a refusal
 fold-refused : (verdicts : List Verdict) → fold both_read Refused verdicts ≡ Refused
 fold-refused [] = refl
 fold-refused (v ∷ vs) = fold-refused vs
 
+-- a verdict with others folded onto it is the verdict on it and on all of these
 fold-both_read : (v : Verdict) (vs : List Verdict) → fold both_read v vs ≡ both_read v (all_read vs)
 fold-both_read AllRead vs = refl
 fold-both_read Refused vs = fold-refused vs
 
+-- the verdict on joined lists of verdicts is the verdict on those on each list
 all_read-append : (us vs : List Verdict) → all_read (us ++ vs) ≡ both_read (all_read us) (all_read vs)
 all_read-append us vs = fold-append both_read AllRead us vs ∙ fold-both_read (all_read us) vs
 
@@ -61,12 +65,14 @@ module _ (wanted : Wanted) (file : Option (List ℕ)) where
     AreTexts-append (IsFindingText wanted file) xs ys us vs text more are later,
   )
 
+  -- where the texts of findings were written, and then those of others, the texts of all were
   pub IsWritten-findings :
       (xs ys : List Finding) (v w : Verdict) (a b c : Option (List ℕ)) →
       IsWritten (AreFindingTexts wanted file xs v) a b → IsWritten (AreFindingTexts wanted file ys w) b c →
       IsWritten (AreFindingTexts wanted file (xs ++ ys) (both_read v w)) a c
   IsWritten-findings xs ys v w a b c = IsWritten-append _ _ _ a b c (AreFindingTexts-append xs ys v w)
 
+  -- where the text of a finding was written, the texts of findings that are this one were
   pub IsWritten-one_finding :
       (x : Finding) (v : Verdict) (a b : Option (List ℕ)) → IsWritten (IsFindingText wanted file x v) a b →
       IsWritten (AreFindingTexts wanted file (x ∷ []) v) a b

@@ -1,6 +1,5 @@
 -- Texts that are written one after another, for `sources`, and the findings of objects, for `show::Show::push_objects`.
-use Rattle.std.proofs.Common.{◌≡◌, ℕ, List, [], ◌∷◌, ◌++◌, refl, sym, ap, ◌∙◌}
-use Rattle.std.proofs.Common.{append_assoc, append-nil}
+use Rattle.std.proofs.Common.{◌≡◌, ℕ, List, [], ◌∷◌, ◌++◌, refl, sym, ap, ◌∙◌, append_assoc, append-nil}
 use Rattle.std.proofs.lemmas.List.Concat.{flat_map-cons}
 use Rattle.std.specs.List.{flat_map}
 use Rattle.std.specs.Prelude.{Option}
@@ -28,6 +27,7 @@ module _ {A B : Type 0} (Is : A → B → List ℕ → Type 0) where
   AreTexts-append_last [] (v ∷ vs) x last text own h is = absurd h
   AreTexts-append_last (y ∷ ys) [] x last text own h is = absurd h
 
+  -- where texts of several were written, and then the text of one more, the texts of all were
   pub IsWritten-append_last :
       (xs : List A) (results : List B) (x : A) (last : B) (a b c : Option (List ℕ)) →
       IsWritten (AreTexts Is xs results) a b →
@@ -37,6 +37,7 @@ module _ {A B : Type 0} (Is : A → B → List ℕ → Type 0) where
 -- findings so far, and those of the objects that are left
 module _ {X Y : Type 0} (h : X → List Y) (old all : List Y) (left : List X) (earlier : old ++ flat_map h left ≡ all)
   where
+    -- with the findings of the next object, those so far and those of the objects left are all
     pub append-next_object :
         (x : X) (later : List X) (new : List Y) → left ≡ x ∷ later → new ≡ old ++ h x → new ++ flat_map h later ≡ all
     append-next_object x later new e f =
@@ -44,9 +45,11 @@ module _ {X Y : Type 0} (h : X → List Y) (old all : List Y) (left : List X) (e
         ∙ (append_assoc old (h x) (flat_map h later)
         ∙ (ap (λ z. old ++ z) (sym (flat_map-cons h x later)) ∙ (ap (λ z. old ++ flat_map h z) (sym e) ∙ earlier)))
 
+    -- where no objects are left, the findings so far are all
     pub append-none_left : left ≡ [] → old ≡ all
     append-none_left e = sym (append-nil old) ∙ (ap (λ z. old ++ flat_map h z) (sym e) ∙ earlier)
 
+-- texts between an empty beginning and an empty end are the texts alone
 append-unframed : (texts first last : List ℕ) → first ≡ [] → last ≡ [] → first ++ (texts ++ last) ≡ texts
 append-unframed texts first last begun ended =
     ap (λ z. z ++ (texts ++ last)) begun ∙ (ap (λ z. texts ++ z) ended ∙ append-nil texts)

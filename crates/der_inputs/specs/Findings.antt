@@ -2,7 +2,7 @@
 -- offset.
 use Rattle.std.specs.Prelude.{◌≡◌, ◌⊎◌, ℕ, List, [], ◌∷◌, Option, Some, None}
 use Rattle.std.specs.List.{flat_map}
-use Rattle.der_forms.specs.Forms.{InputKind, objects, odd_digits, other_text, plain_octets, spelled}
+use Rattle.der_forms.specs.Forms.{InputKind, objects, odd_digits, unknown_text, plain_octets, spelled}
 use Rattle.der_forms.specs.Known.{form_is}
 use Rattle.der_forms.specs.Texts.{text_of}
 use Rattle.der_forms.specs.Objects.{Object, document_of, objects_of}
@@ -35,7 +35,7 @@ abbrev pub in_form : InputKind → List ℕ → List Finding
 in_form objects input = flat_map of_object (objects_of input)
 in_form (spelled octets) input = unlabelled (Some octets) ∷ []
 in_form odd_digits input = unlabelled None ∷ []
-in_form other_text input = unlabelled None ∷ []
+in_form unknown_text input = unlabelled None ∷ []
 in_form plain_octets input = unlabelled (Some input) ∷ []
 
 -- the findings in a text, or in octets

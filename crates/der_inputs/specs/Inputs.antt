@@ -1,6 +1,5 @@
 -- What is written of inputs, by the options.
-use Rattle.std.specs.Prelude.{◌≡◌, ◌≢◌, ◌⊎◌, ◌||◌, ℕ, Bool, true, false, List, [], ◌∷◌, ◌++◌, nat_lt}
-use Rattle.std.specs.Prelude.{Option, Some, None, IfSome}
+use Rattle.std.specs.Prelude.{◌≡◌, ◌≢◌, ◌⊎◌, ◌||◌, ℕ, Bool, true, false, List, [], ◌∷◌, ◌++◌, nat_lt, Option, Some, None, IfSome}
 use Rattle.std.specs.Io.KnownBytes.{IsAtEnd}
 use Rattle.der_inputs.specs.Findings.{Finding, IsBlockAt, IsContentsAt, IsValueAt, findings_of, unlabelled}
 use Rattle.der_inputs.specs.Formats.{IsName, IsText, format_by}

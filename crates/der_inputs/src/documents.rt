@@ -1,7 +1,6 @@
 // The documents of an input, and the block that begins at an offset.
 ghost use Rattle.std.specs.Prelude.{◌≡◌, ◌∷◌, [], IfOk, MatchOption, None, Some};
-ghost use Rattle.der_inputs.specs.Findings.{IsBlockAt, IsContentsAt, IsValueAt, findings_in, findings_of};
-ghost use Rattle.der_inputs.specs.Findings.{unlabelled};
+ghost use Rattle.der_inputs.specs.Findings.{IsBlockAt, IsContentsAt, IsValueAt, findings_in, findings_of, unlabelled};
 ghost use Rattle.der_inputs.specs.Parts.{finding_in, findings_are, octets_in};
 ghost use Rattle.der_elements.specs.Elements.{HasContents, IsElement};
 ghost use Rattle.der_elements.specs.StringOctets.{HoldsNoOctets, HoldsOctets};

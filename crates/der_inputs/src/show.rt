@@ -1,13 +1,11 @@
 // How documents are shown.
 ghost use Rattle.std.specs.Prelude.{◌≡◌, [], IfOk, OnOk, false, unwrap_or};
 ghost use Rattle.std.specs.Option.{option_map};
-ghost use Rattle.der_inputs.specs.Formats.{IsDump, IsDumpOrRefusal, IsFrameOf, IsLabel, IsLines, IsName, IsSection, IsTitle};
-ghost use Rattle.der_inputs.specs.Formats.{IsTitleLine, IsTitleSection, format_by, look_by};
+ghost use Rattle.der_inputs.specs.Formats.{IsDump, IsDumpOrRefusal, IsFrameOf, IsLabel, IsLines, IsName, IsSection, IsTitle, IsTitleLine, IsTitleSection, format_by, look_by};
 ghost use Rattle.der_io.specs.Output.{IsWritten};
 ghost use Rattle.der_lines.specs.Dump.{IsDumpOf};
 ghost use Rattle.der_rows.specs.Printing.{IsPrinted};
-ghost use Rattle.der_inputs.specs.Inputs.{IsFindingText, are_colors_shown as colors_shown, names_shown};
-ghost use Rattle.der_inputs.specs.Inputs.{wanted_by};
+ghost use Rattle.der_inputs.specs.Inputs.{IsFindingText, are_colors_shown as colors_shown, names_shown, wanted_by};
 ghost use Rattle.der_inputs.specs.Outcomes.{both_read};
 ghost use Rattle.der_inputs.specs.Parts.{finding_in, octets_in, wanted_of};
 ghost use Rattle.der_inputs.specs.declared.show.OutputFormat.TheVariants.{Page as page_format};

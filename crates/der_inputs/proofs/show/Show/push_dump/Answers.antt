@@ -11,5 +11,4 @@ returns g c =
     let dumped = c.push_dump_or_refusal.new.printer in
     IsPrinted-ended contents _ before dumped c.end_folds.new.self
     (IsPrinted-append contents _ _ _ before titled dumped (λ title dump label lines. (title, dump, refl, label, lines))
-    c.in_ok-push_label_of.ensures c.in_ok-verdict.ensures)
-    c.in_ok-end_folds.ensures
+    c.in_ok-push_label_of.ensures c.in_ok-verdict.ensures) c.in_ok-end_folds.ensures

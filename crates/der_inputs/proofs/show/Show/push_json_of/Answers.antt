@@ -11,19 +11,15 @@ returns-in_ok-push_strict_json g c =
     let before = g.W.Write.contents c.args.out.now in
     let out = g.W.Write.contents c.push_strict_json.new.out in
     let pushed = IsWritten-strict_json c.args.octets.now (origin_data c.args.origin) c.in_ok-push_strict_json.field-0
-    c.verdict_of.result
-    before out c.verdict_of.ensures c.in_ok-push_strict_json.ensures in
+    c.verdict_of.result before out c.verdict_of.ensures c.in_ok-push_strict_json.ensures in
     subst (λ z. IsWritten (IsOctetsJson z c.args.octets.now (origin_data c.args.origin) c.verdict_of.result) before
-    out)
-    (sym c.if-self.true) pushed
+    out) (sym c.if-self.true) pushed
 
 pub returns-in_ok-push_json : goal.returns-in_ok-push_json
 returns-in_ok-push_json g c =
     let before = g.W.Write.contents c.args.out.now in
     let out = g.W.Write.contents c.push_json.new.out in
     let pushed = IsWritten-json c.args.octets.now (origin_data c.args.origin) c.in_ok-push_json.field-0
-    c.verdict_of-else-self.result
-    before out c.verdict_of-else-self.ensures c.in_ok-push_json.ensures in
+    c.verdict_of-else-self.result before out c.verdict_of-else-self.ensures c.in_ok-push_json.ensures in
     subst (λ z. IsWritten (IsOctetsJson z c.args.octets.now (origin_data c.args.origin) c.verdict_of-else-self.result)
-    before out)
-    (sym c.if-self.false) pushed
+    before out) (sym c.if-self.false) pushed

@@ -42,5 +42,4 @@ returns g c =
     subst (λ z. IsWritten (AreFindingTexts (wanted_of c.args.self.now) (option_map (λ name. name.now) c.args.file) z
     c.loop-object.verdict) (g.W.Write.contents c.args.printer.now.out) (g.W.Write.contents c.loop-object.printer.out))
     (append-none_left of_object done _ (objects_in false (lines_of c.loop-object.lines.rest.now)) are
-    (rw c.in_default.is at c.in_ok-object.ensures))
-    written
+    (rw c.in_default.is at c.in_ok-object.ensures)) written

@@ -8,5 +8,4 @@ returns g c =
     on_ok_weaker c.push_label.result
     (IsPrinted-title g.W.Write.contents c.args.name.now c.as_bytes.result.now c.args.printer.now
     c.push_label.new.printer
-    c.as_bytes.ensures.value)
-    c.push_label.ensures
+    c.as_bytes.ensures.value) c.push_label.ensures
