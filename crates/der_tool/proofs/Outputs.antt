@@ -19,10 +19,12 @@ abbrev AreWithin : ℕ → List (List ℕ) → Type 0
 AreWithin n [] = Unit {0}
 AreWithin n (line ∷ lines) = (length line ≤ n) × AreWithin n lines
 
+-- lines that are no longer than a number are no longer than the next one
 AreWithin-suc : (lines : List (List ℕ)) (n : ℕ) → AreWithin n lines → AreWithin (suc n) lines
 AreWithin-suc [] n all = tt
 AreWithin-suc (line ∷ lines) n all = (omega (arith, all.0), AreWithin-suc lines n all.1)
 
+-- with an octet put onto the first line, no line is longer than one octet more
 AreWithin-onto_first_line :
     (b : ℕ) (lines : List (List ℕ)) (n : ℕ) → AreWithin n lines → AreWithin (suc n) (onto_first_line b lines)
 AreWithin-onto_first_line b [] n all = (omega arith, tt)
@@ -55,6 +57,7 @@ record Settled (reading : Reading) : Type 0 where
   one_fault : (octets : List ℕ) (e d : DecodeFault) → length octets < 2 ^ 64 → IsRefused reading octets e →
       IsRefused reading octets d → e ≡ d
 
+-- where the laws of unambiguous and of strict reading hold, each reading settles all octets
 Settled-laws : Unambiguous → StrictReading → (reading : Reading) → Settled reading
 Settled-laws law strict Lenient = record {
   either = λ octets small. elim (law.either octets small)
@@ -70,6 +73,7 @@ Settled-laws law strict Strict = record {
   one_fault = strict.one_fault;
 }
 
+-- fewer than 2^64 octets have no two answers, where the reading settles them
 IsVerdict-unique :
     (reading : Reading) → Settled reading → (octets a b : List ℕ) → length octets < 2 ^ 64 →
     IsVerdict reading octets a → IsVerdict reading octets b → a ≡ b
@@ -80,6 +84,7 @@ IsVerdict-unique reading law octets a b small (inr f) (inl d) = absurd (law.not_
 IsVerdict-unique reading law octets a b small (inr f) (inr g) =
     f.2 ∙ (ap refusal (law.one_fault octets f.0 g.0 small f.1 g.1) ∙ sym g.2)
 
+-- fewer than 2^64 octets have an answer, where the reading settles them
 IsVerdict-some : (reading : Reading) → Settled reading → (octets : List ℕ) → length octets < 2 ^ 64
     → (answer : List ℕ) × IsVerdict reading octets answer
 IsVerdict-some reading law octets small =
@@ -88,6 +93,7 @@ IsVerdict-some reading law octets small =
       | inr f ↦ (refusal f.0, inr (f.0, f.1, refl))
     ]
 
+-- a line of fewer than 2^64 octets has no two answers, where the reading settles octets
 IsAnswer-unique :
     (reading : Reading) → Settled reading → (line a b : List ℕ) (n : ℕ) → length line ≤ n → n < 2 ^ 64 →
     IsAnswer reading line a → IsAnswer reading line b → a ≡ b
@@ -100,6 +106,7 @@ IsAnswer-unique reading law line a b n within small u v = go (decode_of line) re
         IsVerdict-unique reading law octets a b (length-decoded_lt line octets n within small is) u v
     go (Err e) is u v = u ∙ sym v
 
+-- a line of fewer than 2^64 octets has an answer, where the reading settles octets
 IsAnswer-some : (reading : Reading) → Settled reading → (line : List ℕ) (n : ℕ) → length line ≤ n → n < 2 ^ 64
     → (answer : List ℕ) × IsAnswer reading line answer
 IsAnswer-some reading law line n within small = go (decode_of line) refl
@@ -110,6 +117,7 @@ IsAnswer-some reading law line n within small = go (decode_of line) refl
     go (Ok octets) is = IsVerdict-some reading law octets (length-decoded_lt line octets n within small is)
     go (Err e) is = (codes "badhex", refl)
 
+-- lines of fewer than 2^64 octets each have no two outputs that answer them, where the reading settles octets
 AreLineAnswers-unique :
     (reading : Reading) → Settled reading → (lines : List (List ℕ)) (a b : List ℕ) (n : ℕ) → AreWithin n lines →
     n < 2 ^ 64 →
@@ -122,6 +130,7 @@ AreLineAnswers-unique reading law (line ∷ lines) a b n all small u v =
     let rest = AreLineAnswers-unique reading law lines xs ys n all.1 small r s in
     p ∙ (ap (λ z. z ++ 10 ∷ xs) first ∙ (ap (λ z. y ++ 10 ∷ z) rest ∙ sym q))
 
+-- lines of fewer than 2^64 octets each have an output that answers them, where the reading settles octets
 AreLineAnswers-some :
     (reading : Reading) → Settled reading → (lines : List (List ℕ)) (n : ℕ) → AreWithin n lines → n < 2 ^ 64 →
     (output : List ℕ) × AreLineAnswers reading lines output

@@ -25,8 +25,7 @@ loop-rest-preserved c = λ later h.
     subst (λ lines. AreLineAnswers c.args.reading lines (a.0 ++ 10 ∷ later)) (sym c.split_line.ensures.first)
     (a.0, later, refl, a.1, h) in
     subst (AreLineAnswers c.args.reading (lines_of c.args.input.now))
-    (append-one_answer _ _ _ a.0 later a.2 c.in_ok-push.ensures.items)
-    (c.loop-rest.invariant (a.0 ++ 10 ∷ later) now)
+    (append-one_answer _ _ _ a.0 later a.2 c.in_ok-push.ensures.items) (c.loop-rest.invariant (a.0 ++ 10 ∷ later) now)
 
 pub returns : goal.returns
 returns c =
