@@ -9,6 +9,8 @@ mod convert;
 #[cfg(test)]
 mod documents;
 #[cfg(test)]
+mod equality;
+#[cfg(test)]
 mod errors;
 #[cfg(test)]
 mod helpers;
