@@ -1,5 +1,5 @@
 // What a call is given, read from the octets of its line.
-use crate::refusal::{Answer, Refusal, ran_out, said};
+use crate::refusal::{Answer, Refusal, ran_out, refusal_of};
 use simple_asn1::{BigInt, BigUint, Document, decode_base127};
 use std::alloc::Global;
 use std::str;
@@ -65,6 +65,6 @@ impl Argument for BigUint {
 pub fn text_of(alloc: Global, octets: &[u8]) -> Result<&str, Refusal> {
     match str::from_utf8(octets) {
         Ok(text) => Ok(text),
-        Err(_) => Err(said(alloc, "no text")),
+        Err(_) => Err(refusal_of(alloc, "no text")),
     }
 }

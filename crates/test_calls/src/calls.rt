@@ -1,6 +1,6 @@
 // The calls by their names. Each function has those of a family, and asks the next one of any other name.
 use crate::arguments::of;
-use crate::refusal::{Answer, said};
+use crate::refusal::{Answer, refusal_of};
 use crate::{
     blocks, documents, errors, headers, identifiers, made, makers, numbers, outlines, points,
 };
@@ -15,7 +15,9 @@ pub fn answer(alloc: Global, name: &str, octets: &[u8]) -> Answer {
         "count" => documents::count(alloc, octets),
         "first" => documents::first(alloc, octets),
         "place" => documents::place(alloc, octets),
+        "check_document" => documents::checked(alloc, octets),
         "rewrite" => documents::rewritten(alloc, octets),
+        "rewrite_unless_canonical" => documents::rewritten_if_needed(alloc, octets),
         "strict" => documents::strict(alloc, octets),
         "is_der" => documents::der(alloc, octets),
         "signed" => documents::signed(alloc, octets),
@@ -54,6 +56,7 @@ fn of_blocks(alloc: Global, name: &str, octets: &[u8]) -> Answer {
 
 fn of_outline(alloc: Global, name: &str, octets: &[u8]) -> Answer {
     match name {
+        "Outline::from_der_counted" => documents::outline_count(alloc, octets),
         "Outline::boolean" => outlines::each(alloc, octets, outlines::boolean),
         "Outline::integer" => outlines::each(alloc, octets, outlines::integer),
         "Outline::bits" => outlines::each(alloc, octets, outlines::bits),
@@ -77,11 +80,11 @@ fn of_maker(alloc: Global, name: &str, octets: &[u8]) -> Answer {
         "build::null" => makers::null(alloc, octets),
         "build::object_identifier" => makers::object_identifier(alloc, octets),
         "build::enumerated" => makers::enumerated(alloc, octets),
-        _ => of_other_maker(alloc, name, octets),
+        _ => of_string_or_group(alloc, name, octets),
     }
 }
 
-fn of_other_maker(alloc: Global, name: &str, octets: &[u8]) -> Answer {
+fn of_string_or_group(alloc: Global, name: &str, octets: &[u8]) -> Answer {
     match name {
         "build::utf8_string" => makers::utf8_string(alloc, octets),
         "build::printable_string" => makers::printable_string(alloc, octets),
@@ -183,6 +186,6 @@ fn of_error(alloc: Global, name: &str, octets: &[u8]) -> Answer {
         "ASN1DecodeErr::to_string" => errors::reading_shown(alloc, octets),
         "LocatedErr::to_string" => of(alloc, octets, errors::located_shown),
         "ASN1EncodeErr::to_string" => errors::writing_shown(alloc, octets),
-        _ => Err(said(alloc, "badline")),
+        _ => Err(refusal_of(alloc, "badline")),
     }
 }

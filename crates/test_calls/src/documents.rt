@@ -1,8 +1,9 @@
 // Calls that read documents.
-use crate::refusal::{Answer, Refusal, ran_out, said};
+use crate::refusal::{Answer, Refusal, ran_out, refusal_of};
 use simple_asn1::{
-    ASN1DecodeErr, Document, HeaderCount, Outline, TripleErr, discard, encoding_at,
+    ASN1DecodeErr, Document, HeaderCount, Outline, TripleErr, check_document, discard, encoding_at,
     from_der_counted, from_der_located, from_der_strict, is_der, read_signed, rewrite,
+    rewrite_unless_canonical,
 };
 use std::alloc::Global;
 use test_notation::{blocks_text, components_text, octets_text};
@@ -40,6 +41,12 @@ pub fn place(alloc: Global, octets: &[u8]) -> Answer {
     Ok(String::from_str(alloc, "read")?)
 }
 
+// Whether the octets are a document, or their first fault with its place.
+pub fn checked(alloc: Global, octets: &[u8]) -> Answer {
+    check_document(alloc, octets)?;
+    Ok(String::from_str(alloc, "read")?)
+}
+
 // The number of headers begun, and whether the document was read.
 pub fn count(alloc: Global, octets: &[u8]) -> Answer {
     let mut count = HeaderCount::new();
@@ -56,10 +63,33 @@ pub fn count(alloc: Global, octets: &[u8]) -> Answer {
     Ok(format!(in alloc; "{begun} begun, {read}")?)
 }
 
+// The number of headers begun, and that of entries, or the first fault with its place.
+pub fn outline_count(alloc: Global, octets: &[u8]) -> Answer {
+    let mut count = HeaderCount::new();
+    let read = Outline::from_der_counted(alloc, octets, &mut count);
+    let begun = count.count();
+    let read = match read {
+        Ok(outline) => format!(in alloc; "entries {}", outline.entries().len())?,
+        Err(located) => match Refusal::from(located) {
+            Refusal::Memory => return Err(ran_out(alloc, begun <= octets.len() as u64)),
+            refusal => refusal.text(alloc)?,
+        },
+    };
+    Ok(format!(in alloc; "{begun} begun, {read}")?)
+}
+
 // The canonical octets of the document.
 pub fn rewritten(alloc: Global, octets: &[u8]) -> Answer {
     let canonical = rewrite(alloc, octets)?;
     Ok(octets_text(alloc, &canonical)?)
+}
+
+// The canonical octets of the document, or a minus where it has them already.
+pub fn rewritten_if_needed(alloc: Global, octets: &[u8]) -> Answer {
+    match rewrite_unless_canonical(alloc, octets)? {
+        Some(canonical) => Ok(octets_text(alloc, &canonical)?),
+        None => Ok(String::from_str(alloc, "-")?),
+    }
 }
 
 // The blocks of a canonical document.
@@ -83,11 +113,11 @@ pub fn der(alloc: Global, octets: &[u8]) -> Answer {
 // The octets of the encoding at an offset, the first octet, of the document after it.
 pub fn encoding(alloc: Global, octets: &[u8]) -> Answer {
     let Some((offset, document)) = octets.split_first() else {
-        return Err(said(alloc, "no offset"));
+        return Err(refusal_of(alloc, "no offset"));
     };
     match encoding_at(document, *offset as usize) {
         Some(encoding) => Ok(octets_text(alloc, encoding)?),
-        None => Err(said(alloc, "-")),
+        None => Err(refusal_of(alloc, "-")),
     }
 }
 
@@ -96,7 +126,7 @@ pub fn signed(alloc: Global, octets: &[u8]) -> Answer {
     let triple = match read_signed(alloc, octets) {
         Ok(triple) => triple,
         Err(TripleErr::Codec(fault)) => return Err(Refusal::from(fault)),
-        Err(TripleErr::Shape) => return Err(said(alloc, "refused Shape")),
+        Err(TripleErr::Shape) => return Err(refusal_of(alloc, "refused Shape")),
     };
     let content = octets_text(alloc, &triple.content)?;
     let algorithm = components_text(alloc, &triple.algorithm)?;

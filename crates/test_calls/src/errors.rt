@@ -1,6 +1,6 @@
 // Calls of errors: of the first fault of octets, or of one made by hand.
 use crate::arguments::Argument;
-use crate::refusal::{Answer, Refusal, located_text, ran_out, said};
+use crate::refusal::{Answer, Refusal, located_text, ran_out, refusal_of};
 use simple_asn1::{ASN1DecodeErr, ASN1EncodeErr, Document, LocatedErr};
 use std::alloc::{AllocError, Global};
 use std::str;
@@ -9,7 +9,7 @@ use std::str;
 impl Argument for LocatedErr {
     fn read(alloc: Global, octets: &[u8]) -> Result<LocatedErr, Refusal> {
         match Document::from_der_located(alloc, octets) {
-            Ok(_) => Err(said(alloc, "no fault")),
+            Ok(_) => Err(refusal_of(alloc, "no fault")),
             Err(located) => match located.error {
                 ASN1DecodeErr::OutOfMemory => Err(Refusal::Memory),
                 _ => Ok(located),
@@ -62,14 +62,14 @@ pub fn reading_shown(alloc: Global, octets: &[u8]) -> Answer {
     let error = reading_error(alloc, octets)?;
     let is_overflow = octets.first() == Some(&10);
     if error.clone(alloc)? != error || (error == ASN1DecodeErr::Overflow) != is_overflow {
-        return Err(said(alloc, "another error"));
+        return Err(refusal_of(alloc, "another error"));
     }
     Ok(format!(in alloc; "{error}")?)
 }
 
 fn reading_error(alloc: Global, octets: &[u8]) -> Result<ASN1DecodeErr, Refusal> {
     let Some((kind, held)) = octets.split_first() else {
-        return Err(said(alloc, "no error"));
+        return Err(refusal_of(alloc, "no error"));
     };
     match (kind, str::from_utf8(held)) {
         (4, Err(cause)) => Ok(ASN1DecodeErr::UTF8DecodeFailure(cause)),
@@ -91,7 +91,7 @@ fn plain_error(alloc: Global, kind: u8, number: u8) -> Result<ASN1DecodeErr, Ref
         10 => ASN1DecodeErr::Overflow,
         11 => ASN1DecodeErr::OutOfMemory,
         12 => ASN1DecodeErr::NotCanonical(number as usize),
-        _ => return Err(said(alloc, "no error")),
+        _ => return Err(refusal_of(alloc, "no error")),
     })
 }
 
@@ -107,10 +107,10 @@ pub fn writing_shown(alloc: Global, octets: &[u8]) -> Answer {
         5 => ASN1EncodeErr::CharacterTooLarge,
         6 => ASN1EncodeErr::YearOutOfRange,
         7 => ASN1EncodeErr::OutOfMemory,
-        _ => return Err(said(alloc, "no error")),
+        _ => return Err(refusal_of(alloc, "no error")),
     };
     if error.clone(alloc)? != error || (error == ASN1EncodeErr::YearOutOfRange) != (kind == 6) {
-        return Err(said(alloc, "another error"));
+        return Err(refusal_of(alloc, "another error"));
     }
     Ok(format!(in alloc; "{error}")?)
 }

@@ -1,5 +1,5 @@
 // Calls of the parts of headers. They are given octets with such a part at their front.
-use crate::refusal::{Answer, Refusal, ran_out, said};
+use crate::refusal::{Answer, Refusal, ran_out, refusal_of};
 use simple_asn1::{
     ASN1Class, ASN1DecodeErr, BigUint, HeaderCount, decode_base127, decode_class, decode_length,
     decode_tag, encode_base127, encode_class, encode_len, encode_tag,
@@ -88,7 +88,7 @@ fn base128_written(alloc: Global, n: &BigUint) -> Answer {
 pub fn class(alloc: Global, octets: &[u8]) -> Result<ASN1Class, Refusal> {
     match octets.first() {
         Some(octet) => Ok(decode_class(*octet)?),
-        None => Err(said(alloc, "no octet")),
+        None => Err(refusal_of(alloc, "no octet")),
     }
 }
 

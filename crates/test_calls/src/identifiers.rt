@@ -1,7 +1,7 @@
 // Calls of object identifiers: of that which a document begins with, or of one that is made of base-128 forms.
 use crate::arguments::text_of;
 use crate::blocks::push_after;
-use crate::refusal::{Answer, Refusal, said};
+use crate::refusal::{Answer, Refusal, refusal_of};
 use simple_asn1::{ASN1DecodeErr, BigUint, Document, FromBigUint, OID, decode_base127, oid};
 use std::alloc::{AllocError, Global};
 use std::fmt::Display;
@@ -11,7 +11,7 @@ use test_notation::{components_text, octets_text};
 pub fn first(alloc: Global, document: &Document) -> Result<&OID, Refusal> {
     match document.blocks().first().and_then(|block| block.oid()) {
         Some(oid) => Ok(oid),
-        None => Err(said(alloc, "no object identifier")),
+        None => Err(refusal_of(alloc, "no object identifier")),
     }
 }
 
@@ -43,7 +43,7 @@ pub fn from_numbers(alloc: Global, octets: &[u8]) -> Answer {
     let mut components = Vec::new(alloc);
     for number in &numbers_of(alloc, octets)? {
         let Some(component) = number.to_u64() else {
-            return Err(said(alloc, "past 64 bits"));
+            return Err(refusal_of(alloc, "past 64 bits"));
         };
         components.push(component)?;
     }
@@ -53,7 +53,7 @@ pub fn from_numbers(alloc: Global, octets: &[u8]) -> Answer {
         OID::from_u64s(alloc, &components)?
     };
     if oid != made(alloc, octets)? {
-        return Err(said(alloc, "another object identifier"));
+        return Err(refusal_of(alloc, "another object identifier"));
     }
     contents(alloc, &oid)
 }
@@ -62,7 +62,7 @@ pub fn from_numbers(alloc: Global, octets: &[u8]) -> Answer {
 pub fn from_text(alloc: Global, octets: &[u8]) -> Answer {
     match OID::from_text(alloc, text_of(alloc, octets)?)? {
         Some(oid) => contents(alloc, &oid),
-        None => Err(said(alloc, "no object identifier")),
+        None => Err(refusal_of(alloc, "no object identifier")),
     }
 }
 
@@ -71,14 +71,14 @@ pub fn from_text(alloc: Global, octets: &[u8]) -> Answer {
 pub fn shown(alloc: Global, oid: &OID) -> Answer {
     let text = oid.to_string(alloc)?;
     if format!(in alloc; "{oid:?}")? != text {
-        return Err(said(alloc, "shown in two ways"));
+        return Err(refusal_of(alloc, "shown in two ways"));
     }
     if text.is_empty() {
         return Ok(text);
     }
     match OID::from_text(alloc, &text)? {
         Some(read) if read == *oid => Ok(text),
-        _ => Err(said(alloc, "read as another")),
+        _ => Err(refusal_of(alloc, "read as another")),
     }
 }
 
@@ -89,7 +89,7 @@ pub fn contents(alloc: Global, oid: &OID) -> Answer {
 pub fn clone(alloc: Global, oid: &OID) -> Answer {
     let clone = oid.clone(alloc)?;
     if clone != *oid {
-        return Err(said(alloc, "another object identifier"));
+        return Err(refusal_of(alloc, "another object identifier"));
     }
     block(alloc, &clone)
 }

@@ -20,9 +20,11 @@
 // begun, and whether the octets were read, `place` by whether they were read, and at which offset they are at fault,
 // `rewrite` by the canonical octets, `strict` as `read`, of canonical documents alone, `is_der` by `true` or `false`,
 // and `signed` by the content, the algorithm, the number of bits and the octets of the signature: `content 30 00,
-// algorithm 1.2, 8 bits, AB`. A call that refuses its octets is answered by `refused`, the name of the fault, and after
-// a space what the fault holds: its number in decimal, or its characters as in the notation. The other calls are named
-// as in the library. Those of `OID::new`, `OID::from_u64s`, `OID::to_string`, `BigUint::to`, `BigUint::to_string` and
+// algorithm 1.2, 8 bits, AB`. `check_document` is answered as `place`, `rewrite_unless_canonical` as `rewrite`, or by a
+// minus where nothing is rewritten, and `Outline::from_der_counted` by the number of headers that were begun and that
+// of entries. A call that refuses its octets is answered by `refused`, the name of the fault, and after a space what
+// the fault holds: its number in decimal, or its characters as in the notation. The other calls are named as in the
+// library. Those of `OID::new`, `OID::from_u64s`, `OID::to_string`, `BigUint::to`, `BigUint::to_string` and
 // `BigUint::cmp` are given base-128 forms, `OID::from_text` and `BigUint::from_text` a text, `encoding_at` the offset
 // and then the document. `parts` is answered by class, tag number and offset of each block, and what else it has,
 // `boolean`, `bits`, `oid`, `moment` and `sequence_items` by that of each block, or a minus, `{:?}` by what that writes

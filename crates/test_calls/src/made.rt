@@ -22,7 +22,7 @@
 // Each block has the offset 7, which no octets are to hang on.
 use crate::arguments::Argument;
 use crate::identifiers::made as identifier;
-use crate::refusal::{Answer, Refusal, said};
+use crate::refusal::{Answer, Refusal, refusal_of};
 use jiff::civil::DateTime;
 use simple_asn1::{
     ASN1Block, BigInt, BigUint, Document, FaithfulErr, decode_class, to_der, to_der_faithful,
@@ -38,7 +38,7 @@ impl Argument for ASN1Block {
     fn read(alloc: Global, orders: &[u8]) -> Result<ASN1Block, Refusal> {
         match block_of(alloc, orders)? {
             Some(block) => Ok(block),
-            None => Err(said(alloc, "no block")),
+            None => Err(refusal_of(alloc, "no block")),
         }
     }
 
@@ -112,7 +112,7 @@ fn carry_out(
         0x17 => Ok(moment_of(fields).map(|moment| ASN1Block::UTCTime(OFFSET, moment))),
         0x18 => Ok(moment_of(fields).map(|moment| ASN1Block::GeneralizedTime(OFFSET, moment))),
         0x0C | 0x13 | 0x14 | 0x16 | 0x1C | 0x1E => string(alloc, order, fields),
-        _ => other_leaf(alloc, order, fields),
+        _ => leaf_without_text(alloc, order, fields),
     }
 }
 
@@ -183,7 +183,11 @@ fn string(alloc: Global, order: u8, fields: &[u8]) -> Result<Option<ASN1Block>, 
     }))
 }
 
-fn other_leaf(alloc: Global, order: u8, fields: &[u8]) -> Result<Option<ASN1Block>, AllocError> {
+fn leaf_without_text(
+    alloc: Global,
+    order: u8,
+    fields: &[u8],
+) -> Result<Option<ASN1Block>, AllocError> {
     Ok(match (order, fields) {
         (0x01, [value]) => Some(ASN1Block::Boolean(OFFSET, *value != 0)),
         (0x02, _) => {

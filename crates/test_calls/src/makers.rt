@@ -3,7 +3,7 @@ use crate::arguments::text_of;
 use crate::blocks::implicit_of;
 use crate::identifiers::made as identifier;
 use crate::made::moment_of;
-use crate::refusal::{Answer, Refusal, said};
+use crate::refusal::{Answer, Refusal, refusal_of};
 use jiff::civil::DateTime;
 use simple_asn1::{ASN1Block, ASN1Class, BigInt, Document, FaithfulErr, build, to_der_faithful};
 use std::alloc::{AllocError, Global};
@@ -14,7 +14,7 @@ pub fn written(alloc: Global, block: &ASN1Block) -> Answer {
     match to_der_faithful(alloc, block) {
         Ok(octets) => Ok(octets_text(alloc, &octets)?),
         Err(FaithfulErr::OutOfMemory) => Err(Refusal::from(AllocError)),
-        Err(FaithfulErr::NotFaithful(_, _)) => Err(said(alloc, "not faithful")),
+        Err(FaithfulErr::NotFaithful(_, _)) => Err(refusal_of(alloc, "not faithful")),
     }
 }
 
@@ -30,7 +30,7 @@ pub fn null(alloc: Global, _octets: &[u8]) -> Answer {
 fn small(alloc: Global, octets: &[u8]) -> Result<i64, Refusal> {
     match BigInt::from_signed_bytes_be(alloc, octets)?.to_i64() {
         Some(number) => Ok(number),
-        None => Err(said(alloc, "past 64 bits")),
+        None => Err(refusal_of(alloc, "past 64 bits")),
     }
 }
 
@@ -79,7 +79,7 @@ pub fn ia5_string(alloc: Global, octets: &[u8]) -> Answer {
 fn moment(alloc: Global, octets: &[u8]) -> Result<DateTime, Refusal> {
     match moment_of(octets) {
         Some(moment) => Ok(moment),
-        None => Err(said(alloc, "no moment")),
+        None => Err(refusal_of(alloc, "no moment")),
     }
 }
 

@@ -1,7 +1,7 @@
 // Calls of natural numbers and of integers.
 use crate::arguments::text_of;
 use crate::blocks::value;
-use crate::refusal::{Answer, Refusal, ran_out, said};
+use crate::refusal::{Answer, Refusal, ran_out, refusal_of};
 use simple_asn1::{BigInt, BigUint, decode_base127, encode_base127};
 use std::alloc::{AllocError, Global};
 use std::cmp::Ordering;
@@ -11,7 +11,7 @@ use test_notation::{integer_text, octets_text};
 fn held<T>(alloc: Global, number: Option<T>) -> Result<T, Refusal> {
     match number {
         Some(number) => Ok(number),
-        None => Err(said(alloc, "no such number")),
+        None => Err(refusal_of(alloc, "no such number")),
     }
 }
 
@@ -19,7 +19,7 @@ fn held<T>(alloc: Global, number: Option<T>) -> Result<T, Refusal> {
 fn natural(alloc: Global, number: &BigUint) -> Answer {
     match number.to_u128() {
         Some(n) => Ok(format!(in alloc; "{n}")?),
-        None => Err(said(alloc, "past 128 bits")),
+        None => Err(refusal_of(alloc, "past 128 bits")),
     }
 }
 
@@ -43,7 +43,7 @@ pub fn natural_clone(alloc: Global, given: &BigInt) -> Answer {
     let number = BigUint::from_u128(alloc, n)?;
     match number.clone(alloc) {
         Ok(clone) if clone == number => natural(alloc, &clone),
-        Ok(_) => Err(said(alloc, "another number")),
+        Ok(_) => Err(refusal_of(alloc, "another number")),
         Err(AllocError) => Err(ran_out(alloc, number.to_u128() == Some(n))),
     }
 }
@@ -52,7 +52,7 @@ pub fn natural_clone(alloc: Global, given: &BigInt) -> Answer {
 pub fn natural_of_text(alloc: Global, octets: &[u8]) -> Answer {
     match BigUint::from_text(alloc, text_of(alloc, octets)?)? {
         Some(number) => Ok(octets_text(alloc, &encode_base127(alloc, &number)?)?),
-        None => Err(said(alloc, "no numeral")),
+        None => Err(refusal_of(alloc, "no numeral")),
     }
 }
 
@@ -60,11 +60,11 @@ pub fn natural_of_text(alloc: Global, octets: &[u8]) -> Answer {
 pub fn natural_shown(alloc: Global, number: &BigUint) -> Answer {
     let text = format!(in alloc; "{number}")?;
     if format!(in alloc; "{number:?}")? != text {
-        return Err(said(alloc, "shown in two ways"));
+        return Err(refusal_of(alloc, "shown in two ways"));
     }
     match BigUint::from_text(alloc, &text)? {
         Some(read) if read == *number => Ok(text),
-        _ => Err(said(alloc, "read as another")),
+        _ => Err(refusal_of(alloc, "read as another")),
     }
 }
 
@@ -93,7 +93,7 @@ pub fn natural_order(alloc: Global, octets: &[u8]) -> Answer {
     };
     let is_equal = !is_less && !is_more;
     if (first < second) != is_less || (second < first) != is_more || (first == second) != is_equal {
-        return Err(said(alloc, "ordered in two ways"));
+        return Err(refusal_of(alloc, "ordered in two ways"));
     }
     Ok(String::from_str(alloc, sign)?)
 }
@@ -107,7 +107,7 @@ pub fn integer(alloc: Global, number: &BigInt) -> Answer {
 // An INTEGER of the number that was made, which is to be the one that was given.
 fn same_integer(alloc: Global, given: &BigInt, number: BigInt) -> Answer {
     if number != *given {
-        return Err(said(alloc, "another number"));
+        return Err(refusal_of(alloc, "another number"));
     }
     integer(alloc, &number)
 }
@@ -156,7 +156,7 @@ pub fn integer_octets(alloc: Global, number: &BigInt) -> Answer {
 pub fn integer_shown(alloc: Global, number: &BigInt) -> Answer {
     let text = format!(in alloc; "{number}")?;
     if format!(in alloc; "{number:?}")? != text {
-        return Err(said(alloc, "shown in two ways"));
+        return Err(refusal_of(alloc, "shown in two ways"));
     }
     Ok(text)
 }

@@ -1,6 +1,6 @@
 // Calls of a type of one's own, the example `Point`.
 use crate::arguments::Argument;
-use crate::refusal::{Answer, Refusal, said};
+use crate::refusal::{Answer, Refusal, refusal_of};
 use simple_asn1::{Point, PointErr, TripFault, der_decode, der_encode, round_trip};
 use std::alloc::Global;
 use test_notation::octets_text;
@@ -37,16 +37,16 @@ pub fn tripped(alloc: Global, point: &Point) -> Answer {
 fn no_point(alloc: Global, fault: PointErr) -> Refusal {
     match fault {
         PointErr::Decode(fault) => Refusal::from(fault),
-        PointErr::Encode(_) => said(alloc, "a fault of writing in reading"),
-        PointErr::Shape => said(alloc, "refused Shape"),
+        PointErr::Encode(_) => refusal_of(alloc, "a fault of writing in reading"),
+        PointErr::Shape => refusal_of(alloc, "refused Shape"),
     }
 }
 
 // What is said where a point has no octets. Memory that ran out in reading is an answer here: it is the wrong one.
 fn no_octets(alloc: Global, fault: PointErr) -> Refusal {
     match fault {
-        PointErr::Decode(_) => said(alloc, "a fault of reading in writing"),
+        PointErr::Decode(_) => refusal_of(alloc, "a fault of reading in writing"),
         PointErr::Encode(fault) => Refusal::from(fault),
-        PointErr::Shape => said(alloc, "refused Shape"),
+        PointErr::Shape => refusal_of(alloc, "refused Shape"),
     }
 }

@@ -1,4 +1,4 @@
-// Why a call has no result, and what is said of that.
+// Why a call has no result, and the text of that.
 use simple_asn1::{ASN1DecodeErr, ASN1EncodeErr, LocatedErr};
 use std::alloc::{AllocError, AllocFailed, Global};
 use test_notation::characters_text;
@@ -6,25 +6,25 @@ use test_notation::characters_text;
 // What a call answers.
 pub type Answer = Result<String, Refusal>;
 
-// Why a call has no result. What is said of it is the answer, but of memory that ran out.
+// Why a call has no result. Its text is the answer, but where memory ran out.
 #[derive(Drop)]
 pub enum Refusal {
     Memory,
     Reading(ASN1DecodeErr),
     ReadingAt(LocatedErr),
     Writing(ASN1EncodeErr),
-    Said(String),
+    Text(String),
 }
 
 impl Refusal {
-    // What is said of it.
+    // The text of the refusal.
     pub fn text(self, alloc: Global) -> Result<String, AllocError> {
         match self {
             Refusal::Memory => Err(AllocError),
             Refusal::Reading(fault) => fault_text(alloc, &fault),
             Refusal::ReadingAt(located) => located_text(alloc, &located),
             Refusal::Writing(fault) => format!(in alloc; "refused {fault:?}"),
-            Refusal::Said(text) => Ok(text),
+            Refusal::Text(text) => Ok(text),
         }
     }
 }
@@ -52,18 +52,18 @@ fn fault_text(alloc: Global, fault: &ASN1DecodeErr) -> Result<String, AllocError
     }
 }
 
-// What is said where memory ran out: that alone, if all that the call was given is as it was.
+// The refusal where memory ran out: that alone, if all that the call was given is as it was.
 pub fn ran_out(alloc: Global, is_kept: bool) -> Refusal {
     if is_kept {
         return Refusal::Memory;
     }
-    said(alloc, "changed by a call for which memory ran out")
+    refusal_of(alloc, "changed by a call for which memory ran out")
 }
 
-// What is said in the place of a result.
-pub fn said(alloc: Global, text: &str) -> Refusal {
+// A refusal with the text.
+pub fn refusal_of(alloc: Global, text: &str) -> Refusal {
     match String::from_str(alloc, text) {
-        Ok(text) => Refusal::Said(text),
+        Ok(text) => Refusal::Text(text),
         Err(AllocError) => Refusal::Memory,
     }
 }
