@@ -70,13 +70,13 @@ fn what_cannot_be_read_is_left_out(rt: HostRuntime) -> Result<(), Fail> {
         } else {
             (Outcome::Unread, 2, 2)
         };
-        let came = [
+        let written = [
             Outcome::Written(Verdict::AllRead),
             middle,
             Outcome::Written(Verdict::AllRead),
         ];
         assert_eq!(rt; status(&outcome), number);
-        assert!(rt; outcome.is_ok_and(|outcome| outcome.as_slice() == came.as_slice()));
+        assert!(rt; outcome.is_ok_and(|outcome| outcome.as_slice() == written.as_slice()));
         assert_eq!(rt; writer.len(), shown * SHOWN.len());
     }
     Ok(())
