@@ -30,8 +30,8 @@ pub struct Attempt {
     pub tag: BigUint,
 }
 
-// What the contents octets of a frame are. The class and the tag of an attempt are read again at the frame's offset
-// when it ends: frames are moved whenever one opens or closes, so they are small.
+// What the contents octets of a frame are. The class and the tag of an attempt are kept by the builder that needs them:
+// frames are moved whenever one opens or closes, so they are small.
 #[derive(Drop)]
 pub enum FrameKind {
     // The whole document.
@@ -135,14 +135,6 @@ pub struct Reader<B, I> {
     pub builder: B,
     // Why reading stopped.
     pub fault: ASN1DecodeErr,
-}
-
-// Where a turn of a loop over frames leads: there is more to read, the document has ended, or the reader has a fault.
-#[derive(Clone, Copy)]
-pub enum Turn {
-    More,
-    End,
-    Stop,
 }
 
 // Room for so many frames is made at once: few documents have more that stand in one another.

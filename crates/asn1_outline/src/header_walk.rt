@@ -11,12 +11,20 @@ use crate::entry::Entry;
 use crate::listing::{EntryBuilder, EntryItems, header_entry};
 use asn1_blocks::parsed::{PlacedHeader, header_within};
 use asn1_blocks::read_loop::{
-    Extent, FrameKind, OpenFrame, Reader, Turn, enter, is_attempt, is_out_of_memory,
+    Extent, FrameKind, OpenFrame, Reader, enter, is_attempt, is_out_of_memory,
     is_read_inside, kind_of, out_of_memory,
 };
 use asn1_headers::error::{ASN1DecodeErr, LocatedErr};
 use asn1_headers::header::HeaderCount;
 use std::alloc::{AllocError, Global};
+
+// Where a turn of the loop leads: there is more to read, the document has ended, or the reader has a fault.
+#[derive(Clone, Copy)]
+enum Turn {
+    More,
+    End,
+    Stop,
+}
 
 // The entries of octets by their headers.
 pub fn list_headers(alloc: Global, octets: &[u8]) -> Result<Vec<Entry>, LocatedErr>

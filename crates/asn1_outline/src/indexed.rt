@@ -50,7 +50,7 @@ impl<'a> Outline<'a> {
         let Some(entry) = self.entries.get(index) else {
             return false;
         };
-        entry.is_explicit()
+        entry.is_tagged_with_one_item()
     }
 
     /// The tag number of the block at the index, also one from 2^64 on, where the entry has `u64::MAX`; `None` past the

@@ -113,8 +113,8 @@ impl Entry {
         type_name(self.class, self.tag)
     }
 
-    /// Whether its block is `Explicit`: of another class than Universal, around exactly one block.
-    pub fn is_explicit(&self) -> bool
+    // Whether it is of another class than Universal and has exactly one item.
+    pub(crate) fn is_tagged_with_one_item(&self) -> bool
         ensures { IsTrue result ↔ ((self.now.class ≢ Universal) × (self.now.items ≡ 1)) }
     {
         match self.class {

@@ -94,29 +94,19 @@ all_hold-around octets es k f gs l ts rest held =
       holds = held.1;
     }
 
--- the frames around an attempt hold what they did, without the postponed blocks of the attempt
-pub AllHold-around_attempt :
+-- the header of an attempt was kept, whatever frames are open inside it, and the frames around it hold what they did,
+-- without the postponed blocks of the attempt
+AllHold-around_attempt :
     (octets : List ℕ) (es : List Postponed) (inside : List (OpenFrame FrameBlocks)) (f g : OpenFrame FrameBlocks)
     (gs : List (OpenFrame FrameBlocks)) (lost : List (List (Tree ℕ))) (ts us : List (Tree ℕ))
     (rest : List (List (Tree ℕ))) →
     length inside ≡ length lost → all_hold octets es (inside ++ f ∷ g ∷ gs) (lost ++ ts ∷ us ∷ rest) →
-    AllHold octets (take f.items.postponed_before es) g gs us rest
+    HasHeader octets f × AllHold octets (take f.items.postponed_before es) g gs us rest
 AllHold-around_attempt octets es inside f g gs lost ts us rest m a =
     let w = HoldFront-inside (all_hold octets) (all_hold-around octets) es inside f (g ∷ gs) lost ts (us ∷ rest) m a in
     let n = f.items.postponed_before in
     let front : take n es ≡ take n w.front = ap (take n) w.whole ∙ take-append-le n w.front w.more w.holds.0.before in
-    subst (λ z. AllHold octets z g gs us rest) (sym front) w.holds.1
-
--- the header of an attempt was kept, whatever frames are open inside it
-HasHeader-attempt :
-    (octets : List ℕ) (es : List Postponed) (inside : List (OpenFrame FrameBlocks)) (f g : OpenFrame FrameBlocks)
-    (gs : List (OpenFrame FrameBlocks)) (lost : List (List (Tree ℕ))) (ts us : List (Tree ℕ))
-    (rest : List (List (Tree ℕ))) →
-    length inside ≡ length lost → all_hold octets es (inside ++ f ∷ g ∷ gs) (lost ++ ts ∷ us ∷ rest) →
-    HasHeader octets f
-HasHeader-attempt octets es inside f g gs lost ts us rest m a =
-    let w = HoldFront-inside (all_hold octets) (all_hold-around octets) es inside f (g ∷ gs) lost ts (us ∷ rest) m a in
-    w.holds.0.header
+    (w.holds.0.header, subst (λ z. AllHold octets z g gs us rest) (sym front) w.holds.1)
 
 -- at first a builder holds no trees in the frame of the document
 pub AllHold-empty : (octets : List ℕ) (e : Extent) (b : TreeBuilder) (i : FrameBlocks) → b.postponed.items ≡ [] →
@@ -274,9 +264,9 @@ module _ (octets : List ℕ) (a r : TreeBuilder) (i j : FrameBlocks) (f : OpenFr
     HasKept-as_it_came after u = record {
       holds = λ inside lost e fs ts us rest l d m here at none w.
           let k = attempt_of f in
-          let alone = HasHeader-attempt octets a.postponed.items inside f (in_frame e i) fs lost ts us rest m w after in
-          let same : k ≡ l = alone l f.extent.start here at in
-          let before = AllHold-around_attempt octets a.postponed.items inside f (in_frame e i) fs lost ts us rest m w in
+          let (header, before) =
+          AllHold-around_attempt octets a.postponed.items inside f (in_frame e i) fs lost ts us rest m w in
+          let same : k ≡ l = header after l f.extent.start here at in
           let more = AllHold-add_as_it_came octets c r i j e fs us rest k f.extent.start f.extent.end u
           (subst (λ z. AllHold octets z (in_frame e i) fs us rest) (sym cut) before) in
           subst (λ z. AllHold octets r.postponed.items (in_frame e j) fs

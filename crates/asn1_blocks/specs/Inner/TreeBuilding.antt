@@ -12,11 +12,12 @@ use Rattle.asn1_blocks.specs.Inner.Postponed.{Builds}
 use Rattle.asn1_blocks.specs.Tree.{Tree}
 use Rattle.asn1_blocks.specs.View.{view}
 
--- the attempt that the frame is, by the header that was kept, if it is one
+-- the attempt with the class and the tag that were kept of the frame's header
 abbrev pub attempt_of : OpenFrame FrameBlocks → Attempt
 attempt_of f = record { class = f.items.class; offset = f.extent.offset; tag = f.items.tag }
 
--- the header was kept: where one stands before the contents octets, the attempt is by it
+-- where a header stands before the contents octets, its class and tag were kept: whichever attempt begins at the
+-- frame's offset and ends where the frame does, it has these
 abbrev pub HasHeader : List ℕ → OpenFrame FrameBlocks → Type 0
 HasHeader octets f =
     f.extent.offset < f.extent.start → IsAttemptAlone octets f.extent.offset f.extent.end (attempt_of f)

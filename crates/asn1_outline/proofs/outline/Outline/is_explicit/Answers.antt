@@ -18,11 +18,11 @@ returns c ns d =
     let within = subst (λ z. k < length z) c.deref.ensures.value found.0 in
     let (octets, s, is) = IsStanding-structure x ns d k (nodes-within x es ns k o.document d within) in
     let items = items-looked_up x es ns k o.document d c.deref.result.now r c.deref.ensures.value found in
-    let tested = c.is_explicit.result in
+    let tested = c.is_tagged_with_one_item.result in
     let prop : IsProp (tested ≡ is_explicit (tree_at ns k)) = hlevel props in
     IsEntryOf-looked_up x es ns k o.document d c.deref.result.now r c.deref.ensures.value found
     (tested ≡ is_explicit (tree_at ns k)) prop
-    (λ e. is_explicit-tested x r (node_at ns k) tested is e items c.is_explicit.ensures)
+    (λ e. is_explicit-tested x r (node_at ns k) tested is e items c.is_tagged_with_one_item.ensures)
 
 pub returns-in_default : goal.returns-in_default
 returns-in_default c ns d =
