@@ -89,6 +89,12 @@ and-not_leading true b front other = elim (cases_Bool (b == 128)) [
   | inr e ↦ e
 ]
 
+-- the last octet is below 80 if the last behind the first one is, or if the first one is where there are no more
+last_octet-cons-lt : (b : ℕ) (rest : List ℕ) → (0 < length rest → last_octet rest < 128) → (length rest ≡ 0 → b < 128) →
+    last_octet (b ∷ rest) < 128
+last_octet-cons-lt b [] h low = low refl
+last_octet-cons-lt b (c ∷ rest) h low = omega (arith, get_or-last_cons b c rest, h (omega arith))
+
 -- a subidentifier that does not begin with an octet 80, and unpadded, ended ones behind it, are unpadded and ended
 is_padded_from-continued :
     (first rest : List ℕ) (begins : Bool) → IsContinued first → (begins ≡ true → (more : List ℕ) → first ≢ 128 ∷ more) →
@@ -99,14 +105,8 @@ is_padded_from-continued (b ∷ []) rest begins p other e =
     let ends : nat_lt b 128 ≡ true = grind (arith, nat_tests, p) in (
       ap₂ (λ x y. x || is_padded_from y rest) (and-not_leading begins b [] (λ t more f. other t more f)) ends
           ∙ e.unpadded,
-      last_of b rest p e.last,
+      last_octet-cons-lt b rest e.last (λ none. p),
     )
-  where
-    -- an octet below 80 before others leaves the last octet below 80, if the last of them is, or there are none
-    last_of : (b : ℕ) (rest : List ℕ) → b < 128 → (0 < length rest → last_octet rest < 128) →
-        last_octet (b ∷ rest) < 128
-    last_of b [] low h = low
-    last_of b (c ∷ rest) low h = omega (arith, get_or-last_cons b c rest, h (omega arith))
 is_padded_from-continued (b ∷ c ∷ first) rest begins (high, p) other e =
     let goes : nat_lt b 128 ≡ false = grind (arith, nat_tests, high) in
     let i = is_padded_from-continued (c ∷ first) rest false p (λ t. absurd (false≢true t)) e in (
@@ -152,12 +152,6 @@ are_subidentifiers-unended octets high =
     ap (λ z. z && not (has_padded_component octets))
     (and_right (nat_lt 0 (length octets)) (nat_lt (last_octet octets) 128) b)
 
--- the last octet is below 80 if the last behind the first one is, or if the first one is where there are no more
-get_or-last-lt : (b : ℕ) (rest : List ℕ) → (0 < length rest → last_octet rest < 128) → (length rest ≡ 0 → b < 128) →
-    last_octet (b ∷ rest) < 128
-get_or-last-lt b [] h low = low refl
-get_or-last-lt b (c ∷ rest) h low = omega (arith, get_or-last_cons b c rest, h (omega arith))
-
 -- the shortest subidentifiers of one number or more are not empty
 length-shortest-positive : (n : ℕ) (ns : List ℕ) → 0 < length (flat_map shortest_base128 (n ∷ ns))
 length-shortest-positive n ns =
@@ -177,7 +171,7 @@ are_subidentifiers-cons b ns = elim (cases_lt b 128) [
       let other : (b == 128) ≡ false = grind (arith, nat_tests, low) in
       let rest = FollowUnpadded-shortest ns in
       are_subidentifiers-ended (b ∷ flat_map shortest_base128 ns) (omega arith)
-      (get_or-last-lt b (flat_map shortest_base128 ns) rest.last (λ none. low))
+      (last_octet-cons-lt b (flat_map shortest_base128 ns) rest.last (λ none. low))
       (ap₂ (λ x y. x || is_padded_from y (flat_map shortest_base128 ns)) other is ∙ rest.unpadded)
       ∙ sym (ap (λ z. z || (nat_lt 128 b && nat_lt 0 (length ns))) is)
   | inr high ↦ elim (cases_lt 128 b) [
@@ -208,7 +202,7 @@ are_subidentifiers-cons b ns = elim (cases_lt b 128) [
         let other : (b == 128) ≡ false = grind (arith, nat_tests, above) in
         let more : nat_lt 0 (length (n ∷ ns)) ≡ true = grind (arith, nat_tests) in
         are_subidentifiers-ended (b ∷ rest) (omega arith)
-        (get_or-last-lt b rest ended.last (λ none. absurd (omega (arith, none, length-shortest-positive n ns))))
+        (last_octet-cons-lt b rest ended.last (λ none. absurd (omega (arith, none, length-shortest-positive n ns))))
         (ap₂ (λ x y. x || is_padded_from y rest) other goes ∙ is_padded_from-shortest n ns)
         ∙ (sym more ∙ sym (right_is b above (nat_lt 0 (length (n ∷ ns)))))
 
