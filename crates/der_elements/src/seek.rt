@@ -15,7 +15,6 @@ use asn1_headers::tags::{BIT_STRING, OCTET_STRING};
 use asn1_headers::whole_header::Header;
 use std::alloc::{AllocError, Global};
 
-// The tags of strings that may hold encodings.
 // What is looked for begins so many octets further on in octets, which stand inside so many contents octets of the
 // indefinite form.
 #[derive(Clone, Copy)]

@@ -91,7 +91,7 @@ fn push_dump<W: Write>(
     push_lines(alloc, names, style, octets, is_strict, printer)
 }
 
-// Prints the rows of octets, of which there are some or none, and what is wrong with them.
+// Prints the rows of octets, of which there is at least one, and what is wrong with them.
 fn push_lines<W: Write>(
     alloc: Global,
     names: &Names,
