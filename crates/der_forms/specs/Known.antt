@@ -1,5 +1,5 @@
 -- The form of an input, by its text.
-use Rattle.std.specs.Prelude.{ℕ, Bool, false, not, ◌==◌, ◌||◌, ◌&&◌, ◌+◌, ◌*◌, nat_le, nat_lt, List, [], ◌∷◌, Option, Some, None, Result, Ok, Err, drop, if◌then◌else◌, length}
+use Rattle.std.specs.Prelude.{ℕ, zero, suc, Bool, false, not, ◌==◌, ◌||◌, ◌&&◌, ◌+◌, ◌-◌, ◌*◌, nat_le, nat_lt, List, [], ◌∷◌, Option, Some, None, Result, Ok, Err, drop, if◌then◌else◌, length}
 use Rattle.std.specs.Char.{is_ascii_hexdigit}
 use Rattle.std.specs.Result.{result_ok}
 use Rattle.std.specs.Str.{is_utf8}
@@ -19,31 +19,18 @@ abbrev pub of_hex_digits : Result (List ℕ) FromHexError → InputKind
 of_hex_digits (Ok octets) = spelled octets
 of_hex_digits (Err e) = odd_digits
 
--- as many octets follow a number of one, two or three octets as it says
-abbrev pub fits_one : List ℕ → Bool
-fits_one [] = false
-fits_one (a ∷ rest) = a == length rest
+-- so many octets go on with a number in base 256, and as many octets follow as it says
+abbrev pub number_fits : (count number : ℕ) → List ℕ → Bool
+number_fits zero number rest = number == length rest
+number_fits (suc count) number [] = false
+number_fits (suc count) number (octet ∷ rest) = number_fits count (256 * number + octet) rest
 
-abbrev pub fits_two : List ℕ → Bool
-fits_two [] = false
-fits_two (a ∷ []) = false
-fits_two (a ∷ b ∷ rest) = 256 * a + b == length rest
-
-abbrev pub fits_three : List ℕ → Bool
-fits_three [] = false
-fits_three (a ∷ []) = false
-fits_three (a ∷ b ∷ []) = false
-fits_three (a ∷ b ∷ c ∷ rest) = 65536 * a + 256 * b + c == length rest
-
--- length octets of the definite form, and as many octets behind them as they say
+-- length octets of the definite form, and as many octets behind them as they say (X.690 8.1.3)
 abbrev pub length_fits : List ℕ → Bool
 length_fits [] = false
 length_fits (n ∷ rest) =
     if nat_lt n 128 then n == length rest
-    else if n == 129 then fits_one rest
-    else if n == 130 then fits_two rest
-    else if n == 131 then fits_three rest
-    else false
+    else nat_lt 128 n && nat_lt n 255 && number_fits (n - 128) 0 rest
 
 -- the octets are one SEQUENCE, to their end
 abbrev pub is_sequence : List ℕ → Bool
