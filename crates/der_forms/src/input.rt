@@ -186,26 +186,24 @@ fn length_fits(octets: &[u8]) -> bool
         return false;
     };
     match *n {
-        0x81..=0xFE => number_fits(*n - 0x80, rest),
+        0x81..=0xFE => number_fits(usize::from(*n - 0x80), rest),
         n => n < 0x80 && usize::from(n) == rest.len(),
     }
 }
 
 // Whether so many octets are a number, which may be padded, and as many octets follow as it says.
-fn number_fits(count: u8, octets: &[u8]) -> bool
-    ensures { result ≡ number_fits count 0 octets.now }
+fn number_fits(count: usize, octets: &[u8]) -> bool
+    ensures { result ≡ number_fits count octets.now }
 {
-    let mut rest = octets;
+    let Some((digits, rest)) = octets.split_at_checked(count) else {
+        return false;
+    };
     let mut number = 0u128;
-    for _ in 0..count {
-        let [octet, after @ ..] = rest else {
-            return false;
-        };
-        number = 256 * number + u128::from(*octet);
-        if number > after.len() as u128 {
+    for digit in digits {
+        number = 256 * number + u128::from(*digit);
+        if number > rest.len() as u128 {
             return false;
         }
-        rest = after;
     }
     number == rest.len() as u128
 }
