@@ -1,4 +1,6 @@
 // What stands in extensions of certificates and of revocation lists (RFC 5280, section 4.2).
+ghost use Rattle.std.specs.Prelude.{◌≡◌, ◌+◌, ◌*◌, ◌<◌, [], length, IfOk, string_bytes};
+
 use std::alloc::{AllocError, Global};
 use std::net::{Ipv4Addr, Ipv6Addr};
 
@@ -113,7 +115,9 @@ pub fn bit_names(
     kind: NamedBits,
     count: usize,
     octets: &[u8],
-) -> Result<String, AllocError> {
+) -> Result<String, AllocError>
+    ensures { IfOk result (λ names. count + 7 < 8 * length octets.now → string_bytes names ≡ []) }
+{
     let mut names = String::new(alloc);
     if count.div_ceil(8) < octets.len() {
         return Ok(names);
