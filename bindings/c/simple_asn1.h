@@ -181,8 +181,9 @@ uint32_t simple_asn1_version(void);
  * so the number of a large document's records can be asked for without room, and just that room given then. */
 simple_asn1_outcome simple_asn1_read(const uint8_t *octets, size_t size, simple_asn1_block *blocks, size_t room);
 
-/* The same, for documents in canonical form (DER) only. A document of more than 8,192 bytes is read twice, unless there
- * is room for size / 2 records. */
+/* The same, for documents in canonical form only, which is what simple_asn1_rewrite writes. It is not quite DER: the
+ * head of this file says how they differ. A document of more than 8,192 bytes is read twice, unless there is room for
+ * size / 2 records. */
 simple_asn1_outcome simple_asn1_read_strict(const uint8_t *octets, size_t size, simple_asn1_block *blocks, size_t room);
 
 /* The same by headers alone: contents octets of leaves are not checked, so a document with faults in them can be walked
@@ -215,7 +216,8 @@ simple_asn1_outcome simple_asn1_check(const uint8_t *octets, size_t size);
 simple_asn1_outcome simple_asn1_departures(const uint8_t *octets, size_t size, simple_asn1_departure *departures,
                                            size_t room);
 
-/* Writes the canonical bytes (DER) of a document. */
+/* Writes the canonical bytes of a document. They are not always DER: a BIT STRING of no bits is written 03 00, where DER
+ * has 03 01 00. simple_asn1_departures says whether bytes are DER. */
 simple_asn1_outcome simple_asn1_rewrite(const uint8_t *octets, size_t size, uint8_t *out, size_t room);
 
 /* Writes the canonical bytes of what records describe: one with items holds the records after it; any other has the

@@ -24,7 +24,7 @@ CREATE FUNCTION der_oid(document bytea, "offset" int) RETURNS text
 CREATE FUNCTION der_time(document bytea, "offset" int) RETURNS timestamptz
     AS 'MODULE_PATHNAME' LANGUAGE C IMMUTABLE STRICT PARALLEL SAFE COST 10;
 
--- The canonical bytes (DER) of a document.
+-- The canonical bytes of a document. They are not always DER: a BIT STRING of no bits is 03 00, where DER has 03 01 00.
 CREATE FUNCTION der_rewrite(document bytea) RETURNS bytea
     AS 'MODULE_PATHNAME' LANGUAGE C IMMUTABLE STRICT PARALLEL SAFE COST 500;
 

@@ -294,7 +294,11 @@ def read(octets: Octets) -> Document:
 
 
 def read_strict(octets: Octets) -> Document:
-    """Reads a document in canonical form (DER). Raises Refused for any other."""
+    """Reads a document in canonical form. Raises Refused for any other.
+
+    Canonical is what `rewrite` returns, which is not quite DER: a BIT STRING of no bits is 03 00, where DER has 03 01 00.
+    Section 6 of the library's docs/GRAMMAR.md has the whole list, and `departures` says whether octets are DER.
+    """
     return Document(octets, strict=True)
 
 
@@ -314,7 +318,7 @@ def check(octets: Octets) -> None:
 
 
 def rewrite(octets: Octets) -> bytes:
-    """The canonical octets (DER) of a document."""
+    """The canonical octets of a document, as `read_strict` accepts them."""
     return _calls.rewrite(octets_of(octets))
 
 
