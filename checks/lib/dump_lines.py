@@ -528,7 +528,7 @@ class Identifiers:
 
 
 def check_examples(program, work, roots):
-    """The examples of docs/DUMP.md for jq, each as it stands there."""
+    """The examples of docs/DUMP.md for jq, each as it stands there, but of the certificates of the folder."""
     missing = [it for it in ("jq", "openssl") if not shutil.which(it)]
     if missing:
         tell(f"the examples of docs/DUMP.md are NOT CHECKED, there is no {', '.join(missing)}")
@@ -557,6 +557,9 @@ def check_examples(program, work, roots):
     for example, output in printed:
         if run(example, folder) != output:
             fail(f"docs/DUMP.md: {example.strip()} gives {run(example, folder)}")
+    names = r"(?<=^der_dump --json )[^|]*(?= \|)"
+    files = ("*.pem", "certificate.pem", "certificate.pem")
+    examples = [re.sub(names, each_files, example) for example, each_files in zip(examples, files)]
     paths = sorted(folder.glob("*.pem"))
     lines = {line["file"]: line for line in map(json.loads, run(examples[0], folder).splitlines())}
     identifiers, right, named = Identifiers(), [0, 0, 0], 0
