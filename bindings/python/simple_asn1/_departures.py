@@ -54,6 +54,9 @@ class Rule(enum.IntEnum):
     NOT_ENCODINGS = 27, "contents that are not encodings", "8.1.2.5"
 
 
+_RULES = {rule.value: rule for rule in Rule}
+
+
 class Departure(NamedTuple):
     """A rule that an encoding breaks, and where the encoding begins."""
 
@@ -74,6 +77,6 @@ def departures(octets: Octets) -> List[Departure]:
     """
     found = []
     for offset, number in _calls.departures(octets_of(octets)):
-        rule = Rule(number)
+        rule = _RULES[number]
         found.append(Departure(offset, rule, rule.section, rule.text))
     return found

@@ -74,7 +74,7 @@ impl<'a> Document<'a> {
         self.octets
     }
 
-    /// The records of all blocks, as [`write`] takes them.
+    /// The records of all blocks, as [`write()`] takes them.
     pub fn records(&self) -> &[Record] {
         &self.records
     }
