@@ -130,6 +130,8 @@ class Reading(unittest.TestCase):
         self.assertEqual(simple_asn1.write(loose, records), canonical)
         records[0] = records[0]._replace(items=2)
         self.assertEqual(self.refused(simple_asn1.write, loose, records), (Status.BAD_RECORD, 0))
+        records[1] = records[1]._replace(tag_class=4)
+        self.assertEqual(self.refused(simple_asn1.write, loose, records), (Status.BAD_RECORD, 1))
 
     def test_signed_parts_are_octets_of_the_document(self):
         triple = bytes.fromhex("30 0E 30 03 02 01 01 30 03 06 01 2A 03 02 00 99")

@@ -7,8 +7,8 @@ use std::fmt;
 #[derive(Clone, Copy, Debug, PartialEq, Eq, Hash)]
 pub struct Fault {
     pub kind: FaultKind,
-    /// The offset of the block at fault, in bytes from the start; for [`FaultKind::BadRecord`] the record's index, and
-    /// for a value that a [`Builder`](crate::Builder) cannot add the index of its block.
+    /// The offset of the block at fault, in bytes from the start; for [`FaultKind::BadRecord`] the index of the last
+    /// such record, and for a value that a [`Builder`](crate::Builder) cannot add the index of its block.
     pub offset: usize,
 }
 
