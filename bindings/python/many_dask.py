@@ -2,8 +2,8 @@
 
 A log has a certificate in base64 on each line. Each worker must find the logs under these names, and the package
 simple_asn1. Issuers, types of keys and last years are counted, and lines at fault are listed with why. Texts of names
-are escaped, so that none makes a line. The part that a lost worker was to read is read by another one; Dask's dashboard
-shows how far the parts are."""
+are escaped by certificate.py, which is beside this file: none makes a line. The part that a lost worker was to read is
+read by another one; Dask's dashboard shows how far the parts are."""
 import base64
 import collections
 import functools
