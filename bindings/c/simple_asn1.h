@@ -59,7 +59,7 @@ enum { /* what calls return */
     SIMPLE_ASN1_NO_SUCH_VALUE = 12,    /* there is no block of this kind at the offset */
     SIMPLE_ASN1_RANGE = 13,            /* the value does not fit */
     SIMPLE_ASN1_NOT_SIGNED = 14,       /* the first block is not a signed triple */
-    SIMPLE_ASN1_BAD_RECORD = 15,       /* write: the record at index `offset` cannot be written */
+    SIMPLE_ASN1_BAD_RECORD = 15,       /* write: the record at index `offset` cannot be written; the last such one */
     SIMPLE_ASN1_NOT_OID = 16           /* put: the text is not an OBJECT IDENTIFIER's, as 1.2.840 is */
 };
 
@@ -223,7 +223,9 @@ simple_asn1_outcome simple_asn1_rewrite(const uint8_t *octets, size_t size, uint
 /* Writes the canonical bytes of what records describe: one with items holds the records after it; any other has the
  * contents octets from offset + header on. Records that were read can be passed as they are; next and depth are
  * ignored. Several blocks in one of another class than 0 get the shortest headers, where rewrite keeps them as they
- * came. A record with the tag UINT64_MAX is a BAD_RECORD, since that number also stands for each greater one. */
+ * came. BAD_RECORD has the index of the last record that cannot be written: its class is above 3, its tag is
+ * UINT64_MAX, which also stands for each greater number, it has more items than blocks stand behind it, or its contents
+ * octets are not within these bytes. */
 simple_asn1_outcome simple_asn1_write(const uint8_t *octets, size_t size, const simple_asn1_block *blocks, size_t count,
                                       uint8_t *out, size_t room);
 

@@ -1,6 +1,6 @@
 """Which rules of DER octets break, and where."""
 import enum
-from typing import List, NamedTuple
+from typing import List, NamedTuple, Optional
 
 from . import _calls
 from ._calls import Octets, octets_of
@@ -20,6 +20,16 @@ class Rule(enum.IntEnum):
         rule._value_ = number
         rule.text = text
         rule.section = section
+        return rule
+
+    @classmethod
+    def _missing_(cls, value: object) -> "Optional[Rule]":
+        """A rule of a later library, which has only its number here."""
+        if not isinstance(value, int) or value < 0:
+            return None
+        rule = int.__new__(cls, value)
+        rule._name_, rule._value_ = f"UNKNOWN_{value}", value
+        rule.text, rule.section = f"unknown rule {value}", ""
         return rule
 
     LONG_IDENTIFIER = 1, "tag number below 31 in more than one byte", "8.1.2.2"
@@ -66,7 +76,8 @@ class Departure(NamedTuple):
     text: str
 
     def __str__(self) -> str:
-        return f"{self.text} ({self.section}), at {self.offset}"
+        section = f" ({self.section})" if self.section else ""
+        return f"{self.text}{section}, at {self.offset}"
 
 
 def departures(octets: Octets) -> List[Departure]:
