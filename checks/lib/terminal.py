@@ -85,7 +85,7 @@ is_so("a short input is not told of", b"\r7 MB read" not in told)
 
 with open("/dev/full", "wb") as full:
     ran = subprocess.run([PROGRAM, "--help"], stdout=full, stderr=subprocess.PIPE)
-is_so("help that can't be written has status 2", ran.returncode == 2)
+is_so("help that can't be written has status 2", (ran.returncode, ran.stderr) == (2, b"error: write fault\n"))
 # the reader of the output goes after its first bytes
 many = b"\x05\x00" * 100000
 ran = subprocess.run(["sh", "-c", '"$0" | head -c 1', PROGRAM], input=many, capture_output=True)
