@@ -46,7 +46,7 @@ def wrong_samples(top, program, page, room):
     wrong, count = [], 0
     for command, shown in samples_of((top / page).read_text(), program.name):
         if re.search(r"\| jq ", command) and not shutil.which("jq"):
-            print(f"pages: {page}: NOT CHECKED, there is no jq: {command.splitlines()[0]}")
+            print(f"pages: NOT CHECKED for {page}, there is no jq: {command.splitlines()[0]}")
             continue
         count += 1
         ran = subprocess.run(["bash", "-c", command], cwd=place, capture_output=True, env=environment)
