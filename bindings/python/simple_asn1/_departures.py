@@ -24,12 +24,14 @@ class Rule(enum.IntEnum):
 
     @classmethod
     def _missing_(cls, value: object) -> "Optional[Rule]":
+        return cls._unknown(value) if isinstance(value, int) and value >= 0 else None
+
+    @classmethod
+    def _unknown(cls, number: int) -> "Rule":
         """A rule of a later library, which has only its number here."""
-        if not isinstance(value, int) or value < 0:
-            return None
-        rule = int.__new__(cls, value)
-        rule._name_, rule._value_ = f"UNKNOWN_{value}", value
-        rule.text, rule.section = f"unknown rule {value}", ""
+        rule = int.__new__(cls, number)
+        rule._name_, rule._value_ = f"UNKNOWN_{number}", number
+        rule.text, rule.section = f"unknown rule {number}", ""
         return rule
 
     LONG_IDENTIFIER = 1, "tag number below 31 in more than one byte", "8.1.2.2"
@@ -88,6 +90,6 @@ def departures(octets: Octets) -> List[Departure]:
     """
     found = []
     for offset, number in _calls.departures(octets_of(octets)):
-        rule = _RULES[number]
+        rule = _RULES.get(number) or Rule._unknown(number)
         found.append(Departure(offset, rule, rule.section, rule.text))
     return found

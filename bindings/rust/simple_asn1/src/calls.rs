@@ -1,4 +1,4 @@
-//! The calls of `simple_asn1.h`. All unsafe code is in this file, in `growing` and in `once`.
+//! The calls of `simple_asn1.h`. All unsafe code is in this file, in `growing` and in `once_lock`.
 
 use crate::sys;
 use std::alloc::{handle_alloc_error, Layout};

@@ -7,7 +7,7 @@ mod convert;
 mod error;
 mod growing;
 mod oid;
-mod once;
+mod once_lock;
 mod read;
 mod write;
 

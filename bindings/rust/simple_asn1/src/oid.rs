@@ -1,4 +1,4 @@
-use crate::once::Once;
+use crate::once_lock::OnceLock;
 use crate::{base128, calls, write, ASN1DecodeErr, ASN1EncodeErr, BigUint};
 use std::fmt;
 
@@ -10,14 +10,14 @@ pub struct OID(Origin);
 #[derive(Clone)]
 enum Origin {
     Made(Vec<BigUint>),
-    Short { size: u8, octets: [u8; SHORT], components: Once<Vec<BigUint>> },
+    Short { size: u8, octets: [u8; SHORT], components: OnceLock<Vec<BigUint>> },
     Long(Box<Long>),
 }
 
 #[derive(Clone)]
 struct Long {
     octets: Box<[u8]>,
-    components: Once<Vec<BigUint>>,
+    components: OnceLock<Vec<BigUint>>,
 }
 
 /// So many contents octets make no block larger.
@@ -57,12 +57,12 @@ impl OID {
         };
         let mut octets = [0; SHORT];
         octets.copy_from_slice(&short[..SHORT]);
-        OID(Origin::Short { size: size as u8, octets, components: Once::new() })
+        OID(Origin::Short { size: size as u8, octets, components: OnceLock::new() })
     }
 
     #[cold]
     fn of_many(contents: &[u8]) -> OID {
-        OID(Origin::Long(Box::new(Long { octets: contents.into(), components: Once::new() })))
+        OID(Origin::Long(Box::new(Long { octets: contents.into(), components: OnceLock::new() })))
     }
 
     /// The contents octets that it was read from.

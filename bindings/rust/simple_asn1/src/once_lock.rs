@@ -1,29 +1,30 @@
-//! A value that is made when it is first asked for, as `std::sync::OnceLock` has it from Rust 1.70 on.
+//! What the crate needs of `std::sync::OnceLock`, which Rust has from 1.70 on.
 
 use std::cell::UnsafeCell;
 use std::panic::{RefUnwindSafe, UnwindSafe};
-use std::sync;
+use std::sync::Once;
 
-pub(crate) struct Once<T> {
-    once: sync::Once,
+/// A value that is made when it is first asked for.
+pub(crate) struct OnceLock<T> {
+    once: Once,
     value: UnsafeCell<Option<T>>,
 }
 
 // SAFETY: one thread writes the value, while each other that asks for it waits, and after that it is only read. So it
 // may be shared where it may be read by several threads at once, and dropped by another one than that which made it.
-unsafe impl<T: Send + Sync> Sync for Once<T> {}
+unsafe impl<T: Send + Sync> Sync for OnceLock<T> {}
 
 // a value is there whole or not at all, also after a panic
-impl<T: UnwindSafe + RefUnwindSafe> RefUnwindSafe for Once<T> {}
+impl<T: UnwindSafe + RefUnwindSafe> RefUnwindSafe for OnceLock<T> {}
 
-impl<T> Once<T> {
-    pub const fn new() -> Once<T> {
-        Once { once: sync::Once::new(), value: UnsafeCell::new(None) }
+impl<T> OnceLock<T> {
+    pub const fn new() -> OnceLock<T> {
+        OnceLock { once: Once::new(), value: UnsafeCell::new(None) }
     }
 
     /// The value, if it was made.
-    pub fn get(&self) -> Option<&T> {
-        // SAFETY: what is completed is not written again.
+    fn get(&self) -> Option<&T> {
+        // SAFETY: once it is completed, nothing writes it.
         self.once.is_completed().then(|| unsafe { &*self.value.get() })?.as_ref()
     }
 
@@ -35,9 +36,9 @@ impl<T> Once<T> {
     }
 }
 
-impl<T: Clone> Clone for Once<T> {
-    fn clone(&self) -> Once<T> {
-        let copy = Once::new();
+impl<T: Clone> Clone for OnceLock<T> {
+    fn clone(&self) -> OnceLock<T> {
+        let copy = OnceLock::new();
         if let Some(value) = self.get() {
             copy.get_or_init(|| value.clone());
         }
