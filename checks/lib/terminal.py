@@ -98,4 +98,6 @@ if NAMES.exists():
     good = sum(name in line for name, line in zip(wanted, lines))
     print(f"terminal: {good} of {len(named)} identifiers have their names of dumpasn1")
     is_so("names of dumpasn1", good == len(named) == len(lines))
+else:
+    print(f"dumps: NOT CHECKED with the names of dumpasn1, there is no {NAMES}")
 sys.exit(1 if wrong else 0)
