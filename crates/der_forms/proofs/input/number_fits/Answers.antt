@@ -1,5 +1,5 @@
 -- For `input::number_fits`: a number beyond the octets that follow does not fit.
-use Rattle.std.proofs.Common.{◌≡◌, ◌≤◌, ℕ, ◌+◌, ◌*◌, drop, get_or, sym, ap, suc, subst, ◌∙◌}
+use Rattle.std.proofs.Common.{◌≡◌, ◌≤◌, ◌+◌, ◌*◌, drop, get_or, sym, ap, suc, subst, ◌∙◌}
 use Rattle.std.proofs.Math.Seq.{drop-cons}
 use Rattle.der_forms.specs.Known.{with_digits}
 use Rattle.der_forms.proofs.Numbers.{le-with_digits, number_fits-beyond}
