@@ -115,8 +115,8 @@ fn write_all_of<R: Read + Drop, W: Write>(
     Ok(outcomes)
 }
 
-// Writes what is wanted of each input, one after another, with what stands before and behind it. Of inputs none of which
-// can be read nothing is written.
+// Writes what is wanted of each input, one after another, with what stands before and behind it. Of inputs none of
+// which can be read nothing is written.
 fn push_sources<R: Read + Drop, W: Write>(
     show: &Show,
     sources: &mut [Source<'_, R>],

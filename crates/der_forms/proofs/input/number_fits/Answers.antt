@@ -1,5 +1,5 @@
 -- For `input::number_fits`: a number beyond the octets that follow does not fit.
-use Rattle.std.proofs.Common.{◌≡◌, ◌≤◌, ℕ, ◌+◌, ◌*◌, drop, get_or, sym, ap, suc, subst, ◌∙◌}
+use Rattle.std.proofs.Common.{◌≡◌, ◌≤◌, ◌+◌, ◌*◌, drop, get_or, sym, ap, suc, subst, ◌∙◌}
 use Rattle.std.proofs.Math.Seq.{drop-cons}
 use Rattle.der_forms.specs.Known.{with_digits}
 use Rattle.der_forms.proofs.Numbers.{le-with_digits, number_fits-beyond}
@@ -12,7 +12,8 @@ returns-then-number-rest c =
     let octets = c.args.octets.now in
     let i = c.loop-digit.digit-index in
     let number = 256 * c.loop-digit.number + c.from.result in
-    let same : with_digits (256 * c.loop-digit.number + get_or digits i 0) (drop (suc i) digits) ≡ with_digits 0 digits =
+    let same : with_digits (256 * c.loop-digit.number + get_or digits i 0) (drop (suc i) digits)
+    ≡ with_digits 0 digits =
     ap (with_digits c.loop-digit.number) (sym (drop-cons digits i 0 c.loop-digit-test.true))
     ∙ c.loop-digit.invariant.same in
     let more : number ≤ with_digits 0 digits =
