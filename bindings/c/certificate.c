@@ -79,11 +79,21 @@ static char *value_of(value_call *call, size_t block, size_t *length)
     return value;
 }
 
-/* The backslash, controls, and characters that can't be seen or turn the direction of a line. */
+/* The signs that the lines below have themselves, and characters that can't be seen or that move what stands beside
+ * them: of Unicode, Cc, Zl, Zp, Default_Ignorable_Code_Point and U+FFF9 to U+FFFB. */
 static int is_hidden(uint32_t c)
 {
-    return c == '\\' || c < 0x20 || (c >= 0x7F && c <= 0x9F) || (c >= 0x200B && c <= 0x200F) ||
-           (c >= 0x2028 && c <= 0x202E) || (c >= 0x2060 && c <= 0x206F) || c == 0xFEFF;
+    static const uint32_t hidden[][2] = {
+        {'#', '#'},         {'=', '='},         {'\\', '\\'},       {0x00, 0x1F},     {0x7F, 0x9F},
+        {0xAD, 0xAD},       {0x34F, 0x34F},     {0x61C, 0x61C},     {0x115F, 0x1160}, {0x17B4, 0x17B5},
+        {0x180B, 0x180F},   {0x200B, 0x200F},   {0x2028, 0x202E},   {0x2060, 0x206F}, {0x3164, 0x3164},
+        {0xFE00, 0xFE0F},   {0xFEFF, 0xFEFF},   {0xFFA0, 0xFFA0},   {0xFFF0, 0xFFFB}, {0x1BCA0, 0x1BCA3},
+        {0x1D173, 0x1D17A}, {0xE0000, 0xE0FFF},
+    };
+    for (size_t k = 0; k < sizeof hidden / sizeof *hidden; k++)
+        if (c >= hidden[k][0] && c <= hidden[k][1])
+            return 1;
+    return 0;
 }
 
 /* Prints UTF-8 of this length, which may have a 0 in it, with what would hide or fake a part of it escaped. */

@@ -59,7 +59,7 @@ enum { /* what calls return */
     SIMPLE_ASN1_NO_SUCH_VALUE = 12,    /* there is no block of this kind at the offset */
     SIMPLE_ASN1_RANGE = 13,            /* the value does not fit */
     SIMPLE_ASN1_NOT_SIGNED = 14,       /* the first block is not a signed triple */
-    SIMPLE_ASN1_BAD_RECORD = 15,       /* write: the record at index `offset` cannot be written */
+    SIMPLE_ASN1_BAD_RECORD = 15,       /* write: the record at index `offset` cannot be written; the last such one */
     SIMPLE_ASN1_NOT_OID = 16           /* put: the text is not an OBJECT IDENTIFIER's, as 1.2.840 is */
 };
 
@@ -181,8 +181,9 @@ uint32_t simple_asn1_version(void);
  * so the number of a large document's records can be asked for without room, and just that room given then. */
 simple_asn1_outcome simple_asn1_read(const uint8_t *octets, size_t size, simple_asn1_block *blocks, size_t room);
 
-/* The same, for documents in canonical form (DER) only. A document of more than 8,192 bytes is read twice, unless there
- * is room for size / 2 records. */
+/* The same, for documents in canonical form only, which is what simple_asn1_rewrite writes. It is not quite DER: the
+ * head of this file says how they differ. A document of more than 8,192 bytes is read twice, unless there is room for
+ * size / 2 records. */
 simple_asn1_outcome simple_asn1_read_strict(const uint8_t *octets, size_t size, simple_asn1_block *blocks, size_t room);
 
 /* The same by headers alone: contents octets of leaves are not checked, so a document with faults in them can be walked
@@ -215,13 +216,16 @@ simple_asn1_outcome simple_asn1_check(const uint8_t *octets, size_t size);
 simple_asn1_outcome simple_asn1_departures(const uint8_t *octets, size_t size, simple_asn1_departure *departures,
                                            size_t room);
 
-/* Writes the canonical bytes (DER) of a document. */
+/* Writes the canonical bytes of a document. They are not always DER: a BIT STRING of no bits is written 03 00, where DER
+ * has 03 01 00. simple_asn1_departures says whether bytes are DER. */
 simple_asn1_outcome simple_asn1_rewrite(const uint8_t *octets, size_t size, uint8_t *out, size_t room);
 
 /* Writes the canonical bytes of what records describe: one with items holds the records after it; any other has the
  * contents octets from offset + header on. Records that were read can be passed as they are; next and depth are
  * ignored. Several blocks in one of another class than 0 get the shortest headers, where rewrite keeps them as they
- * came. A record with the tag UINT64_MAX is a BAD_RECORD, since that number also stands for each greater one. */
+ * came. BAD_RECORD has the index of the last record that cannot be written: its class is above 3, its tag is
+ * UINT64_MAX, which also stands for each greater number, it has more items than blocks stand behind it, or its contents
+ * octets are not within these bytes. */
 simple_asn1_outcome simple_asn1_write(const uint8_t *octets, size_t size, const simple_asn1_block *blocks, size_t count,
                                       uint8_t *out, size_t room);
 

@@ -2,7 +2,8 @@
 
 -- The blocks of a document, in order: where each begins, the bytes of its header (identifier and length octets) and of
 -- all of it, and how many blocks are directly inside it. The class is 0 universal, 1 application, 2 context-specific,
--- 3 private. Bytes that are no document are an error that tells the offset.
+-- 3 private. A tag number of more than 1,024 bytes is null. Bytes that are no document are an error that tells the
+-- offset.
 CREATE FUNCTION der_blocks(document bytea, OUT index int, OUT depth int, OUT class int, OUT tag numeric,
                            OUT "offset" int, OUT size int, OUT items int, OUT header int, OUT constructed bool)
     RETURNS SETOF record AS 'MODULE_PATHNAME' LANGUAGE C IMMUTABLE STRICT PARALLEL SAFE COST 1000 ROWS 60;
@@ -13,8 +14,10 @@ CREATE FUNCTION der_at(document bytea, VARIADIC path int[]) RETURNS int
     AS 'MODULE_PATHNAME' LANGUAGE C IMMUTABLE STRICT PARALLEL SAFE COST 10;
 
 -- The value of the block at an offset: an INTEGER; the text of a string of any kind; an OBJECT IDENTIFIER as in
--- 1.2.840; a UTCTime or GeneralizedTime, without what is below a microsecond. It is null if the block there has another
--- tag or none is there. Invalid contents octets are an error. Only this block is looked at.
+-- 1.2.840; a UTCTime or GeneralizedTime, without what is below a microsecond. It is null if there is no such value: the
+-- block has another tag, its contents octets are invalid, or none is there. A number beyond bigint and an OBJECT
+-- IDENTIFIER are null too if they have more than 1,024 contents octets, and a text if the database cannot hold it. Only
+-- this block is looked at.
 CREATE FUNCTION der_integer(document bytea, "offset" int) RETURNS numeric
     AS 'MODULE_PATHNAME' LANGUAGE C IMMUTABLE STRICT PARALLEL SAFE COST 10;
 CREATE FUNCTION der_text(document bytea, "offset" int) RETURNS text
@@ -24,7 +27,12 @@ CREATE FUNCTION der_oid(document bytea, "offset" int) RETURNS text
 CREATE FUNCTION der_time(document bytea, "offset" int) RETURNS timestamptz
     AS 'MODULE_PATHNAME' LANGUAGE C IMMUTABLE STRICT PARALLEL SAFE COST 10;
 
--- The canonical bytes (DER) of a document.
+-- The contents octets of the block at an offset, whatever they are. It is null if none is there.
+CREATE FUNCTION der_contents(document bytea, "offset" int) RETURNS bytea
+    AS 'MODULE_PATHNAME' LANGUAGE C IMMUTABLE STRICT PARALLEL SAFE COST 10;
+
+-- The canonical bytes of a document. They are not always DER: a BIT STRING of no bits is 03 00, where DER has 03 01 00.
+-- Bytes that are no document are an error that tells the offset.
 CREATE FUNCTION der_rewrite(document bytea) RETURNS bytea
     AS 'MODULE_PATHNAME' LANGUAGE C IMMUTABLE STRICT PARALLEL SAFE COST 500;
 

@@ -1,8 +1,9 @@
 """Counts the certificates of logs on the machines of a Dask cluster: many_dask.py SCHEDULER LOG..
 
 A log has a certificate in base64 on each line. Each worker must find the logs under these names, and the package
-simple_asn1. Issuers, types of keys and last years are counted, and lines at fault are listed with why. The part that a
-lost worker was to read is read by another one; Dask's dashboard shows how far the parts are."""
+simple_asn1. Issuers, types of keys and last years are counted, and lines at fault are listed with why. Texts of names
+are escaped by certificate.py, which is beside this file: none makes a line. The part that a lost worker was to read is
+read by another one; Dask's dashboard shows how far the parts are."""
 import base64
 import collections
 import functools
@@ -10,6 +11,7 @@ import os
 import sys
 
 import simple_asn1
+from certificate import escaped
 
 PART = 1 << 22  # bytes of a log that one task reads
 
@@ -22,9 +24,9 @@ PATHS = simple_asn1.Paths(
 
 
 def names(octets):
-    """The attributes of a Name, of which it has any number."""
+    """The attributes of a Name, of which it has any number: types, and texts, or octets where there is no text."""
     attributes = [attribute for names in simple_asn1.read(octets)[0] for attribute in names]
-    return ", ".join(f"{it[0].oid}={getattr(it[1], 'text', it[1].octets.hex())}" for it in attributes)
+    return tuple((it[0].oid, getattr(it[1], "text", it[1].octets)) for it in attributes)
 
 
 def kinds(octets):
@@ -70,6 +72,20 @@ def joined(parts, results):
     return counts, faults
 
 
+def shown(what, value):
+    """A counted value on one line."""
+    if what != "issuer":
+        return value
+    texts = ((kind, escaped(it) if isinstance(it, str) else f"#{it.hex()}") for kind, it in value)
+    return ", ".join(f"{kind}={text}" for kind, text in texts)
+
+
+def report(counts):
+    """A line for each count, the greatest first."""
+    rows = [(what, -number, shown(what, value)) for (what, value), number in counts.items()]
+    return [f"{-number:9} {what} {text}" for what, number, text in sorted(rows)]
+
+
 def main(scheduler, *logs):
     from distributed import Client
 
@@ -77,9 +93,9 @@ def main(scheduler, *logs):
     with Client(scheduler) as cluster:
         counts, faults = joined(parts, cluster.gather(cluster.map(lambda part: count(*part), parts, pure=False)))
     for path, line, why in faults:
-        print(f"{path}:{line}: {why}", file=sys.stderr)
-    for (what, value), number in sorted(counts.items(), key=lambda it: (it[0][0], -it[1], it[0][1])):
-        print(f"{number:9} {what} {value}")
+        print(escaped(f"{path}:{line}: {why}"), file=sys.stderr)
+    for line in report(counts):
+        print(line)
 
 
 if __name__ == "__main__":

@@ -1,7 +1,7 @@
 """Makes the source distribution: a tarball from which pip makes the wheel where there is no checkout, nor the kit.
 
-It has the files of this folder, the licence and the proved library in folders as in a checkout, so that wheel_backend
-finds them, and at the top PKG-INFO and a pyproject.toml that names the folder of wheel_backend (PEP 517, 625).
+It has the files of this folder and the proved library in folders as in a checkout, so that wheel_backend finds them,
+and at the top the licences, PKG-INFO and a pyproject.toml that names the folder of wheel_backend (PEP 517, 625).
 """
 import gzip
 import io
@@ -13,7 +13,7 @@ import zipfile
 
 HERE = pathlib.Path(__file__).resolve().parent
 TOP = HERE.parent.parent
-OTHERS = ["LICENSE", "bindings/c/out/lib/libsimple_asn1.so"]
+LIBRARY = TOP / "bindings/c/out/lib/libsimple_asn1.so"
 
 
 def build_sdist(sdist_directory, config_settings=None):
@@ -28,8 +28,8 @@ def build_sdist(sdist_directory, config_settings=None):
     if place not in project:
         raise ValueError(f"pyproject.toml has no line {place}")
     project = project.replace(place, f'backend-path = ["{_named(HERE)}"]')
-    files = {"PKG-INFO": metadata, "pyproject.toml": project.encode()}
-    for path in [*sorted(HERE.glob("*.*")), *sorted(HERE.glob("simple_asn1/*.*")), *(TOP / it for it in OTHERS)]:
+    files = {"PKG-INFO": metadata, "pyproject.toml": project.encode(), **wheel_backend.licences()}
+    for path in [*sorted(HERE.glob("*.*")), *sorted(HERE.glob("simple_asn1/*.*")), LIBRARY]:
         if path.is_file() and path.suffix != ".pyc":
             files[_named(path)] = path.read_bytes()
     name = "-".join(wheel.split("-")[:2])

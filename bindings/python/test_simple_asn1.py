@@ -13,6 +13,7 @@ import subprocess
 import tempfile
 import tracemalloc
 import unittest
+import unittest.mock
 
 import simple_asn1
 from simple_asn1 import Builder, Moment, NoSuchValue, Paths, PemObject, Refused, Rule, Status
@@ -138,6 +139,8 @@ class Reading(unittest.TestCase):
         self.assertEqual(simple_asn1.write(loose, records), canonical)
         records[0] = records[0]._replace(items=2)
         self.assertEqual(self.refused(simple_asn1.write, loose, records), (Status.BAD_RECORD, 0))
+        records[1] = records[1]._replace(tag_class=4)
+        self.assertEqual(self.refused(simple_asn1.write, loose, records), (Status.BAD_RECORD, 1))
 
     def test_signed_parts_are_octets_of_the_document(self):
         triple = bytes.fromhex("30 0E 30 03 02 01 01 30 03 06 01 2A 03 02 00 99")
@@ -153,6 +156,16 @@ class Reading(unittest.TestCase):
         self.assertEqual(signed.parameters, bytes.fromhex("30 03 02 01 20"))
         self.assertEqual(signed.algorithm_identifier, bytes.fromhex("30 08 06 01 2A 30 03 02 01 20"))
         self.assertEqual((signed.signature, signed.unused_bits), (b"\xab\xc8", 3))
+
+
+class Numbered:
+    """An object that is taken for a number where a list is asked for an item."""
+
+    def __init__(self, number):
+        self.number = number
+
+    def __index__(self):
+        return int(self.number)
 
 
 class LiesOfItsLength:
@@ -230,6 +243,28 @@ class Objects(unittest.TestCase):
                 self.assertEqual((other.status, other.offset), (why.exception.status, why.exception.offset))
                 self.assertEqual(str(other), str(why.exception))
 
+    def test_a_status_of_a_later_library_is_its_number(self):
+        answer = simple_asn1._calls.Outcome(17, 3, 0)
+        with unittest.mock.patch.object(simple_asn1._calls._LIBRARY, "simple_asn1_check", lambda *_: answer):
+            with self.assertRaises(Refused) as why:
+                simple_asn1.check(DOCUMENT)
+        for error in (why.exception, pickle.loads(pickle.dumps(why.exception))):
+            self.assertEqual((error.status, error.status.name, error.offset), (17, "UNKNOWN_17", 3))
+            self.assertEqual(str(error), "unknown status 17, at 3")
+            self.assertEqual(error.status, Status(17))
+        for number in (-1, "17"):
+            self.assertRaises(ValueError, Status, number)
+
+    def test_a_rule_of_a_later_library_is_its_number(self):
+        with unittest.mock.patch.object(simple_asn1._calls, "departures", lambda _: [(3, 28)]):
+            found = simple_asn1.departures(DOCUMENT)
+        self.assertEqual(pickle.loads(pickle.dumps(found)), found)
+        self.assertEqual(found, [(3, 28, "", "unknown rule 28")])
+        self.assertEqual((found[0].rule.name, found[0].rule.value), ("UNKNOWN_28", 28))
+        self.assertEqual(str(found[0]), "unknown rule 28, at 3")
+        for number in (-1, "28"):
+            self.assertRaises(ValueError, Rule, number)
+
     def test_a_block_crosses_to_other_processes_with_its_document(self):
         block = pickle.loads(pickle.dumps(simple_asn1.read(DOCUMENT)[0]))
         self.assertEqual((block.document.octets, block[1][0].text), (DOCUMENT, "ä"))
@@ -295,13 +330,15 @@ class Objects(unittest.TestCase):
             self.assertEqual(len(blocks), count)
             for number in (*range(-count, count), True):
                 self.assertEqual(blocks[number], listed[number])
+                self.assertEqual(blocks[Numbered(number)], listed[number])
             for cut in (slice(2, 5), slice(None, None, -3), slice(-4, None), slice(40, 50)):
                 self.assertEqual(blocks[cut], listed[cut])
             for number in (count, count + 1, -count - 1):
                 with self.assertRaises(IndexError):
                     blocks[number]
-            with self.assertRaises(TypeError):
-                blocks["0"]
+            for number in ("0", None, 0.0, 1.0, 10.0, -1.0):
+                with self.assertRaises(TypeError):
+                    blocks[number]
         with self.assertRaises(IndexError):
             document[0][0][0][0]
 

@@ -1,7 +1,7 @@
 """Makes the wheel for `pip install bindings/python`: the package, with the shared library that bindings/c/build made.
 
-It needs no other package, so that pip needs no network: a wheel is a zip file with some files of metadata (PEP 427).
-The same files give the same bytes. `pip install -e` makes one that only says where the package is (PEP 660).
+It needs no other package, so that pip needs no network: a wheel is a zip file with some files of metadata (PEP 427 and
+639). The same files give the same bytes. `pip install -e` makes one that only says where the package is (PEP 660).
 """
 import base64
 import hashlib
@@ -14,6 +14,7 @@ import zipfile
 from sdist import build_sdist  # noqa: F401
 
 HERE = pathlib.Path(__file__).resolve().parent
+TOP = HERE.parent.parent
 LIBRARY = HERE.parent / "c" / "out" / "lib" / "libsimple_asn1.so"
 
 
@@ -35,16 +36,27 @@ def build_editable(wheel_directory, config_settings=None, metadata_directory=Non
 def _library():
     library = pathlib.Path(os.environ.get("SIMPLE_ASN1_LIBRARY") or LIBRARY)
     platform = sysconfig.get_platform()
+    # pip shows one sentence, where an error would have the frames of all calls
     if library == LIBRARY and platform != "linux-x86_64":
-        raise OSError(f"{library} is for Linux on x86-64, not for {platform}; SIMPLE_ASN1_LIBRARY names another one")
+        raise SystemExit(f"simple_asn1 has its library for Linux on x86-64 alone, and this is {platform}: set "
+                         "SIMPLE_ASN1_LIBRARY to a libsimple_asn1 that was built for it.")
     if not library.exists():
-        raise FileNotFoundError(f"{library} is not there: call bindings/c/build first, which makes it")
+        raise SystemExit(f"There is no {library}: run bindings/c/build first, which makes it.")
     return library.read_bytes()
+
+
+def licences():
+    """Ours, and NOTICES, which has those of the kit's code in the library: bindings/c/build writes it, and a source
+    distribution has it at the top."""
+    notices = [path for path in (TOP / "NOTICES", LIBRARY.parent.parent / "NOTICES") if path.exists()]
+    if not notices:
+        raise SystemExit(f"There is no {LIBRARY.parent.parent / 'NOTICES'}: run bindings/c/build first, which makes it.")
+    return {"LICENSE": (TOP / "LICENSE").read_bytes(), "NOTICES": notices[0].read_bytes()}
 
 
 def _fields():
     project = (HERE / "pyproject.toml").read_text()
-    keys = ("name", "version", "description", "requires-python")
+    keys = ("name", "version", "description", "requires-python", "license")
     return {key: re.search(rf'^{key} = "(.*)"$', project, re.MULTILINE)[1] for key in keys}
 
 
@@ -65,10 +77,12 @@ def _wheel(wheel_directory, files, platforms):
     fields = _fields()
     name, version = fields["name"], fields["version"]
     info = f"{name}-{version}.dist-info"
-    files[f"{info}/LICENSE"] = (HERE.parent.parent / "LICENSE").read_bytes()
+    files.update({f"{info}/licenses/{file}": text for file, text in licences().items()})
+    named = "".join(f"License-File: {file}\n" for file in licences())
     files[f"{info}/METADATA"] = (
-        f"Metadata-Version: 2.1\nName: {name}\nVersion: {version}\nSummary: {fields['description']}\nLicense: ISC\n"
-        f"License-File: LICENSE\nRequires-Python: {fields['requires-python']}\nClassifier: Typing :: Typed\n"
+        f"Metadata-Version: 2.4\nName: {name}\nVersion: {version}\nSummary: {fields['description']}\n"
+        f"License-Expression: {fields['license']}\n{named}"
+        f"Requires-Python: {fields['requires-python']}\nClassifier: Typing :: Typed\n"
     ).encode()
     tags = "".join(f"Tag: py3-none-{platform}\n" for platform in platforms)
     files[f"{info}/WHEEL"] = (

@@ -3,12 +3,14 @@
     certificates.py FOLDER           prints each in hex digits, a line each
     certificates.py FOLDER TARGET    writes each into the folder TARGET, in DER, as 0000.der, 0001.der ..
 
-An empty FOLDER is /etc/ssl/certs.
+An empty FOLDER is /etc/ssl/certs. In short (short.py) each tenth of them is taken.
 """
 import base64
 import pathlib
 import re
 import sys
+
+from short import part
 
 FOLDER = "/etc/ssl/certs"
 BEGIN, END = "-----BEGIN CERTIFICATE-----", "-----END CERTIFICATE-----"
@@ -23,7 +25,7 @@ def certificates(folder=""):
             seen.setdefault(octets)
         for body in re.findall(BEGIN + r"([A-Za-z0-9+/=\s]+)" + END, octets.decode(errors="replace")):
             seen.setdefault(base64.b64decode(body))
-    return list(seen)
+    return list(part(seen, 10))
 
 
 def main(folder, target=None):

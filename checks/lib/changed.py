@@ -2,10 +2,11 @@
 import random
 
 from certificates import certificates
+from short import part
 from x690 import encoding
 
 ODD = (0, 1, 0x1F, 0x30, 0x31, 0x7F, 0x80, 0xFF)
-SHORT = 40  # octets, of which each is changed
+SMALL = 40  # octets, of which each is changed
 
 
 def each_changed(octets):
@@ -19,13 +20,13 @@ def changed_at(octets, place):
 
 
 def of_certificates(folder, parts):
-    """The certificates of a folder; and three of them, and each part that is short, with each octet changed to each
-    other value."""
+    """The certificates of a folder; and three of them, and each part that is small, with each octet changed to each
+    other value, in short to each 30th of these."""
     found = sorted(certificates(folder), key=len)
     yield from found
     half = found[: len(found) // 2 + 1]
-    for octets in (half[0], half[len(half) // 2], half[-1], *(it for it in parts if len(it) < SHORT)):
-        yield from each_changed(octets)
+    for octets in (half[0], half[len(half) // 2], half[-1], *(it for it in parts if len(it) < SMALL)):
+        yield from part(each_changed(octets), 30)
 
 
 def joined(parts, seed):

@@ -64,6 +64,8 @@ def main(folder, program, messages):
     print(f"dumps: {LEVELS} levels")
     if shutil.which("openssl"):
         is_well = are_as_openssl_shows(program, folder, messages) and is_well
+    else:
+        print("dumps: NOT CHECKED beside openssl asn1parse, there is no openssl")
     sys.exit(0 if is_well else 1)
 
 

@@ -403,7 +403,7 @@ openssl cms -encrypt -stream -binary -outform DER -in content -out encrypted.ber
 def streamed(folder):
     """Messages as openssl streams them, their content in several segments."""
     if not shutil.which("openssl"):
-        tell("messages of CMS are NOT CHECKED, there is no openssl")
+        tell("NOT CHECKED with messages of CMS, there is no openssl")
         return []
     folder.mkdir()
     (folder / "content").write_bytes(bytes(range(256)) * 40)
@@ -528,10 +528,10 @@ class Identifiers:
 
 
 def check_examples(program, work, roots):
-    """The examples of docs/DUMP.md for jq, each as it stands there."""
+    """The examples of docs/DUMP.md for jq, each as it stands there, but of the certificates of the folder."""
     missing = [it for it in ("jq", "openssl") if not shutil.which(it)]
     if missing:
-        tell(f"the examples of docs/DUMP.md are NOT CHECKED, there is no {', '.join(missing)}")
+        tell(f"NOT CHECKED by the examples of docs/DUMP.md, there is no {', '.join(missing)}")
         return
     paragraphs = re.findall(r"^(?:    .*\n)+", (TOP / "docs/DUMP.md").read_text(), re.M)
     paragraphs = [textwrap.dedent(it) for it in paragraphs]
@@ -557,6 +557,9 @@ def check_examples(program, work, roots):
     for example, output in printed:
         if run(example, folder) != output:
             fail(f"docs/DUMP.md: {example.strip()} gives {run(example, folder)}")
+    names = r"(?<=^der_dump --json )[^|]*(?= \|)"
+    files = ("*.pem", "certificate.pem", "certificate.pem")
+    examples = [re.sub(names, each_files, example) for example, each_files in zip(examples, files)]
     paths = sorted(folder.glob("*.pem"))
     lines = {line["file"]: line for line in map(json.loads, run(examples[0], folder).splitlines())}
     identifiers, right, named = Identifiers(), [0, 0, 0], 0

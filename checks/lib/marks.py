@@ -11,6 +11,7 @@ import sys
 import departures
 from certificates import certificates
 from changed import each_changed, indefinite, joined
+from short import part
 
 COUNT = 500  # documents a run
 STEP = 13  # one changed octet of so many is tried
@@ -21,13 +22,13 @@ def documents(folder, rows):
     """Certificates, the smallest with octets changed, and rows of encodings, put together and changed."""
     found = sorted(certificates(folder), key=len)
     yield from found
-    yield from itertools.islice(each_changed(found[0]), 0, None, STEP)
+    yield from part(itertools.islice(each_changed(found[0]), 0, None, STEP), 10)
     with open(rows) as lines:
         parts = [bytes.fromhex(it) for it in lines if it.strip() and not it.startswith("#")]
     for octets in parts:
         if len(octets) < 12:
-            yield from itertools.islice(each_changed(octets), 0, None, STEP)
-    for seed in range(10000):
+            yield from part(itertools.islice(each_changed(octets), 0, None, STEP), 10)
+    for seed in part(range(10000), 10):
         yield joined(parts, seed)
         yield indefinite(parts, seed)
 

@@ -29,11 +29,13 @@ def rows():
     """The lines of the stored run that are answered, each once, with their answers; or the test, with its result."""
     if test:
         return [(test, "\ntest result: ok")]
-    lines = [it for it in pathlib.Path(crate, "stdin").read_text().splitlines() if not it.startswith("#")]
+    lines = pathlib.Path(crate, "stdin").read_text().splitlines()
+    if name == "test_calls":  # a comment has no line of its own among the answers
+        lines = [it for it in lines if not it.startswith("#")]
     answers = pathlib.Path(crate, "stdout").read_text().splitlines()
     assert len(lines) == len(answers), f"{name}: {len(lines)} lines have {len(answers)} answers"
     together = [TOGETHER] if name == "der_tool" else []
-    return [it for it in dict(zip(lines, answers)).items() if it[0]] + together
+    return [it for it in dict(zip(lines, answers)).items() if it[0] and not it[0].startswith("#")] + together
 
 
 def called(line, answer):

@@ -85,7 +85,7 @@ is_so("a short input is not told of", b"\r7 MB read" not in told)
 
 with open("/dev/full", "wb") as full:
     ran = subprocess.run([PROGRAM, "--help"], stdout=full, stderr=subprocess.PIPE)
-is_so("help that can't be written has status 2", ran.returncode == 2)
+is_so("help that can't be written has status 2", (ran.returncode, ran.stderr) == (2, b"error: write fault\n"))
 # the reader of the output goes after its first bytes
 many = b"\x05\x00" * 100000
 ran = subprocess.run(["sh", "-c", '"$0" | head -c 1', PROGRAM], input=many, capture_output=True)
@@ -98,4 +98,6 @@ if NAMES.exists():
     good = sum(name in line for name, line in zip(wanted, lines))
     print(f"terminal: {good} of {len(named)} identifiers have their names of dumpasn1")
     is_so("names of dumpasn1", good == len(named) == len(lines))
+else:
+    print(f"dumps: NOT CHECKED with the names of dumpasn1, there is no {NAMES}")
 sys.exit(1 if wrong else 0)

@@ -77,7 +77,7 @@ class Builder:
         return self._add(block.tag_class, block.tag, block.contents, constructed=block.record.constructed)
 
     def finish(self) -> bytes:
-        """The canonical octets (DER) of the document."""
+        """The canonical octets of the document."""
         if self._open:
             raise refusal(Status.BAD_RECORD, self._open[-1])
         return _calls.write(bytes(self._octets), self._records)

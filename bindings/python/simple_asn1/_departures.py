@@ -1,6 +1,6 @@
 """Which rules of DER octets break, and where."""
 import enum
-from typing import List, NamedTuple
+from typing import List, NamedTuple, Optional
 
 from . import _calls
 from ._calls import Octets, octets_of
@@ -20,6 +20,18 @@ class Rule(enum.IntEnum):
         rule._value_ = number
         rule.text = text
         rule.section = section
+        return rule
+
+    @classmethod
+    def _missing_(cls, value: object) -> "Optional[Rule]":
+        return cls._unknown(value) if isinstance(value, int) and value >= 0 else None
+
+    @classmethod
+    def _unknown(cls, number: int) -> "Rule":
+        """A rule of a later library, which has only its number here."""
+        rule = int.__new__(cls, number)
+        rule._name_, rule._value_ = f"UNKNOWN_{number}", number
+        rule.text, rule.section = f"unknown rule {number}", ""
         return rule
 
     LONG_IDENTIFIER = 1, "tag number below 31 in more than one byte", "8.1.2.2"
@@ -54,6 +66,9 @@ class Rule(enum.IntEnum):
     NOT_ENCODINGS = 27, "contents that are not encodings", "8.1.2.5"
 
 
+_RULES = {rule.value: rule for rule in Rule}
+
+
 class Departure(NamedTuple):
     """A rule that an encoding breaks, and where the encoding begins."""
 
@@ -63,7 +78,8 @@ class Departure(NamedTuple):
     text: str
 
     def __str__(self) -> str:
-        return f"{self.text} ({self.section}), at {self.offset}"
+        section = f" ({self.section})" if self.section else ""
+        return f"{self.text}{section}, at {self.offset}"
 
 
 def departures(octets: Octets) -> List[Departure]:
@@ -74,6 +90,6 @@ def departures(octets: Octets) -> List[Departure]:
     """
     found = []
     for offset, number in _calls.departures(octets_of(octets)):
-        rule = Rule(number)
+        rule = _RULES.get(number) or Rule._unknown(number)
         found.append(Departure(offset, rule, rule.section, rule.text))
     return found

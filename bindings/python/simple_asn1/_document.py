@@ -1,8 +1,10 @@
 """Documents, their blocks, and the values of the blocks."""
+import operator
 from array import array
 from datetime import datetime as DateTime, timezone
 from functools import partial
-from typing import Callable, Dict, Iterable, Iterator, List, NamedTuple, Optional, Sequence, Tuple, Union, overload
+from typing import Callable, Dict, Iterable, Iterator, List, NamedTuple, Optional, Sequence, SupportsIndex, Tuple
+from typing import Union, overload
 
 from . import _calls
 from ._calls import Octets, Record, made, octets_of
@@ -100,13 +102,14 @@ class Document:
         return level
 
     @overload
-    def _taken(self, start: int, end: int, number: int) -> "Block": ...
+    def _taken(self, start: int, end: int, number: SupportsIndex) -> "Block": ...
     @overload
     def _taken(self, start: int, end: int, number: slice) -> List["Block"]: ...
-    def _taken(self, start: int, end: int, number: Union[int, slice]) -> Union["Block", List["Block"]]:
+    def _taken(self, start: int, end: int, number: Union[SupportsIndex, slice]) -> Union["Block", List["Block"]]:
         """The block or blocks with these numbers at a level."""
         if isinstance(number, slice):
             return [Block(self, index) for index in self._level(start, end)[number]]
+        number = operator.index(number)
         if 0 <= number < _FEW:
             index = self._blocks.after(start, end, number)
             if index < end:
@@ -122,10 +125,10 @@ class Document:
         return len(self._level(0, len(self._blocks)))
 
     @overload
-    def __getitem__(self, index: int) -> "Block": ...
+    def __getitem__(self, index: SupportsIndex) -> "Block": ...
     @overload
     def __getitem__(self, index: slice) -> List["Block"]: ...
-    def __getitem__(self, index: Union[int, slice]) -> Union["Block", List["Block"]]:
+    def __getitem__(self, index: Union[SupportsIndex, slice]) -> Union["Block", List["Block"]]:
         return self._taken(0, len(self._blocks), index)
 
     def __repr__(self) -> str:
@@ -216,10 +219,10 @@ class Block:
         return True
 
     @overload
-    def __getitem__(self, index: int) -> "Block": ...
+    def __getitem__(self, index: SupportsIndex) -> "Block": ...
     @overload
     def __getitem__(self, index: slice) -> List["Block"]: ...
-    def __getitem__(self, index: Union[int, slice]) -> Union["Block", List["Block"]]:
+    def __getitem__(self, index: Union[SupportsIndex, slice]) -> Union["Block", List["Block"]]:
         document = self._document
         return document._taken(self._index + 1, document._blocks.next(self._index), index)
 
@@ -296,7 +299,11 @@ def read(octets: Octets) -> Document:
 
 
 def read_strict(octets: Octets) -> Document:
-    """Reads a document in canonical form (DER). Raises Refused for any other."""
+    """Reads a document in canonical form. Raises Refused for any other.
+
+    Canonical is what `rewrite` returns, which is not quite DER: a BIT STRING of no bits is 03 00, where DER has 03 01 00.
+    Section 6 of the library's docs/GRAMMAR.md has the whole list, and `departures` says whether octets are DER.
+    """
     return Document(octets, strict=True)
 
 
@@ -316,7 +323,7 @@ def check(octets: Octets) -> None:
 
 
 def rewrite(octets: Octets) -> bytes:
-    """The canonical octets (DER) of a document."""
+    """The canonical octets of a document, as `read_strict` accepts them."""
     return _calls.rewrite(octets_of(octets))
 
 

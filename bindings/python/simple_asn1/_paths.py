@@ -33,8 +33,8 @@ class Value(NamedTuple):
     @property
     def contents(self) -> bytes:
         """Its contents octets."""
-        start = self[_OFFSET] + self[_HEADER]
-        return self[_DOCUMENT][start : start + self[_SIZE]]
+        _, offset, header_size, size, _, _, _, _, document = self
+        return document[offset + header_size : offset + header_size + size]
 
     @property
     def integer(self) -> int:
@@ -67,14 +67,14 @@ class Value(NamedTuple):
     @property
     def oid(self) -> str:
         """The components of an OBJECT IDENTIFIER, as in 1.2.840."""
-        if self[_CLASS] == 0 and self[_TAG] == 6 and self[_SIZE] <= _calls.USUAL_OID:
+        if self[_CLASS] == 0 and self[_TAG] == 6 and self.contents_size <= _calls.USUAL_OID:
             text = _calls.usual_oid(self.contents)
             if text is not None:
                 return text
         return _calls.oid_at(self.document, self.offset, self.contents_size)
 
 
-_TAG, _OFFSET, _HEADER, _SIZE, _, _KIND, _CLASS, _, _DOCUMENT = range(len(Value._fields))
+_TAG, _KIND, _CLASS = map(Value._fields.index, ("tag", "kind", "tag_class"))
 
 
 class Paths:

@@ -1,6 +1,6 @@
 """The statuses that the library returns, and the errors that are raised for them."""
 import enum
-from typing import Tuple
+from typing import Optional, Tuple
 
 
 class Status(enum.IntEnum):
@@ -23,6 +23,15 @@ class Status(enum.IntEnum):
     NOT_SIGNED = 14
     BAD_RECORD = 15
     NOT_OID = 16
+
+    @classmethod
+    def _missing_(cls, value: object) -> "Optional[Status]":
+        """A status of a later library, which has only its number here."""
+        if not isinstance(value, int) or value < 0:
+            return None
+        status = int.__new__(cls, value)
+        status._name_, status._value_ = f"UNKNOWN_{value}", value
+        return status
 
 
 TEXTS = {
@@ -59,7 +68,7 @@ class Refused(ValueError):
     def __init__(self, status: int, offset: int) -> None:
         self.status = Status(status)
         self.offset = offset
-        super().__init__(f"{TEXTS[self.status]}, at {offset}")
+        super().__init__(f"{TEXTS.get(self.status, f'unknown status {status}')}, at {offset}")
 
     def __reduce__(self) -> Tuple[type, Tuple[Status, int]]:
         return type(self), (self.status, self.offset)

@@ -25,7 +25,7 @@ fn built_folder() -> String {
     let [target, system, processor] =
         ["TARGET", "CARGO_CFG_TARGET_OS", "CARGO_CFG_TARGET_ARCH"].map(|name| env::var(name).unwrap_or_default());
     if (system.as_str(), processor.as_str()) != ("linux", "x86_64") {
-        eprintln!("simple_asn1-sys has its library for Linux on x86-64 alone, and this is built for {target}.");
+        eprintln!("simple_asn1 has its library for Linux on x86-64 alone, and this is built for {target}.");
         eprintln!("Set SIMPLE_ASN1_LIB to a folder that has a libsimple_asn1.a for {target}.");
         process::exit(1);
     }

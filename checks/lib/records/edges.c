@@ -274,6 +274,9 @@ static void check_made(void)
     made[1].offset = 0, made[1].header = 0, made[1].contents = 1, made[3].tag_class = 4;
     o = simple_asn1_write(values, 1, made, 4, out, sizeof out);
     CHECK(o.status == SIMPLE_ASN1_BAD_RECORD && o.offset == 3);
+    made[1].contents = 2; /* of two, the last is named */
+    o = simple_asn1_write(values, 1, made, 4, out, sizeof out);
+    CHECK(o.status == SIMPLE_ASN1_BAD_RECORD && o.offset == 3);
     made[3].tag_class = 0, made[1].tag = 1, made[1].contents = 0;
     o = simple_asn1_write(values, 1, made, 4, out, sizeof out);
     CHECK(o.status == SIMPLE_ASN1_BOOLEAN_LENGTH);

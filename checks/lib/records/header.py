@@ -28,7 +28,7 @@ listed = subprocess.run(
     capture_output=True, text=True, check=True,
 ).stdout
 same("the header and the library's names", declared, {line.split()[-1] for line in listed.splitlines()})
-calls = (top / "bindings/rust/sys/src/lib.rs").read_text()
+calls = (top / "bindings/rust/sys/src/calls.rs").read_text()
 same("the header and Rust's names", declared, set(re.findall(r"^    pub fn (simple_asn1_\w+)", calls, re.M)))
 
 version = int(re.search(r"^#define SIMPLE_ASN1_VERSION (\d+)", header, re.M)[1])

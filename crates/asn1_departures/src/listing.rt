@@ -34,6 +34,10 @@ use std::alloc::{AllocError, Global};
 /// The input is not encodings one after another by their headers: the first header at fault outside of definite
 /// encodings, with its offset. It is empty. Memory ran out.
 ///
+/// A header is at fault, too, if more than eight length octets follow the initial one, even where the first of them are
+/// 0, as X.690 allows (8.1.3.5): `04 89 00 00 00 00 00 00 00 00 01 41` is the error `LengthTooLarge` at offset 0, and
+/// no departure. A constructed encoding with such a header directly inside is `NotEncodings`.
+///
 /// ```rust
 /// use simple_asn1::{Departure, LocatedErr, departures};
 /// use std::alloc::Global;

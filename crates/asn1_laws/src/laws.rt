@@ -3,7 +3,8 @@ ghost use Rattle.asn1_laws.specs.Laws.{DerIsCanonical, DerIsRead, WrittenIsDer};
 
 /// A law, with no code. All DER that a slice can hold is read, with two exceptions. A TeletexString, a UniversalString
 /// or a BMPString, which have codes of their own in DER (X.690 8.23), is rejected where it is no UTF-8. A BIT STRING is
-/// rejected where a `usize` cannot count its bits.
+/// rejected where a `usize` cannot count its bits. Inside a block of another class than Universal neither is rejected:
+/// that block is read, as `Unknown`.
 ///
 /// ```rust
 /// use simple_asn1::{ASN1DecodeErr, Document, is_der};

@@ -1,7 +1,9 @@
 // What the extensions of a certificate say, in a few words (RFC 5280, section 4.2).
 use crate::lines::Lines;
 use crate::name::{identifier_text, name_text};
-use crate::node::{BOOLEAN, IDENTIFIER, INTEGER, Node, OCTET_STRING};
+use crate::node::{BIT_STRING, BOOLEAN, IDENTIFIER, INTEGER, Node, OCTET_STRING};
+use asn1_headers::error::ASN1DecodeErr;
+use asn1_leaves::contents::bit_string;
 use asn1_outline::headers::Headers;
 use der_values::{NamedBits, address_text, bit_names};
 use std::alloc::AllocError;
@@ -38,14 +40,21 @@ fn push_extension(lines: &mut Lines<'_>, extension: &Node<'_, '_>) -> Result<(),
     }
 }
 
-// keyUsage: the names of the bits that are set.
+// keyUsage: the names of the bits that are set, if there are some in a primitive BIT STRING.
 fn push_key_usage(lines: &mut Lines<'_>, value: &Node<'_, '_>) -> Result<(), AllocError> {
-    match value.contents() {
-        [_, octets @ ..] => {
-            let names = bit_names(lines.alloc, NamedBits::KeyUsage, octets)?;
+    if !value.is(BIT_STRING) || value.entry().constructed {
+        return Ok(());
+    }
+    match bit_string::read(lines.alloc, value.contents()) {
+        Ok((count, octets)) => {
+            let names = bit_names(lines.alloc, NamedBits::KeyUsage, count, &octets)?;
+            if names.is_empty() {
+                return Ok(());
+            }
             lines.line("key usage", &names)
         }
-        [] => Ok(()),
+        Err(ASN1DecodeErr::OutOfMemory) => Err(AllocError),
+        Err(_) => Ok(()),
     }
 }
 

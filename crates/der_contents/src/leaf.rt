@@ -9,9 +9,7 @@ ghost use Rattle.der_contents.specs.Values.{IsBerTime, IsMeaning, IsValue, has_w
 ghost use Rattle.der_values.specs.Strings.{has_text as has_text_is};
 
 use crate::faults::{Fault, leaf_fault};
-use crate::value::{
-    Bits, LeafValue, identifier_of, likely_text, names_of_bits, printed_text, tagged_value,
-};
+use crate::value::{LeafValue, bits_of, identifier_of, likely_text, printed_text, tagged_value};
 use asn1_blocks::contents::check_contents;
 use asn1_blocks::parsed::PlacedHeader;
 use asn1_headers::error::ASN1DecodeErr;
@@ -23,7 +21,7 @@ use asn1_headers::tags::{
 };
 use asn1_headers::whole_header::Header;
 use asn1_leaves::contents::text::TextForm;
-use asn1_leaves::contents::{bit_string, boolean, generalized_time, integer, text, utc_time};
+use asn1_leaves::contents::{boolean, generalized_time, integer, text, utc_time};
 use asn1_leaves::oid;
 use asn1_numbers::number::big_int::BigInt;
 use der_elements::element_header::{has_tag, universal_tag};
@@ -149,13 +147,7 @@ fn bits_value(alloc: Global, contents: &[u8], role: Role) -> Result<LeafValue, A
     ensures found { IfOk result (IsValue Universal BIT_STRING contents.now) }
     ensures refused { IfErr result (OutOfMemoryOr (LeafFault BIT_STRING contents.now)) }
 {
-    let (count, octets) = bit_string::read(alloc, contents)?;
-    Ok(LeafValue::Bits(Bits {
-        count,
-        unused: octets.len().saturating_mul(8).saturating_sub(count),
-        names: names_of_bits(alloc, role, &octets)?,
-        octets,
-    }))
+    Ok(LeafValue::Bits(bits_of(alloc, role, contents)?))
 }
 
 fn octets_value(alloc: Global, contents: &[u8]) -> Result<LeafValue, ASN1DecodeErr>

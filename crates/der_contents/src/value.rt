@@ -1,11 +1,14 @@
 // The values of contents octets, as data: each is worked out once, when its piece is read.
-ghost use Rattle.std.specs.Prelude.{◌≡◌, ◌∷◌, ◌≤◌, ℕ, List, IfOk, IfSome, string_bytes, true};
+ghost use Rattle.std.specs.Prelude.{◌≡◌, ◌∷◌, ◌≤◌, ℕ, List, IfErr, IfOk, IfSome, string_bytes, true};
+ghost use Rattle.asn1_headers.specs.Fault.{OutOfMemoryOr};
+ghost use Rattle.asn1_leaves.specs.Contents.BitString.{BitStringContents, BitStringFault};
 ghost use Rattle.asn1_leaves.specs.Contents.ObjectIdentifier.{ObjectIdentifierContents};
 ghost use Rattle.asn1_leaves.specs.DottedDecimal.{dotted_decimal};
 ghost use Rattle.der_contents.specs.Values.{HasShortFront, IsIdentifier};
 
 use crate::scalars::is_text;
 use asn1_headers::error::ASN1DecodeErr;
+use asn1_leaves::contents::bit_string;
 use asn1_leaves::oid;
 use asn1_leaves::oid::OID;
 use asn1_numbers::number::big_int::BigInt;
@@ -128,16 +131,31 @@ fn dotted_of(alloc: Global, components: &OID) -> Result<Option<String>, AllocErr
     }
 }
 
-// The names of the bits that are set in these octets, if they have some.
-pub fn names_of_bits(
+// The value of the contents octets of a BIT STRING, whose bits have names if the role says so.
+pub fn bits_of(alloc: Global, role: Role, contents: &[u8]) -> Result<Bits, ASN1DecodeErr>
+    ensures found { IfOk result (λ bits. BitStringContents bits.count bits.octets.items contents.now) }
+    ensures refused { IfErr result (OutOfMemoryOr (BitStringFault contents.now)) }
+{
+    let (count, octets) = bit_string::read(alloc, contents)?;
+    Ok(Bits {
+        count,
+        unused: octets.len().saturating_mul(8).saturating_sub(count),
+        names: names_of_bits(alloc, role, count, &octets)?,
+        octets,
+    })
+}
+
+// The names of those that are set of so many bits, if they have some.
+fn names_of_bits(
     alloc: Global,
     role: Role,
+    count: usize,
     octets: &[u8],
 ) -> Result<Option<String>, AllocError> {
     let Role::Bits(kind) = role else {
         return Ok(None);
     };
-    let names = bit_names(alloc, kind, octets)?;
+    let names = bit_names(alloc, kind, count, octets)?;
     Ok(if names.is_empty() { None } else { Some(names) })
 }
 
@@ -145,7 +163,11 @@ pub fn names_of_bits(
 pub fn tagged_value(alloc: Global, role: Role, contents: &[u8]) -> Result<TaggedValue, AllocError> {
     match role {
         Role::Plain => octets_value(alloc, contents),
-        Role::Bits(_) => Ok(TaggedValue::Bits(implicit_bits(alloc, role, contents)?)),
+        Role::Bits(_) => match bits_of(alloc, role, contents) {
+            Ok(bits) => Ok(TaggedValue::Bits(bits)),
+            Err(ASN1DecodeErr::OutOfMemory) => Err(AllocError),
+            Err(_) => octets_value(alloc, contents),
+        },
         Role::Name(7) => match address_text(alloc, contents)? {
             Some(address) => Ok(TaggedValue::Address(address)),
             None => octets_value(alloc, contents),
@@ -160,20 +182,6 @@ pub fn tagged_value(alloc: Global, role: Role, contents: &[u8]) -> Result<Tagged
 
 fn octets_value(alloc: Global, contents: &[u8]) -> Result<TaggedValue, AllocError> {
     Ok(TaggedValue::Octets(likely_text(alloc, contents)?))
-}
-
-// Contents octets as those of a BIT STRING, whether or not they have as many bits as they leave unused.
-fn implicit_bits(alloc: Global, role: Role, contents: &[u8]) -> Result<Bits, AllocError> {
-    let (unused, octets) = match contents {
-        [unused, octets @ ..] => (usize::from(*unused), octets),
-        [] => (0, contents),
-    };
-    Ok(Bits {
-        count: octets.len().saturating_mul(8).saturating_sub(unused),
-        unused,
-        octets: Vec::from_slice(alloc, octets)?,
-        names: names_of_bits(alloc, role, octets)?,
-    })
 }
 
 fn registered_id(alloc: Global, contents: &[u8]) -> Result<Option<Identifier>, AllocError> {

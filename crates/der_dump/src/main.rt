@@ -25,7 +25,7 @@ fn main(rt: HostRuntime) -> ExitCode {
     match arguments(&rt) {
         Ok(arguments) => ExitCode::from(run_with(&rt, &arguments)),
         Err(e) => {
-            let _ = eprintln!(rt; "{}", arguments_fault(&e));
+            let _ = eprintln!(rt; "error: {}", arguments_fault(&e));
             ExitCode::from(WRONG_ARGUMENTS)
         }
     }
@@ -35,7 +35,7 @@ fn main(rt: HostRuntime) -> ExitCode {
 fn arguments_fault(e: &io::Error) -> &'static str {
     match e.kind() {
         io::ErrorKind::OutOfMemory => fault_text(&StreamFault::Memory),
-        _ => "error: arguments must be UTF-8: give another file as standard input: der_dump < FILE",
+        _ => "arguments must be UTF-8: give another file as standard input: der_dump < FILE",
     }
 }
 
@@ -64,7 +64,12 @@ fn print_answer(rt: &HostRuntime, fault: &OptionsFault<'_>) -> u8 {
     if fault.is_answer() {
         match print!(rt; "{text}") {
             Ok(()) => 0,
-            Err(_) => WRONG_ARGUMENTS,
+            Err(fault) => {
+                if fault.kind() != io::ErrorKind::BrokenPipe {
+                    print_fault(rt, &StreamFault::Write);
+                }
+                WRONG_ARGUMENTS
+            }
         }
     } else {
         print_error(rt, &text);
@@ -78,7 +83,7 @@ fn is_type_known(rt: &HostRuntime, type_name: Option<&str>) -> bool {
         return true;
     };
     let Ok(shapes) = Shapes::new(rt.alloc()) else {
-        print_memory(rt, &StreamFault::Memory);
+        print_fault(rt, &StreamFault::Memory);
         return false;
     };
     if shapes.named(name).is_some() {
@@ -86,7 +91,7 @@ fn is_type_known(rt: &HostRuntime, type_name: Option<&str>) -> bool {
     }
     match escaped(rt.alloc(), name.as_bytes()) {
         Ok(name) => print_unknown_type(rt, &name),
-        Err(_) => print_memory(rt, &StreamFault::Memory),
+        Err(_) => print_fault(rt, &StreamFault::Memory),
     }
     false
 }
@@ -119,7 +124,7 @@ fn own_names(rt: &HostRuntime, options: &Options<'_>) -> Option<OwnNames> {
             None
         }
         Err(NamesFault::Memory) => {
-            print_memory(rt, &StreamFault::Memory);
+            print_fault(rt, &StreamFault::Memory);
             None
         }
     }
@@ -128,8 +133,13 @@ fn own_names(rt: &HostRuntime, options: &Options<'_>) -> Option<OwnNames> {
 // Prints that memory ran out. Any other fault was printed by the reader.
 fn print_memory(rt: &HostRuntime, fault: &StreamFault) {
     if *fault == StreamFault::Memory {
-        let _ = eprintln!(rt; "{}", fault_text(fault));
+        print_fault(rt, fault);
     }
+}
+
+// Prints a fault, for which no memory is needed.
+fn print_fault(rt: &HostRuntime, fault: &StreamFault) {
+    let _ = eprintln!(rt; "error: {}", fault_text(fault));
 }
 
 // Prints which line of a file names no object identifiers.
@@ -144,7 +154,7 @@ fn print_bad_line(rt: &HostRuntime, file: &str, number: usize) {
 // Does what the options want.
 fn answer(rt: &HostRuntime, options: &Options<'_>, own: OwnNames) -> u8 {
     let (Ok(mut sources), Ok(writer)) = (sources(rt, options), buffered(rt)) else {
-        print_memory(rt, &StreamFault::Memory);
+        print_fault(rt, &StreamFault::Memory);
         return status(&Err(StreamFault::Memory));
     };
     let (outcome, mut writer) = run(rt.alloc(), options, own, now(rt), &mut sources, writer);
@@ -154,7 +164,7 @@ fn answer(rt: &HostRuntime, options: &Options<'_>, own: OwnNames) -> u8 {
             // what was written before memory ran out
             let _ = writer.flush();
             if !writer.get_ref().is_closed {
-                let _ = eprintln!(rt; "{}", fault_text(fault));
+                print_fault(rt, fault);
             }
         }
     }

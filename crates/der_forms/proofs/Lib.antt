@@ -1,4 +1,5 @@
 mod Decoded
 mod LineFronts
+mod Numbers
 mod Spellings
 mod Utf8

@@ -1,5 +1,5 @@
 -- The form of an input, by its text.
-use Rattle.std.specs.Prelude.{ℕ, Bool, false, not, ◌==◌, ◌||◌, ◌&&◌, ◌+◌, ◌*◌, nat_le, nat_lt, List, [], ◌∷◌, Option, Some, None, Result, Ok, Err, drop, if◌then◌else◌, length}
+use Rattle.std.specs.Prelude.{ℕ, Bool, false, not, ◌==◌, ◌||◌, ◌&&◌, ◌+◌, ◌-◌, ◌*◌, nat_le, nat_lt, List, [], ◌∷◌, Option, Some, None, Result, Ok, Err, drop, take, fold, if◌then◌else◌, length}
 use Rattle.std.specs.Char.{is_ascii_hexdigit}
 use Rattle.std.specs.Result.{result_ok}
 use Rattle.std.specs.Str.{is_utf8}
@@ -19,31 +19,21 @@ abbrev pub of_hex_digits : Result (List ℕ) FromHexError → InputKind
 of_hex_digits (Ok octets) = spelled octets
 of_hex_digits (Err e) = odd_digits
 
--- as many octets follow a number of one, two or three octets as it says
-abbrev pub fits_one : List ℕ → Bool
-fits_one [] = false
-fits_one (a ∷ rest) = a == length rest
+-- the number behind which these digits in base 256 stand
+abbrev pub with_digits : ℕ → List ℕ → ℕ
+with_digits number digits = fold (λ front digit. 256 * front + digit) number digits
 
-abbrev pub fits_two : List ℕ → Bool
-fits_two [] = false
-fits_two (a ∷ []) = false
-fits_two (a ∷ b ∷ rest) = 256 * a + b == length rest
+-- so many octets are the digits of a number in base 256, and as many octets follow as it says
+abbrev pub number_fits : ℕ → List ℕ → Bool
+number_fits count octets =
+    nat_le count (length octets) && with_digits 0 (take count octets) == length (drop count octets)
 
-abbrev pub fits_three : List ℕ → Bool
-fits_three [] = false
-fits_three (a ∷ []) = false
-fits_three (a ∷ b ∷ []) = false
-fits_three (a ∷ b ∷ c ∷ rest) = 65536 * a + 256 * b + c == length rest
-
--- length octets of the definite form, and as many octets behind them as they say
+-- length octets of the definite form, and as many octets behind them as they say (X.690 8.1.3)
 abbrev pub length_fits : List ℕ → Bool
 length_fits [] = false
 length_fits (n ∷ rest) =
     if nat_lt n 128 then n == length rest
-    else if n == 129 then fits_one rest
-    else if n == 130 then fits_two rest
-    else if n == 131 then fits_three rest
-    else false
+    else nat_lt 128 n && nat_lt n 255 && number_fits (n - 128) rest
 
 -- the octets are one SEQUENCE, to their end
 abbrev pub is_sequence : List ℕ → Bool

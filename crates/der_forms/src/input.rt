@@ -8,7 +8,7 @@ ghost use Rattle.der_digits.specs.Sources.{source_digits};
 ghost use Rattle.der_digits.specs.Spelled.{IsSpelling};
 ghost use Rattle.der_digits.specs.Search.{all_of_some};
 ghost use Rattle.der_forms.specs.Forms.{InputKind, is_printed, unknown_text, without_spaces};
-ghost use Rattle.der_forms.specs.Known.{are_words, fits_one, fits_three, fits_two, form_is, form_of_text, if_digits, if_sequence, is_in_words, is_sequence, length_fits, of_base64, of_loose_base64, of_symbols};
+ghost use Rattle.der_forms.specs.Known.{are_words, form_is, form_of_text, if_digits, if_sequence, is_in_words, is_sequence, length_fits, number_fits, of_base64, of_loose_base64, of_symbols};
 ghost use Rattle.der_forms.specs.Objects.{document_in_text, document_of as document_is, first_of, objects_of};
 ghost use Rattle.der_forms.specs.Shown.{shown, shown_or};
 ghost use Rattle.der_forms.specs.declared.input.FormFault.TheVariants.{OutOfMemory};
@@ -186,40 +186,26 @@ fn length_fits(octets: &[u8]) -> bool
         return false;
     };
     match *n {
-        0x81 => fits_one(rest),
-        0x82 => fits_two(rest),
-        0x83 => fits_three(rest),
+        0x81..=0xFE => number_fits(usize::from(*n - 0x80), rest),
         n => n < 0x80 && usize::from(n) == rest.len(),
     }
 }
 
-fn fits_one(octets: &[u8]) -> bool
-    ensures { result ≡ fits_one octets.now }
+// Whether so many octets are a number, which may be padded, and as many octets follow as it says.
+fn number_fits(count: usize, octets: &[u8]) -> bool
+    ensures { result ≡ number_fits count octets.now }
 {
-    match octets {
-        [a, rest @ ..] => usize::from(*a) == rest.len(),
-        _ => false,
-    }
-}
-
-fn fits_two(octets: &[u8]) -> bool
-    ensures { result ≡ fits_two octets.now }
-{
-    match octets {
-        [a, b, rest @ ..] => 256 * usize::from(*a) + usize::from(*b) == rest.len(),
-        _ => false,
-    }
-}
-
-fn fits_three(octets: &[u8]) -> bool
-    ensures { result ≡ fits_three octets.now }
-{
-    match octets {
-        [a, b, c, rest @ ..] => {
-            65536 * usize::from(*a) + 256 * usize::from(*b) + usize::from(*c) == rest.len()
+    let Some((digits, rest)) = octets.split_at_checked(count) else {
+        return false;
+    };
+    let mut number = 0u128;
+    for digit in digits {
+        number = 256 * number + u128::from(*digit);
+        if number > rest.len() as u128 {
+            return false;
         }
-        _ => false,
     }
+    number == rest.len() as u128
 }
 
 fn is_printed_text(text: &[u8]) -> bool

@@ -1,4 +1,6 @@
 // What stands in extensions of certificates and of revocation lists (RFC 5280, section 4.2).
+ghost use Rattle.std.specs.Prelude.{◌≡◌, ◌+◌, ◌*◌, ◌<◌, [], length, IfOk, string_bytes};
+
 use std::alloc::{AllocError, Global};
 use std::net::{Ipv4Addr, Ipv6Addr};
 
@@ -102,21 +104,38 @@ pub fn general_name(tag: u64) -> Option<&'static str> {
     }
 }
 
-/// The names of the bits that are set, the first of them bit 8 of the first octet, with a comma and a space between
-/// two; of one that has no name its number.
+/// The names of those that are set of so many bits, the first of them bit 8 of the first octet, with a comma and a
+/// space between two; of one that has no name its number. No names where more than seven bits of the octets are
+/// unused, since no BIT STRING is so (X.690 8.6.2.2).
 ///
 /// # Errors
 /// Memory ran out.
-pub fn bit_names(alloc: Global, kind: NamedBits, octets: &[u8]) -> Result<String, AllocError> {
+pub fn bit_names(
+    alloc: Global,
+    kind: NamedBits,
+    count: usize,
+    octets: &[u8],
+) -> Result<String, AllocError>
+    ensures { IfOk result (λ names. count + 7 < 8 * length octets.now → string_bytes names ≡ []) }
+{
     let mut names = String::new(alloc);
-    for (i, octet) in octets.iter().enumerate() {
-        for bit in 0..8usize {
-            if *octet & (0x80 >> bit) != 0 {
-                push_name(&mut names, kind, i.saturating_mul(8).saturating_add(bit))?;
-            }
+    if count.div_ceil(8) < octets.len() {
+        return Ok(names);
+    }
+    for number in 0..count {
+        if is_set(octets, number) {
+            push_name(&mut names, kind, number)?;
         }
     }
     Ok(names)
+}
+
+// Whether the bit of this number is there and set.
+fn is_set(octets: &[u8], number: usize) -> bool {
+    match octets.get(number / 8) {
+        Some(octet) => *octet & (0x80 >> (number % 8)) != 0,
+        None => false,
+    }
 }
 
 fn push_name(names: &mut String, kind: NamedBits, number: usize) -> Result<(), AllocError> {

@@ -9,6 +9,7 @@
 #![tactic(auto)]
 
 use asn1_departures::departures;
+use asn1_headers::error::ASN1DecodeErr;
 use der_io::{StreamFault, fault_text, read_all, split_line, status, write_all};
 use hex::FromHexError;
 use std::alloc::{AllocError, Global};
@@ -91,7 +92,10 @@ fn listed(alloc: Global, octets: &[u8]) -> Result<String, AllocError> {
                 text.push_str("none")?;
             }
         }
-        Err(fault) => write!(text, "refused {} at {}", fault.error.name(), fault.offset)?,
+        Err(fault) => match fault.error {
+            ASN1DecodeErr::OutOfMemory => return Err(AllocError),
+            _ => write!(text, "refused {} at {}", fault.error.name(), fault.offset)?,
+        },
     }
     Ok(text)
 }

@@ -82,8 +82,15 @@ fn shown_character(c: char) -> String {
     }
 }
 
-/// The backslash, controls, and characters that can't be seen or turn the direction of a line.
+/// The signs that the lines above have themselves, and characters that can't be seen or that move what stands beside
+/// them: of Unicode, Cc, Zl, Zp, Default_Ignorable_Code_Point and U+FFF9 to U+FFFB.
 fn is_hidden(c: char) -> bool {
-    matches!(c, '\\' | '\0'..='\x1f' | '\x7f'..='\u{9f}' | '\u{200b}'..='\u{200f}' | '\u{2028}'..='\u{202e}')
-        || matches!(c, '\u{2060}'..='\u{206f}' | '\u{feff}')
+    matches!(
+        c,
+        '#' | '=' | '\\' | '\0'..='\x1f' | '\x7f'..='\u{9f}' | '\u{ad}' | '\u{34f}' | '\u{61c}'
+            | '\u{115f}'..='\u{1160}' | '\u{17b4}'..='\u{17b5}' | '\u{180b}'..='\u{180f}' | '\u{200b}'..='\u{200f}'
+            | '\u{2028}'..='\u{202e}' | '\u{2060}'..='\u{206f}' | '\u{3164}' | '\u{fe00}'..='\u{fe0f}'
+            | '\u{feff}' | '\u{ffa0}' | '\u{fff0}'..='\u{fffb}' | '\u{1bca0}'..='\u{1bca3}' | '\u{1d173}'..='\u{1d17a}'
+            | '\u{e0000}'..='\u{e0fff}'
+    )
 }

@@ -88,7 +88,7 @@ impl Builder {
         self.add(block.class(), block.tag(), block.is_constructed(), Ok(block.contents()))
     }
 
-    /// The canonical bytes (DER) of the document, or the first error. A block that was not closed is a
+    /// The canonical bytes of the document, or the first error. A block that was not closed is a
     /// [`FaultKind::BadRecord`].
     pub fn finish(&self) -> Result<Vec<u8>, Fault> {
         match (self.fault, self.open.last()) {

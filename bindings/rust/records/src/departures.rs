@@ -60,6 +60,8 @@ pub enum Rule {
     Order,
     /// The contents of a constructed encoding are encodings.
     NotEncodings,
+    /// A rule of a later library, by its number there.
+    Unknown(u32),
 }
 
 /// The rules, each with what is wrong and the clauses that say it.
@@ -100,17 +102,23 @@ const RULES: [(Rule, &str, &str); 27] = [
 impl Rule {
     /// The rule with a number of `simple_asn1.h`, from 1.
     pub(crate) fn numbered(number: u32) -> Rule {
-        RULES[number as usize - 1].0
+        let index = (number as usize).wrapping_sub(1);
+        RULES.get(index).map_or(Rule::Unknown(number), |(rule, ..)| *rule)
     }
 
     /// What is wrong where the rule is broken, in a few words.
     pub fn text(self) -> &'static str {
-        RULES[self as usize].1
+        self.words().0
     }
 
-    /// The clauses that say the rule: of X.690, unless X.680 is named.
+    /// The clauses that say the rule: of X.690, unless X.680 is named. None of [`Rule::Unknown`].
     pub fn section(self) -> &'static str {
-        RULES[self as usize].2
+        self.words().1
+    }
+
+    fn words(self) -> (&'static str, &'static str) {
+        let found = RULES.iter().find(|(rule, ..)| *rule == self);
+        found.map_or(("unknown rule", ""), |(_, text, section)| (text, section))
     }
 }
 
@@ -140,4 +148,19 @@ pub struct Departure {
 pub fn departures(octets: &[u8]) -> Result<Vec<Departure>, Fault> {
     let found = calls::departures(octets)?;
     Ok(found.into_iter().map(|found| Departure { offset: found.offset, rule: Rule::numbered(found.rule) }).collect())
+}
+
+#[cfg(test)]
+mod tests {
+    use super::*;
+
+    #[test]
+    fn a_number_is_that_of_a_rule_or_stays_one() {
+        assert_eq!([1, 27].map(Rule::numbered), [Rule::LongIdentifier, Rule::NotEncodings]);
+        for number in [0, 28, u32::MAX] {
+            let rule = Rule::numbered(number);
+            assert_eq!(rule, Rule::Unknown(number));
+            assert_eq!((rule.text(), rule.section()), ("unknown rule", ""));
+        }
+    }
 }

@@ -7,8 +7,8 @@ use std::fmt;
 #[derive(Clone, Copy, Debug, PartialEq, Eq, Hash)]
 pub struct Fault {
     pub kind: FaultKind,
-    /// The offset of the block at fault, in bytes from the start; for [`FaultKind::BadRecord`] the record's index, and
-    /// for a value that a [`Builder`](crate::Builder) cannot add the index of its block.
+    /// The offset of the block at fault, in bytes from the start; for [`FaultKind::BadRecord`] the index of the last
+    /// such record, and for a value that a [`Builder`](crate::Builder) cannot add the index of its block.
     pub offset: usize,
 }
 
@@ -46,6 +46,8 @@ pub enum FaultKind {
     BadRecord,
     /// The text is not an OBJECT IDENTIFIER's, as `1.2.840` is: only from [`Builder`](crate::Builder).
     NotOid,
+    /// A status of a later library, by its number there.
+    Unknown(u32),
 }
 
 impl Fault {
@@ -66,7 +68,7 @@ impl Fault {
             14 => FaultKind::NotSigned,
             15 => FaultKind::BadRecord,
             16 => FaultKind::NotOid,
-            _ => unreachable!("unexpected status {status}"),
+            _ => FaultKind::Unknown(status),
         };
         Fault { kind, offset }
     }
@@ -90,6 +92,7 @@ impl fmt::Display for FaultKind {
             FaultKind::NotSigned => "the first block is not a signed triple",
             FaultKind::BadRecord => "a record cannot be written",
             FaultKind::NotOid => "the text is not an OBJECT IDENTIFIER",
+            FaultKind::Unknown(status) => return write!(f, "unknown status {status}"),
         })
     }
 }
@@ -105,5 +108,18 @@ impl fmt::Display for Fault {
 impl Error for Fault {
     fn source(&self) -> Option<&(dyn Error + 'static)> {
         Some(&self.kind)
+    }
+}
+
+#[cfg(test)]
+mod tests {
+    use super::*;
+
+    #[test]
+    fn a_status_without_a_name_stays_a_number() {
+        let fault = Fault::of_status(17, 3);
+        assert_eq!(fault, Fault { kind: FaultKind::Unknown(17), offset: 3 });
+        assert_eq!(fault.to_string(), "unknown status 17, at 3");
+        assert_eq!(Fault::of_status(16, 0).kind, FaultKind::NotOid);
     }
 }

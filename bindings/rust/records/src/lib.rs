@@ -47,7 +47,9 @@ impl<'a> Document<'a> {
         Ok(Document { octets, records: calls::read(octets)? })
     }
 
-    /// Reads a document in canonical form (DER), and rejects any other.
+    /// Reads a document in canonical form, and rejects any other. Canonical is what [`rewrite`] writes, which is not
+    /// quite DER: a BIT STRING of no bits is `03 00`, where DER has `03 01 00`. Section 6 of the library's
+    /// `docs/GRAMMAR.md` has the whole list, and [`departures`] says whether bytes are DER.
     pub fn read_strict(octets: &'a [u8]) -> Result<Document<'a>, Fault> {
         Ok(Document { octets, records: calls::read_strict(octets)? })
     }
@@ -72,7 +74,7 @@ impl<'a> Document<'a> {
         self.octets
     }
 
-    /// The records of all blocks, as [`write`] takes them.
+    /// The records of all blocks, as [`write()`] takes them.
     pub fn records(&self) -> &[Record] {
         &self.records
     }
@@ -259,13 +261,13 @@ pub fn check(octets: &[u8]) -> Result<(), Fault> {
     calls::check(octets)
 }
 
-/// The canonical bytes (DER) of a document.
+/// The canonical bytes of a document, as [`Document::read_strict`] accepts them.
 pub fn rewrite(octets: &[u8]) -> Result<Vec<u8>, Fault> {
     calls::rewrite(octets)
 }
 
-/// The canonical bytes (DER) of what records describe: one with items holds the records after it, any other has its
-/// contents octets in `octets`. `next` and `depth` are ignored.
+/// The canonical bytes of what records describe: one with items holds the records after it, any other has its contents
+/// octets in `octets`. `next` and `depth` are ignored.
 pub fn write(octets: &[u8], records: &[Record]) -> Result<Vec<u8>, Fault> {
     calls::write(octets, records)
 }

@@ -142,6 +142,8 @@ fn what_is_read_is_written() -> Result<(), Fault> {
     let mut records = document.records().to_vec();
     records[0].items = 2;
     assert_eq!(write(&loose, &records).unwrap_err(), Fault { kind: FaultKind::BadRecord, offset: 0 });
+    records[1].tag_class = 4;
+    assert_eq!(write(&loose, &records).unwrap_err(), Fault { kind: FaultKind::BadRecord, offset: 1 });
     Ok(())
 }
 

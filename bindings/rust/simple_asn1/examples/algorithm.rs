@@ -13,14 +13,22 @@ impl FromASN1 for PublicKey {
     type Error = ASN1DecodeErr;
 
     fn from_asn1(blocks: &[ASN1Block]) -> Result<(PublicKey, &[ASN1Block]), ASN1DecodeErr> {
-        let [ASN1Block::Sequence(_, items), rest @ ..] = blocks else { return Err(ASN1DecodeErr::Incomplete) };
-        let [ASN1Block::Sequence(_, algorithm), ASN1Block::BitString(_, bits, _)] = &items[..] else {
-            return Err(ASN1DecodeErr::Incomplete);
-        };
-        let Some(ASN1Block::ObjectIdentifier(_, algorithm)) = algorithm.first() else {
-            return Err(ASN1DecodeErr::Incomplete);
-        };
-        Ok((PublicKey { algorithm: algorithm.clone(), bits: *bits }, rest))
+        match blocks {
+            [ASN1Block::Sequence(_, items), rest @ ..] => Ok((public_key(items)?, rest)),
+            _ => Err(ASN1DecodeErr::Incomplete),
+        }
+    }
+}
+
+fn public_key(items: &[ASN1Block]) -> Result<PublicKey, ASN1DecodeErr> {
+    match items {
+        [ASN1Block::Sequence(_, algorithm), ASN1Block::BitString(_, bits, _)] => match algorithm.first() {
+            Some(ASN1Block::ObjectIdentifier(_, algorithm)) => {
+                Ok(PublicKey { algorithm: algorithm.clone(), bits: *bits })
+            }
+            _ => Err(ASN1DecodeErr::Incomplete),
+        },
+        _ => Err(ASN1DecodeErr::Incomplete),
     }
 }
 

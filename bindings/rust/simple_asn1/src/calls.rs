@@ -1,6 +1,6 @@
-//! The calls of `simple_asn1.h`. All unsafe code is in this file and in `growing`.
+//! The calls of `simple_asn1.h`. All unsafe code is in this file, in `growing` and in `once_lock`.
 
-use simple_asn1_sys as sys;
+use crate::sys;
 use std::alloc::{handle_alloc_error, Layout};
 use std::cell::Cell;
 pub use sys::{Block, Moment, Outcome};

@@ -30,8 +30,8 @@ pub(crate) struct Growing<'a> {
 impl<'a> Growing<'a> {
     /// Adds to the blocks of a document, which have room for all.
     pub fn new(blocks: &'a mut Vec<ASN1Block>) -> Growing<'a> {
-        let mut items = Vec::with_capacity(USUAL_DEPTH);
-        items.push(ptr::from_mut(blocks));
+        let mut items: Vec<*mut Vec<ASN1Block>> = Vec::with_capacity(USUAL_DEPTH);
+        items.push(blocks);
         Growing { items, attempts: Vec::with_capacity(USUAL_ATTEMPTS), blocks: PhantomData }
     }
 
@@ -103,7 +103,7 @@ fn items_of(block: &mut ASN1Block) -> &mut Vec<ASN1Block> {
 
 /// The one item that a vector has room for, in the same memory.
 pub(crate) fn only<T>(items: Vec<T>) -> Box<T> {
-    let Ok(one) = <Box<[T; 1]>>::try_from(items) else { panic!("its record has one item") };
-    // SAFETY: an array of one has the layout of its item, and so does the memory of a box of each.
-    unsafe { Box::from_raw(Box::into_raw(one).cast()) }
+    assert_eq!(items.len(), 1, "its record has one item");
+    // SAFETY: a slice of one has the layout of its item, and so does the memory of a box of each.
+    unsafe { Box::from_raw(Box::into_raw(items.into_boxed_slice()).cast()) }
 }

@@ -7,8 +7,14 @@ mod convert;
 mod error;
 mod growing;
 mod oid;
+mod once_lock;
 mod read;
 mod write;
+
+// in a checkout this is the file of simple_asn1-sys; a package has a copy of it, and so needs no other crate
+#[allow(dead_code)]
+#[path = "../../sys/src/calls.rs"]
+mod sys;
 
 pub use block::{ASN1Block, ASN1Class};
 pub use convert::{der_decode, der_encode, FromASN1, FromASN1WithBody, ToASN1};

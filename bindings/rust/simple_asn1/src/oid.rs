@@ -1,6 +1,6 @@
+use crate::once_lock::OnceLock;
 use crate::{base128, calls, write, ASN1DecodeErr, ASN1EncodeErr, BigUint};
 use std::fmt;
-use std::sync::OnceLock;
 
 /// An object identifier: its components.
 #[derive(Clone)]
@@ -46,10 +46,10 @@ impl OID {
         if size > SHORT {
             return OID::of_many(&octets[..size]);
         }
-        let short = match octets.first_chunk() {
+        let short = match octets.get(..16).map(<[u8; 16]>::try_from) {
             // faster than a copy of so few octets by their number
-            Some(front) => (u128::from_le_bytes(*front) & !(u128::MAX << (8 * size))).to_le_bytes(),
-            None => {
+            Some(Ok(front)) => (u128::from_le_bytes(front) & !(u128::MAX << (8 * size))).to_le_bytes(),
+            _ => {
                 let mut short = [0; 16];
                 short[..size].copy_from_slice(&octets[..size]);
                 short
@@ -92,9 +92,13 @@ fn components_of(contents: &[u8]) -> Vec<BigUint> {
 
 /// Components of any size, of contents octets that were read. The first octet is of the first two.
 fn large_components_of(contents: &[u8]) -> Vec<BigUint> {
-    let Some((&leading, rest)) = contents.split_first() else { return Vec::new() };
-    let first = (leading / 40).min(2);
-    [first, leading - 40 * first].map(BigUint::from).into_iter().chain(base128::numbers(rest)).collect()
+    match contents.split_first() {
+        Some((&leading, rest)) => {
+            let first = (leading / 40).min(2);
+            [first, leading - 40 * first].map(BigUint::from).into_iter().chain(base128::numbers(rest)).collect()
+        }
+        None => Vec::new(),
+    }
 }
 
 impl fmt::Debug for OID {

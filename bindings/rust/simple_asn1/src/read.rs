@@ -2,8 +2,7 @@
 
 use crate::calls::{self, Block};
 use crate::growing::{only, Growing};
-use crate::{base128, ASN1Block, ASN1Class, ASN1DecodeErr, BigInt, BigUint, OID};
-use simple_asn1_sys as sys;
+use crate::{base128, sys, ASN1Block, ASN1Class, ASN1DecodeErr, BigInt, BigUint, OID};
 use std::iter;
 use std::mem::{self, MaybeUninit};
 use std::sync::atomic::{AtomicUsize, Ordering::Relaxed};
@@ -207,9 +206,13 @@ const USUAL_INTEGER: usize = 24;
 /// In two's complement. `num-bigint` takes the octets from the last one, and would turn them round on the heap.
 fn integer(contents: &[u8]) -> BigInt {
     let mut room = [0; USUAL_INTEGER];
-    let Some(turned) = room.get_mut(..contents.len()) else { return BigInt::from_signed_bytes_be(contents) };
-    turned.iter_mut().zip(contents.iter().rev()).for_each(|(turned, octet)| *turned = *octet);
-    BigInt::from_signed_bytes_le(turned)
+    match room.get_mut(..contents.len()) {
+        Some(turned) => {
+            turned.iter_mut().zip(contents.iter().rev()).for_each(|(turned, octet)| *turned = *octet);
+            BigInt::from_signed_bytes_le(turned)
+        }
+        None => BigInt::from_signed_bytes_be(contents),
+    }
 }
 
 /// The contents octets of all strings are their text in UTF-8, but for an IA5String's above 7F.
@@ -245,8 +248,10 @@ fn has_empty_group_before(octets: &[u8], fault: usize) -> bool {
                 if cut > 0 && read_alone(&octets[start..start + cut]) == Ok(true) {
                     return true;
                 }
-                let Some(around) = calls::header(octets, start + cut) else { return false };
-                start = around.offset + around.header;
+                start = match calls::header(octets, start + cut) {
+                    Some(around) => around.offset + around.header,
+                    None => return false,
+                };
             }
         }
     }

@@ -1,8 +1,7 @@
 //! Records of a tree, and the contents octets of its leaves.
 
 use crate::calls::{self, Block, Moment, Outcome};
-use crate::{base128, ASN1Block, ASN1Class, ASN1EncodeErr, BigUint, OID};
-use simple_asn1_sys as sys;
+use crate::{base128, sys, ASN1Block, ASN1Class, ASN1EncodeErr, BigUint, OID};
 use time::PrimitiveDateTime;
 
 /// The canonical bytes of a block.
