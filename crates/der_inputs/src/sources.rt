@@ -96,8 +96,8 @@ fn run_on<B: Before, R: Read + Drop, W: Write>(
     (outcomes, writer)
 }
 
-// Writes what is wanted of all inputs, with what stands before and behind it. Of inputs none of which can be read nothing
-// is written.
+// Writes what is wanted of all inputs, with what stands before and behind it. Of inputs none of which can be read
+// nothing is written.
 fn write_all_of<R: Read + Drop, W: Write>(
     show: &Show,
     sources: &mut [Source<'_, R>],

@@ -104,9 +104,9 @@ pub fn general_name(tag: u64) -> Option<&'static str> {
     }
 }
 
-/// The names of those that are set of so many bits, the first of them bit 8 of the first octet, with a comma and a space
-/// between two; of one that has no name its number. No names where more than seven bits of the octets are unused, since
-/// no BIT STRING is so (X.690 8.6.2.2).
+/// The names of those that are set of so many bits, the first of them bit 8 of the first octet, with a comma and a
+/// space between two; of one that has no name its number. No names where more than seven bits of the octets are
+/// unused, since no BIT STRING is so (X.690 8.6.2.2).
 ///
 /// # Errors
 /// Memory ran out.

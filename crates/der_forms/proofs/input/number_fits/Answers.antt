@@ -12,7 +12,8 @@ returns-then-number-rest c =
     let octets = c.args.octets.now in
     let i = c.loop-digit.digit-index in
     let number = 256 * c.loop-digit.number + c.from.result in
-    let same : with_digits (256 * c.loop-digit.number + get_or digits i 0) (drop (suc i) digits) ≡ with_digits 0 digits =
+    let same : with_digits (256 * c.loop-digit.number + get_or digits i 0) (drop (suc i) digits)
+    ≡ with_digits 0 digits =
     ap (with_digits c.loop-digit.number) (sym (drop-cons digits i 0 c.loop-digit-test.true))
     ∙ c.loop-digit.invariant.same in
     let more : number ≤ with_digits 0 digits =
