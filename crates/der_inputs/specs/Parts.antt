@@ -1,12 +1,12 @@
 -- Documents as findings, and what a `Show` wants. Private contracts alone name these.
-use Rattle.std.specs.Prelude.{◌≡◌, ℕ, Bool, true, false, List, [], ◌∷◌, ◌++◌, Option, Result, Vec}
+use Rattle.std.specs.Prelude.{◌≡◌, ◌⊎◌, ℕ, Bool, true, false, List, [], ◌∷◌, ◌++◌, Option, Result, Vec}
 use Rattle.std.specs.Global.{Global}
 use Rattle.std.specs.List.{flat_map}
 use Rattle.std.specs.Option.{option_map}
 use Rattle.std.specs.Result.{result_ok}
 use Rattle.der_forms.specs.Objects.{objects_of}
 use Rattle.der_inputs.specs.Findings.{Finding, of_object}
-use Rattle.der_inputs.specs.Formats.{IsFrameOf, IsFramed}
+use Rattle.der_inputs.specs.Formats.{IsFrameOf}
 use Rattle.der_inputs.specs.Inputs.{IsFindingText, Wanted}
 use Rattle.der_inputs.specs.Outcomes.{all_read}
 use Rattle.der_inputs.specs.Texts.{AreTexts}
@@ -46,17 +46,21 @@ wanted_of show = record {
   most_depth = show.style.most_depth;
 }
 
--- what stands before texts, which may be there already
-abbrev pub IsHead : OutputFormat → Bool → List ℕ → Type 0
-IsHead format true head = head ≡ []
-IsHead format false head = IsFrameOf format head
+-- what stands before texts or behind them, unless it is left out
+abbrev pub IsFrameUnless : Bool → OutputFormat → List ℕ → Type 0
+IsFrameUnless true format text = text ≡ []
+IsFrameUnless false format text = IsFrameOf format text
 
--- the next text, behind what stands before texts if that is not there yet; it may still not be there behind no text
-abbrev pub IsNextText : OutputFormat → Bool → Bool → (List ℕ → Type 0) → List ℕ → Type 0
-IsNextText format begun later Is text =
-    (head own : List ℕ) × (text ≡ head ++ own) × Is own
-    × (((later ≡ true) × IsHead format begun head) ⊎ ((later ≡ begun) × (text ≡ [])))
+-- texts with what stands before them, or nothing at all, as long as that is not begun
+abbrev pub IsBegun : Bool → OutputFormat → List ℕ → List ℕ → Type 0
+IsBegun true format texts output = (head : List ℕ) × IsFrameOf format head × (output ≡ head ++ texts)
+IsBegun false format texts output = (texts ≡ []) × (output ≡ [])
 
--- a text, with what stands before and behind it
-abbrev pub IsFramedText : OutputFormat → (List ℕ → Type 0) → List ℕ → Type 0
-IsFramedText format Is output = (text : List ℕ) × Is text × IsFramed format text output
+abbrev pub IsBegunText : Bool → OutputFormat → (List ℕ → Type 0) → List ℕ → Type 0
+IsBegunText begun format Is output = (texts : List ℕ) × Is texts × IsBegun begun format texts output
+
+-- the next text, with what stands before texts if that is not there yet; or nothing
+abbrev pub IsNextText : Bool → Bool → OutputFormat → (List ℕ → Type 0) → List ℕ → Type 0
+IsNextText begun later format Is text =
+    ((later ≡ begun) × (text ≡ []) × Is [])
+    ⊎ ((later ≡ true) × ((head own : List ℕ) × (text ≡ head ++ own) × IsFrameUnless begun format head × Is own))

@@ -1,5 +1,5 @@
 // How documents are shown.
-ghost use Rattle.std.specs.Prelude.{◌≡◌, [], IfOk, OnOk, false, true, unwrap_or};
+ghost use Rattle.std.specs.Prelude.{◌≡◌, [], IfOk, OnOk, false, not, true, unwrap_or};
 ghost use Rattle.std.specs.Option.{option_map};
 ghost use Rattle.der_inputs.specs.Formats.{IsDump, IsDumpOrRefusal, IsFrameOf, IsLabel, IsLines, IsName, IsSection, IsTitle, IsTitleLine, IsTitleSection, format_by, look_by};
 ghost use Rattle.der_io.specs.Output.{IsWritten};
@@ -7,7 +7,7 @@ ghost use Rattle.der_lines.specs.Dump.{IsDumpOf};
 ghost use Rattle.der_rows.specs.Printing.{IsPrinted};
 ghost use Rattle.der_inputs.specs.Inputs.{IsFindingText, are_colors_shown as colors_shown, names_shown, wanted_by};
 ghost use Rattle.der_inputs.specs.Outcomes.{both_read};
-ghost use Rattle.der_inputs.specs.Parts.{IsHead, finding_in, octets_in, wanted_of};
+ghost use Rattle.der_inputs.specs.Parts.{IsFrameUnless, finding_in, octets_in, wanted_of};
 ghost use Rattle.der_inputs.specs.declared.show.OutputFormat.TheVariants.{Page as page_format};
 
 use crate::documents::Document;
@@ -272,14 +272,15 @@ impl Show {
 
     // Writes what stands before all texts, if it is not there yet.
     pub fn begin_once<W: Write>(&self, is_begun: &mut bool, out: &mut W) -> Result<(), StreamFault>
-        ensures written { OnOk result (IsWritten (IsHead self.now.format is_begun.old)
+        ensures written { OnOk result (IsWritten (IsFrameUnless is_begun.old self.now.format)
             (W.contents out.old) (W.contents out.new)) }
         ensures begun { OnOk result (is_begun.new ≡ true) }
     {
-        if !*is_begun {
-            self.begin(out)?;
-            *is_begun = true;
+        if *is_begun {
+            return Ok(());
         }
+        self.begin(out)?;
+        *is_begun = true;
         Ok(())
     }
 
@@ -295,8 +296,19 @@ impl Show {
         }
     }
 
+    // Writes what stands behind all texts, if what stands before them is there.
+    pub fn end_begun<W: Write>(&self, is_begun: bool, out: &mut W) -> Result<(), StreamFault>
+        ensures { OnOk result (IsWritten (IsFrameUnless (not is_begun) self.now.format)
+            (W.contents out.old) (W.contents out.new)) }
+    {
+        if is_begun {
+            self.end(out)?;
+        }
+        Ok(())
+    }
+
     // Writes what stands behind all texts.
-    pub fn end<W: Write>(&self, out: &mut W) -> Result<(), StreamFault>
+    fn end<W: Write>(&self, out: &mut W) -> Result<(), StreamFault>
         ensures { OnOk result (IsWritten (IsFrameOf self.now.format) (W.contents out.old) (W.contents out.new)) }
     {
         match self.format {

@@ -1,5 +1,5 @@
 // A run over inputs: each is read to its end before anything of it is written.
-ghost use Rattle.std.specs.Prelude.{◌≡◌, List, ℕ, IfOk, IfErr, IfSome, IsErr, IsSome, length, map};
+ghost use Rattle.std.specs.Prelude.{◌≡◌, List, ℕ, false, IfOk, IfErr, IfSome, IsErr, IsSome, length, map};
 ghost use Rattle.std.specs.Io.KnownBytes.{Appends, IsAtEnd};
 ghost use Rattle.std.specs.Option.{option_map};
 ghost use Rattle.der_io.specs.Output.{IsWritten};
@@ -7,7 +7,7 @@ ghost use Rattle.der_inputs.specs.Formats.{IsFramed, format_by};
 ghost use Rattle.der_inputs.specs.Growing.{Grows};
 ghost use Rattle.der_inputs.specs.Inputs.{AreReadToEnds, IsInputText, IsNamedText, IsPart, IsReadToEnd, IsTaskText, input_of, wanted_by};
 ghost use Rattle.der_inputs.specs.Outcomes.{greatest_status};
-ghost use Rattle.der_inputs.specs.Parts.{IsFramedText, IsNextText, octets_in, wanted_of};
+ghost use Rattle.der_inputs.specs.Parts.{IsBegunText, IsNextText, octets_in, wanted_of};
 ghost use Rattle.der_inputs.specs.Texts.{AreTexts};
 ghost use Rattle.der_io.specs.declared.StreamFault.TheVariants.{Memory as memory_fault};
 
@@ -96,7 +96,8 @@ fn run_on<B: Before, R: Read + Drop, W: Write>(
     (outcomes, writer)
 }
 
-// Writes what is wanted of all inputs, and has the writer pass it on.
+// Writes what is wanted of all inputs, with what stands before and behind it. Of inputs none of which can be read
+// nothing is written.
 fn write_all_of<R: Read + Drop, W: Write>(
     show: &Show,
     sources: &mut [Source<'_, R>],
@@ -110,19 +111,22 @@ fn write_all_of<R: Read + Drop, W: Write>(
     ensures read { IfOk result (λ outcomes. AreReadToEnds outcomes.items
         (map (λ source. R.remaining source.reader) sources.new)) }
 {
-    let outcomes = push_sources(show, sources, printer)?;
+    let mut is_begun = false;
+    let outcomes = push_sources(show, sources, &mut is_begun, printer)?;
+    show.end_begun(is_begun, &mut printer.out)?;
     flush(&mut printer.out)?;
     Ok(outcomes)
 }
 
-// Writes what is wanted of each input, one after another, with what stands before and behind it. Of inputs none of
-// which can be read nothing is written.
+// Writes what is wanted of each input, one after another, behind what stands before all texts.
 fn push_sources<R: Read + Drop, W: Write>(
     show: &Show,
     sources: &mut [Source<'_, R>],
+    is_begun: &mut bool,
     printer: &mut Printer<W>,
 ) -> Result<Vec<Outcome>, StreamFault>
-    ensures written { IfOk result (λ outcomes. IsWritten (IsFramedText show.now.format
+    requires { is_begun.old ≡ false }
+    ensures written { IfOk result (λ outcomes. IsWritten (IsBegunText is_begun.new show.now.format
         (AreTexts (IsInputText (wanted_of show.now))
         (map (λ source. input_of source.name.now (R.remaining source.reader)) sources.old) outcomes.items))
         (W.contents printer.old.out) (W.contents printer.new.out)) }
@@ -130,15 +134,11 @@ fn push_sources<R: Read + Drop, W: Write>(
         (map (λ source. R.remaining source.reader) sources.new)) }
 {
     let mut outcomes = Vec::new(show.alloc);
-    let mut is_begun = false;
     for source in sources.iter_mut() {
-        let outcome = push_source(show, source, &mut is_begun, printer)?;
+        let outcome = push_source(show, source, is_begun, printer)?;
         if outcomes.push(outcome).is_err() {
             return Err(StreamFault::Memory);
         }
-    }
-    if is_begun {
-        show.end(&mut printer.out)?;
     }
     Ok(outcomes)
 }
@@ -150,7 +150,7 @@ fn push_source<R: Read + Drop, W: Write>(
     is_begun: &mut bool,
     printer: &mut Printer<W>,
 ) -> Result<Outcome, StreamFault>
-    ensures written { IfOk result (λ outcome. IsWritten (IsNextText show.now.format is_begun.old is_begun.new
+    ensures written { IfOk result (λ outcome. IsWritten (IsNextText is_begun.old is_begun.new show.now.format
         (IsInputText (wanted_of show.now) (input_of source.old.name.now (R.remaining source.old.reader)) outcome))
         (W.contents printer.old.out) (W.contents printer.new.out)) }
     ensures read { IfOk result (λ outcome. IsReadToEnd outcome (R.remaining source.new.reader)) }
