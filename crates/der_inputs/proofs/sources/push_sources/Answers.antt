@@ -26,7 +26,8 @@ loop-source-preserved g c =
           IsWritten-next_source i all now l n left c.push.result were are last e p
           (IsInputText (wanted_of c.args.show.now))
           (λ source. input_of source.name.now (g.R.Read.remaining source.reader)) c.source-item.result
-          c.loop-source.is_begun c.push_source.new.is_begun c.args.show.now.format (g.W.Write.contents c.args.printer.now.out) (g.W.Write.contents c.loop-source.printer.out)
+          c.loop-source.is_begun c.push_source.new.is_begun c.args.show.now.format
+          (g.W.Write.contents c.args.printer.now.out) (g.W.Write.contents c.loop-source.printer.out)
           (g.W.Write.contents c.push_source.new.printer.out) c.loop-source.invariant.written
           c.in_ok-outcome.ensures.written;
       read =
