@@ -327,7 +327,8 @@ simple_asn1_outcome simple_asn1_encoding(uint8_t tag_class, uint8_t constructed,
  * then the bits, most significant first:
  *
  *     const uint8_t *contents = simple_asn1_contents(octets, &block);
- *     size_t bits = block.contents == 0 ? 0 : 8 * (block.contents - 1) - contents[0];
+ *     size_t unused = block.contents ? contents[0] : 0, all = block.contents ? 8 * (block.contents - 1) : 0;
+ *     size_t bits = unused <= all ? all - unused : 0; // simple_asn1_outline does not check that
  *     int sixth = bits > 5 && (contents[1 + 5 / 8] >> (7 - 5 % 8) & 1);
  */
 static inline const uint8_t *simple_asn1_contents(const uint8_t *octets, const simple_asn1_block *block)

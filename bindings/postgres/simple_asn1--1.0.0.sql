@@ -2,8 +2,8 @@
 
 -- The blocks of a document, in order: where each begins, the bytes of its header (identifier and length octets) and of
 -- all of it, and how many blocks are directly inside it. The class is 0 universal, 1 application, 2 context-specific,
--- 3 private. A tag number of more than 1,024 bytes is null. Bytes that are no document are an error that tells the
--- offset.
+-- 3 private. A tag number with more than 1,024 identifier octets is null. Bytes that are no document are an error that
+-- tells the offset.
 CREATE FUNCTION der_blocks(document bytea, OUT index int, OUT depth int, OUT class int, OUT tag numeric,
                            OUT "offset" int, OUT size int, OUT items int, OUT header int, OUT constructed bool)
     RETURNS SETOF record AS 'MODULE_PATHNAME' LANGUAGE C IMMUTABLE STRICT PARALLEL SAFE COST 1000 ROWS 60;

@@ -89,6 +89,15 @@ class Reading(unittest.TestCase):
         self.assertEqual(self.refused(simple_asn1.departures, many[:-1]), (Status.INCOMPLETE, 14997))
         self.assertEqual(self.refused(simple_asn1.departures, b""), (Status.EMPTY, 0))
 
+    def test_an_outline_has_no_bits_where_more_are_unused_than_there_are(self):
+        # X.690 8.6.2.2: from 0 to 7 bits are unused. Here 7 of none, 9 of 8, and 255 of 16 are
+        for octets in ("03 01 07", "03 02 09 00", "03 03 FF 01 02"):
+            block = simple_asn1.outline(bytes.fromhex(octets))[0]
+            self.assertEqual(self.refused(lambda: block.bits), (Status.BIT_STRING_LENGTH, 0))
+        null, unused, empty = simple_asn1.outline(bytes.fromhex("05 00 03 02 08 FF 03 00"))
+        self.assertEqual(self.refused(lambda: null.bits), (Status.NO_SUCH_VALUE, 0))
+        self.assertEqual((unused.bits, empty.bits), ((b"\xff", 0), (b"", 0)))
+
     @unittest.skipUnless(shutil.which("openssl"), "there is no openssl")
     def test_the_outline_of_a_certificate_with_an_odd_name_is_that_of_openssl(self):
         config = "[req]\ndistinguished_name=dn\nstring_mask=MASK:0x0800\nprompt=no\nutf8=yes\n[dn]\nCN=ä\n"

@@ -10,19 +10,19 @@ import random
 import simple_asn1
 from x690 import Nest, encoding, length_octets, nested
 
-MOST_TAG_OCTETS = 1024
+MOST_IDENTIFIER_OCTETS = 1024
 NULL = bytes([5, 0])
 
 
 def tag_of(octets, record):
-    """The tag number, which a record has up to 2^64 - 2 alone; nothing of a number with too many octets."""
+    """The tag number, which a record has up to 2^64 - 2 alone; nothing where it has too many octets."""
     if record.tag < 2**64 - 1:
         return str(record.tag)
     number, at = 0, record.offset + 1
     while True:
         number = number * 128 + octets[at] % 128
         if octets[at] < 128:
-            return str(number) if at - record.offset <= MOST_TAG_OCTETS else ""
+            return str(number) if at - record.offset < MOST_IDENTIFIER_OCTETS else ""
         at += 1
 
 

@@ -61,17 +61,17 @@ INSERT INTO time VALUES ('\x170d3530303130313030303030305a');
 SELECT it, der_time(it, 0) FROM time ORDER BY 2;
 DROP TABLE time;
 
--- tag numbers: of 1,024 bytes, and of more
-SELECT b.tag = 2::numeric ^ 7161 AS fits, b.size
-FROM der_blocks('\x9f81' || decode(repeat('80', 1022) || '0000', 'hex')) b;
-SELECT b.* FROM der_blocks('\x9f81' || decode(repeat('80', 1023) || '0000', 'hex') || '\x0500') b;
+-- tag numbers: of 1,024 identifier octets, and of more
+SELECT b.tag = 2::numeric ^ 7154 AS fits, b.size
+FROM der_blocks('\x9f81' || decode(repeat('80', 1021) || '0000', 'hex')) b;
+SELECT b.* FROM der_blocks('\x9f81' || decode(repeat('80', 1022) || '0000', 'hex') || '\x0500') b;
 
 -- nothing takes long
-SET statement_timeout = '2s';
-SELECT der_oid('\x068304e202' || decode('2a' || repeat('ff', 320000) || '7f', 'hex'), 0) AS oid,
-       der_integer('\x028304e200' || decode(repeat('77', 320000), 'hex'), 0) AS integer;
-SELECT b.* FROM der_blocks('\x9f' || decode(repeat('ff', 320000) || '7f00', 'hex')) b;
-SELECT count(*), count(b.tag) FROM der_blocks(decode(repeat('9f' || repeat('ff', 1023) || '7f00', 300), 'hex')) b;
+SET statement_timeout = '10s';
+SELECT der_oid('\x06830f4242' || decode('2a' || repeat('ff', 1000000) || '7f', 'hex'), 0) AS oid,
+       der_integer('\x02830f4240' || decode(repeat('77', 1000000), 'hex'), 0) AS integer;
+SELECT b.* FROM der_blocks('\x9f' || decode(repeat('ff', 1000000) || '7f00', 'hex')) b;
+SELECT count(*), count(b.tag) FROM der_blocks(decode(repeat('9f' || repeat('ff', 1022) || '7f00', 100), 'hex')) b;
 RESET statement_timeout;
 
 -- canonical form, and faults

@@ -1,6 +1,6 @@
 """Which rules of DER octets break, and where."""
 import enum
-from typing import List, NamedTuple, Optional
+from typing import List, NamedTuple, Optional, Tuple
 
 from . import _calls
 from ._calls import Octets, octets_of
@@ -33,6 +33,10 @@ class Rule(enum.IntEnum):
         rule._name_, rule._value_ = f"UNKNOWN_{number}", number
         rule.text, rule.section = f"unknown rule {number}", ""
         return rule
+
+    def __reduce_ex__(self, protocol: object) -> Tuple[type, Tuple[int]]:
+        # by its number: the Python 3.11 of Debian 12 takes the name, by which nothing finds one of a later library
+        return type(self), (self.value,)
 
     LONG_IDENTIFIER = 1, "tag number below 31 in more than one byte", "8.1.2.2"
     PADDED_TAG = 2, "tag number not in the fewest bytes", "8.1.2.4.2"

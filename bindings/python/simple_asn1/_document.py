@@ -276,6 +276,8 @@ class Block:
         if record.tag_class != 0 or record.tag != 3:
             raise refusal(Status.NO_SUCH_VALUE, record.offset)
         octets, unused = _bits_of(self._document._octets, record)
+        if unused > 8 * len(octets):  # outline does not check contents octets
+            raise refusal(Status.BIT_STRING_LENGTH, record.offset)
         return Bits(octets, 8 * len(octets) - unused)
 
 

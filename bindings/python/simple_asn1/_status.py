@@ -33,6 +33,10 @@ class Status(enum.IntEnum):
         status._name_, status._value_ = f"UNKNOWN_{value}", value
         return status
 
+    def __reduce_ex__(self, protocol: object) -> Tuple[type, Tuple[int]]:
+        # by its number: the Python 3.11 of Debian 12 takes the name, by which nothing finds one of a later library
+        return type(self), (self.value,)
+
 
 TEXTS = {
     Status.OK: "done",

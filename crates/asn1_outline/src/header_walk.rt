@@ -11,8 +11,8 @@ use crate::entry::Entry;
 use crate::listing::{EntryBuilder, EntryItems, header_entry};
 use asn1_blocks::parsed::{PlacedHeader, header_within};
 use asn1_blocks::read_loop::{
-    Extent, FrameKind, OpenFrame, Reader, enter, is_attempt, is_out_of_memory,
-    is_read_inside, kind_of, out_of_memory,
+    Extent, FrameKind, OpenFrame, Reader, enter, is_attempt, is_out_of_memory, is_read_inside,
+    kind_of, out_of_memory,
 };
 use asn1_headers::error::{ASN1DecodeErr, LocatedErr};
 use asn1_headers::header::HeaderCount;

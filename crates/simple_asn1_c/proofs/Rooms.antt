@@ -1,5 +1,5 @@
 -- How much room texts of numbers need at most, for `simple_asn1_dotted`, `simple_asn1_oid` and `simple_asn1_tag`.
-use Rattle.std.proofs.Common.{◌≡◌, ℕ, zero, suc, ◌+◌, ◌*◌, ◌^◌, ◌%◌, ◌<◌, ◌≤◌, ◌++◌, Bool, List, [], ◌∷◌, length, map, refl, ap, subst, ◌∙◌, arith, length-append}
+use Rattle.std.proofs.Common.{◌≡◌, ℕ, zero, suc, ◌+◌, ◌*◌, ◌^◌, ◌%◌, ◌<◌, ◌≤◌, ◌++◌, Bool, List, [], ◌∷◌, length, map, inl, inr, refl, ap, subst, ◌∙◌, arith, length-append}
 use Rattle.std.specs.Int.Digits.{digits_of, number_from_digits}
 use Rattle.std.specs.List.{join_with_byte}
 use Rattle.std.specs.Str.{byte}
@@ -22,8 +22,8 @@ use Rattle.asn1_blocks.proofs.Slices.{EncodingAt-unique}
 use Rattle.asn1_headers.proofs.Prefixes.{Encoding-unique}
 use Rattle.simple_asn1_c.proofs.Headers.{drop-header}
 use Rattle.simple_asn1_c.proofs.OffsetLeaves.{HasLeafAt-leaf, UniversalAt-unique}
-use Rattle.simple_asn1_c.specs.Contents.{AnswersDotted, AnswersTag, had_no_memory_for_components, had_no_memory_for_tag, mean_components, mean_no_components, no_tag_was_found, tag_was_found}
-use Rattle.simple_asn1_c.specs.Values.{AnswersIdentifier, UniversalAt, identifier_is_missing, identifier_was_found}
+use Rattle.simple_asn1_c.specs.Contents.{AnswersDotted, AnswersTag, had_no_memory_for_components, had_no_memory_for_tag, mean_components, mean_no_components, no_tag_was_found, tag_is_too_long, tag_was_found}
+use Rattle.simple_asn1_c.specs.Values.{AnswersIdentifier, UniversalAt, identifier_is_missing, identifier_is_too_long, identifier_was_found}
 use Rattle.simple_asn1_c.specs.declared.record.Outcome.{Outcome}
 use Rattle.asn1_headers.proofs.Shortest.{AllBelowBase-low_bits}
 
@@ -100,10 +100,11 @@ length-dotted_decimal_le (x ∷ y ∷ ns) v all (b, rest, whole, (number, low, s
 -- what is put of components is at most four octets for each contents octet, and one
 pub count-dotted_le : (v before after : List ℕ) (o : Outcome) → AreOctets v → AnswersDotted v before after o →
     o.count ≤ 4 * length v + 1
-count-dotted_le v before after o all (mean_components ns is put) =
+count-dotted_le v before after o all (inl (few, mean_components ns is put)) =
     omega (arith, put.0, length-dotted_decimal_le ns v all is)
-count-dotted_le v before after o all (mean_no_components fault is put) = omega (arith, put.2)
-count-dotted_le v before after o all (had_no_memory_for_components put) = omega (arith, put.2)
+count-dotted_le v before after o all (inl (few, mean_no_components fault is put)) = omega (arith, put.2)
+count-dotted_le v before after o all (inl (few, had_no_memory_for_components put)) = omega (arith, put.2)
+count-dotted_le v before after o all (inr (many, put)) = omega (arith, put.2)
 
 -- the contents octets of what stands at an offset are octets
 AreOctets-contents_at : (octets : List ℕ) (offset tag : ℕ) (v : List ℕ) → AreOctets octets →
@@ -123,11 +124,14 @@ AreOctets-contents_at octets offset tag v all u =
 pub count-identifier_le : (octets : List ℕ) (offset : ℕ) (before after : List ℕ) (o : Outcome) → AreOctets octets
     → AnswersIdentifier octets offset before after o → (tag : ℕ) (v : List ℕ) → UniversalAt octets offset tag v →
     o.count ≤ 4 * length v + 1
-count-identifier_le octets offset before after o all (identifier_was_found ns is put) tag v u =
+count-identifier_le octets offset before after o all (identifier_was_found ns is contents here few put) tag v u =
     let w = HasLeafAt-leaf octets offset (object_identifier ns) is in
     let same : w.contents ≡ v = (UniversalAt-unique octets offset 6 tag w.contents v w.universal u).1 in
     let means = subst (ObjectIdentifierContents ns) same w.meaning in
     omega (arith, put.0, length-dotted_decimal_le ns v (AreOctets-contents_at octets offset tag v all u) means)
+count-identifier_le octets offset before after o all (identifier_is_too_long contents here many status place count same)
+    tag v u =
+    omega (arith, count)
 count-identifier_le octets offset before after o all (identifier_is_missing missing place count same) tag v u =
     omega (arith, count)
 
@@ -143,7 +147,7 @@ pub count-tag_le : (octets : List ℕ) (offset : ℕ) (before after : List ℕ) 
     AnswersTag octets offset before after o
     → (x : List ℕ) → (at : EncodingAt octets offset x) → o.count ≤ 3 * at.encoding.header
 count-tag_le octets offset before after o
-    (tag_was_found tag (y, there, class, constructed, contents, header, e) put) x at =
+    (tag_was_found tag (y, there, class, constructed, contents, header, e) own_octets here few put) x at =
     let same : y ≡ x = EncodingAt-unique octets offset y x there at in
     let f = at.encoding.encoding in
     let own = at.encoding in
@@ -152,5 +156,7 @@ count-tag_le octets offset before after o
     (ap (λ w. w ++ []) same) in
     let room = length-tag_numeral_le e.identifier class constructed tag e.identifier_octets in
     omega (arith, put.0, room, e.size, z.header)
+count-tag_le octets offset before after o (tag_is_too_long own_octets here many status place count same) x at =
+    omega (arith, count)
 count-tag_le octets offset before after o (no_tag_was_found none status place count same) x at = omega (arith, count)
 count-tag_le octets offset before after o (had_no_memory_for_tag status place count same) x at = omega (arith, count)

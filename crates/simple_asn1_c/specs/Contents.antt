@@ -14,7 +14,8 @@ use Rattle.simple_asn1_c.specs.Answers.{IsNoMemory}
 use Rattle.simple_asn1_c.specs.Puts.{ArePutIf, IsNotPut}
 use Rattle.simple_asn1_c.specs.Records.{HasHeader, HasNoLinks}
 use Rattle.simple_asn1_c.specs.Room.{ArePut}
-use Rattle.simple_asn1_c.specs.Status.{done, no_memory, no_such_value, out_of_range, status_of}
+use Rattle.simple_asn1_c.specs.Status.{done, no_memory, no_such_value, out_of_range, status_of, too_long}
+use Rattle.simple_asn1_c.specs.Values.{most_in_decimal}
 use Rattle.simple_asn1_c.specs.declared.record.Block.{Block}
 use Rattle.simple_asn1_c.specs.declared.first_fault.FaultAnswer.{FaultAnswer}
 use Rattle.simple_asn1_c.specs.declared.record.Outcome.{Outcome}
@@ -36,12 +37,14 @@ AnswersComponents contents before after o =
     (λ components. ArePutIf (All (λ n. n < 2 ^ 64) components) components out_of_range before after o)
     (λ status. IsNotPut status before after o)
 
--- the components in decimal, of any size
+-- the components in decimal, of any size; or the contents octets are too many for that
 abbrev pub AnswersDotted : List ℕ → List ℕ → List ℕ → Outcome → Type 0
 AnswersDotted contents before after o =
-    AnswersOfComponents contents
+    ((length contents ≤ most_in_decimal)
+    × AnswersOfComponents contents
     (λ components. ArePut (dotted_decimal components) before after o)
-    (λ status. IsNotPut status before after o)
+    (λ status. IsNotPut status before after o))
+    ⊎ ((most_in_decimal < length contents) × IsNotPut too_long before after o)
 
 -- the contents octets of components, each subidentifier in its shortest form
 abbrev pub AnswersShortest : List ℕ → List ℕ → List ℕ → Outcome → Type 0
@@ -87,11 +90,17 @@ HasTagAt octets offset tag =
     (x : List ℕ) × EncodingAt octets offset x × (class : ASN1Class) × (constructed : Bool) × (contents : List ℕ)
     × (header : ℕ) × Encoding x class constructed tag contents header
 
--- the tag number of an encoding in decimal, of any size; no encoding stands at the offset; or memory ran out
+-- the tag number of an encoding in decimal, of any size; its identifier octets are too many for that; no encoding
+-- stands at the offset; or memory ran out
 pub data AnswersTag (octets : List ℕ) (offset : ℕ) (before after : List ℕ) (o : Outcome) : Type 0 where
   tag_was_found :
-      (tag : ℕ) → HasTagAt octets offset tag → ArePut (natural_numeral tag) before after o →
+      (tag : ℕ) → HasTagAt octets offset tag → (x : List ℕ) → (at : EncodingAt octets offset x) →
+      length at.encoding.encoding.identifier ≤ most_in_decimal → ArePut (natural_numeral tag) before after o →
       AnswersTag octets offset before after o
+  tag_is_too_long :
+      (x : List ℕ) → (at : EncodingAt octets offset x) →
+      most_in_decimal < length at.encoding.encoding.identifier → o.status ≡ too_long → o.offset ≡ offset →
+      o.count ≡ 0 → after ≡ before → AnswersTag octets offset before after o
   no_tag_was_found :
       HasNoEncodingAt octets offset → o.status ≡ no_such_value → o.offset ≡ offset → o.count ≡ 0 →
       after ≡ before → AnswersTag octets offset before after o

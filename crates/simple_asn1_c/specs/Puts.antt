@@ -18,8 +18,8 @@ use Rattle.asn1_leaves.specs.declared.contents.text.TextForm.TheVariants.{Utf8, 
 use Rattle.simple_asn1.specs.Contents.{string_tag}
 use Rattle.simple_asn1.specs.DottedDecimal.{IsDottedDecimal}
 use Rattle.simple_asn1_c.specs.Room.{ArePut}
-use Rattle.simple_asn1_c.specs.Status.{no_memory, no_such_value, not_a_date, not_oid, not_printable, not_utf8, out_of_range}
-use Rattle.simple_asn1_c.specs.Values.{IsMomentTag, IsTextTag}
+use Rattle.simple_asn1_c.specs.Status.{no_memory, no_such_value, not_a_date, not_oid, not_printable, not_utf8, out_of_range, too_long}
+use Rattle.simple_asn1_c.specs.Values.{IsMomentTag, IsTextTag, most_dotted}
 use Rattle.simple_asn1_c.specs.declared.record.MomentAnswer.{MomentAnswer}
 use Rattle.simple_asn1_c.specs.declared.record.Outcome.{Outcome}
 
@@ -50,11 +50,13 @@ AnswersPutBits octets bits before after o =
     ArePutIf (AreFewestFor bits octets) (bit_string_contents bits octets) out_of_range before after o
     ⊎ IsNotPut no_memory before after o
 
--- the contents octets of the OBJECT IDENTIFIER whose components the text has, if they can be written; the text has no
--- components; or memory ran out
+-- the contents octets of the OBJECT IDENTIFIER whose components the text has, if they can be written; the text is too
+-- long, or has no components; or memory ran out
 pub data AnswersPutIdentifier (text before after : List ℕ) (o : Outcome) : Type 0 where
+  is_long_text :
+      most_dotted < length text → IsNotPut too_long before after o → AnswersPutIdentifier text before after o
   has_components :
-      (components : List ℕ) → IsDottedDecimal text components →
+      length text ≤ most_dotted → (components : List ℕ) → IsDottedDecimal text components →
       ArePutIf (IsFaithfulObjectIdentifier components) (object_identifier_contents components) out_of_range
       before after o → AnswersPutIdentifier text before after o
   has_no_components :

@@ -1,5 +1,5 @@
 -- What is put of values and records as they are, whether or not they would be read back.
-use Rattle.std.specs.Prelude.{◌≡◌, ◌⊎◌, ◌<◌, ℕ, List, None, Some, IsUtf8, nat_lt}
+use Rattle.std.specs.Prelude.{◌≡◌, ◌⊎◌, ◌<◌, ◌≤◌, ℕ, List, None, Some, IsUtf8, length, nat_lt}
 use Rattle.std.specs.Str.{chars}
 use Rattle.asn1_headers.specs.declared.tags.TheConstants.{UTC_TIME, GENERALIZED_TIME}
 use Rattle.asn1_headers.specs.declared.error.ASN1EncodeErr.{ASN1EncodeErr}
@@ -20,8 +20,8 @@ use Rattle.simple_asn1_c.specs.Answers.{IsNoMemory}
 use Rattle.simple_asn1_c.specs.Puts.{ArePutIf, IsNotPut}
 use Rattle.simple_asn1_c.specs.Room.{ArePut}
 use Rattle.simple_asn1_c.specs.Spelled.{IsBadAt, IsSpelled}
-use Rattle.simple_asn1_c.specs.Status.{bad_record, no_memory, no_such_value, not_a_date, not_oid, not_utf8, out_of_range}
-use Rattle.simple_asn1_c.specs.Values.{IsMomentTag, IsTextTag}
+use Rattle.simple_asn1_c.specs.Status.{bad_record, no_memory, no_such_value, not_a_date, not_oid, not_utf8, out_of_range, too_long}
+use Rattle.simple_asn1_c.specs.Values.{IsMomentTag, IsTextTag, most_digits}
 use Rattle.simple_asn1_c.specs.declared.record.Block.{Block}
 use Rattle.simple_asn1_c.specs.declared.record.Outcome.{Outcome}
 
@@ -90,16 +90,20 @@ pub data AnswersRawMoment (tag : ℕ) (m : Moment) (before after : List ℕ) (o 
   is_no_raw_time :
       (IsMomentTag tag → ⊥) → IsNotPut no_such_value before after o → AnswersRawMoment tag m before after o
 
--- the shortest encoding of contents octets with a tag number in decimal, of any size; no class or no tag number is as
--- given; or memory ran out
+-- the shortest encoding of contents octets with a tag number in decimal; no class or no tag number is as given; the tag
+-- number has too many digits; or memory ran out
 pub data AnswersEncoding (class constructed : ℕ) (numeral contents before after : List ℕ) (o : Outcome)
     : Type 0 where
   was_encoded :
-      (c : ASN1Class) → class_number c ≡ class → (tag : ℕ) → numeral ≡ natural_numeral tag →
+      (c : ASN1Class) → class_number c ≡ class → length numeral ≤ most_digits →
+      (tag : ℕ) → numeral ≡ natural_numeral tag →
       ArePut (shortest_encoding c (nat_lt 0 constructed) tag contents) before after o →
       AnswersEncoding class constructed numeral contents before after o
   is_no_class :
       3 < class → IsNotPut bad_record before after o →
+      AnswersEncoding class constructed numeral contents before after o
+  is_long_numeral :
+      most_digits < length numeral → IsNotPut too_long before after o →
       AnswersEncoding class constructed numeral contents before after o
   is_no_numeral :
       ((tag : ℕ) → numeral ≡ natural_numeral tag → ⊥) → IsNotPut bad_record before after o →

@@ -1,8 +1,8 @@
 -- The value of the leaf at an offset.
-use Rattle.std.specs.Prelude.{◌≡◌, ◌⊎◌, ℕ, ℤ, pos, Bool, List, FitsSigned, IsUtf8}
+use Rattle.std.specs.Prelude.{◌≡◌, ◌⊎◌, ◌+◌, ◌*◌, ◌<◌, ◌≤◌, ℕ, ℤ, pos, Bool, List, FitsSigned, IsUtf8, drop, length, take}
 use Rattle.std.specs.Int.{w64}
 use Rattle.std.specs.Str.{chars}
-use Rattle.asn1_headers.specs.declared.tags.TheConstants.{INTEGER, OBJECT_IDENTIFIER, UTC_TIME, GENERALIZED_TIME}
+use Rattle.asn1_headers.specs.declared.tags.TheConstants.{BIT_STRING, INTEGER, OBJECT_IDENTIFIER, UTC_TIME, GENERALIZED_TIME}
 use Rattle.asn1_headers.specs.declared.header.ASN1Class.TheVariants.{Universal}
 use Rattle.asn1_leaves.specs.Contents.Moment.{Moment}
 use Rattle.asn1_leaves.specs.StringKind.{StringKind}
@@ -12,9 +12,10 @@ use Rattle.simple_asn1.specs.Fault.{DecodeFault}
 use Rattle.simple_asn1.specs.Grammar.{IsDocument, FirstFault}
 use Rattle.simple_asn1.specs.Header.{Encoding}
 use Rattle.simple_asn1.specs.Places.{EncodingAt}
-use Rattle.simple_asn1.specs.Tree.{Leaf, Trees, generalized_time, integer, leaf, more_trees, no_trees, object_identifier, text, utc_time}
+use Rattle.simple_asn1.specs.Tree.{Leaf, Trees, bit_string, generalized_time, integer, leaf, more_trees, no_trees, object_identifier, text, utc_time}
 use Rattle.simple_asn1_c.specs.Room.{ArePut}
-use Rattle.simple_asn1_c.specs.Status.{done, no_memory, no_such_value, out_of_range, status_of}
+use Rattle.simple_asn1_c.specs.Status.{done, no_memory, no_such_value, out_of_range, status_of, too_long}
+use Rattle.simple_asn1_c.specs.declared.record.BitStringAnswer.{BitStringAnswer}
 use Rattle.simple_asn1_c.specs.declared.record.IntegerAnswer.{IntegerAnswer}
 use Rattle.simple_asn1_c.specs.declared.record.MomentAnswer.{MomentAnswer}
 use Rattle.simple_asn1_c.specs.declared.record.Outcome.{Outcome}
@@ -26,6 +27,10 @@ IsReadAlone octets offset bs = (x : List ℕ) × EncodingAt octets offset x × I
 -- read alone, the encoding at the offset is this leaf
 abbrev pub IsLeafAt : List ℕ → ℕ → Leaf → Type 0
 IsLeafAt octets offset l = (o : ℕ) × IsReadAlone octets offset (more_trees (leaf o l) no_trees)
+
+-- a BIT STRING of so many bits, which the octets hold
+abbrev pub IsBitStringAt : List ℕ → ℕ → ℕ → List ℕ → Type 0
+IsBitStringAt octets offset n v = IsLeafAt octets offset (bit_string n v)
 
 abbrev pub IsIntegerAt : List ℕ → ℕ → ℤ → Type 0
 IsIntegerAt octets offset n = IsLeafAt octets offset (integer n)
@@ -44,6 +49,9 @@ IsIdentifierAt octets offset components = IsLeafAt octets offset (object_identif
 -- the tag numbers of the kinds of values
 abbrev pub IsIntegerTag : ℕ → Type 0
 IsIntegerTag tag = tag ≡ INTEGER
+
+abbrev pub IsBitStringTag : ℕ → Type 0
+IsBitStringTag tag = tag ≡ BIT_STRING
 
 abbrev pub IsMomentTag : ℕ → Type 0
 IsMomentTag tag = (tag ≡ UTC_TIME) ⊎ (tag ≡ GENERALIZED_TIME)
@@ -90,6 +98,23 @@ pub data AnswersInteger (octets : List ℕ) (offset : ℕ) (answer : IntegerAnsw
       IsMissing ((n : ℤ) × IsIntegerAt octets offset n) IsIntegerTag octets offset answer.status →
       answer.value ≡ pos 0 → AnswersInteger octets offset answer
 
+-- the record has the number of bits, and says where the octets stand that hold them
+pub record HasBits (octets : List ℕ) (n : ℕ) (v : List ℕ) (answer : BitStringAnswer) : Type 0 where
+  pub bits : answer.bits ≡ n
+  pub enough : answer.bits ≤ 8 * answer.size
+  pub within : answer.start + answer.size ≤ length octets
+  pub held : take answer.size (drop answer.start octets) ≡ v
+
+-- the bits, or that there are none
+pub data AnswersBits (octets : List ℕ) (offset : ℕ) (answer : BitStringAnswer) : Type 0 where
+  bits_were_found :
+      answer.status ≡ done → (n : ℕ) → (v : List ℕ) → IsBitStringAt octets offset n v →
+      HasBits octets n v answer → AnswersBits octets offset answer
+  bits_are_missing :
+      IsMissing ((n : ℕ) × (v : List ℕ) × IsBitStringAt octets offset n v) IsBitStringTag octets offset
+      answer.status → (answer.start ≡ 0) × (answer.size ≡ 0) × (answer.bits ≡ 0) →
+      AnswersBits octets offset answer
+
 -- the record has the fields of the moment
 pub record HasMoment (m : Moment) (answer : MomentAnswer) : Type 0 where
   pub year : answer.year ≡ m.year
@@ -130,12 +155,30 @@ pub data AnswersText (octets : List ℕ) (offset : ℕ) (before after : List ℕ
       IsMissing ((utf8 : List ℕ) × IsTextAt octets offset utf8) IsTextTag octets offset o.status →
       o.offset ≡ offset → o.count ≡ 0 → after ≡ before → AnswersText octets offset before after o
 
--- the components in decimal, of any size, or how much room they need; or that there is none
+-- the octets of what is put in decimal are no more: the digits of one number take time that grows as their square
+abbrev pub most_in_decimal : ℕ
+most_in_decimal = 1024
+
+-- what is read as components in decimal has no more characters, and what is read as a number: nothing that is put in
+-- decimal has more
+abbrev pub most_dotted : ℕ
+most_dotted = 4 * most_in_decimal + 1
+
+abbrev pub most_digits : ℕ
+most_digits = 3 * most_in_decimal
+
+-- the components in decimal, of any size, or how much room they need; that their contents octets are too many for that;
+-- or that there is none
 pub data AnswersIdentifier (octets : List ℕ) (offset : ℕ) (before after : List ℕ) (o : Outcome) : Type 0 where
   identifier_was_found :
       (components : List ℕ) → IsIdentifierAt octets offset components →
-      ArePut (dotted_decimal components) before after o →
+      (contents : List ℕ) → UniversalAt octets offset OBJECT_IDENTIFIER contents →
+      length contents ≤ most_in_decimal → ArePut (dotted_decimal components) before after o →
       AnswersIdentifier octets offset before after o
+  identifier_is_too_long :
+      (contents : List ℕ) → UniversalAt octets offset OBJECT_IDENTIFIER contents →
+      most_in_decimal < length contents → o.status ≡ too_long → o.offset ≡ offset → o.count ≡ 0 →
+      after ≡ before → AnswersIdentifier octets offset before after o
   identifier_is_missing :
       IsMissing ((components : List ℕ) × IsIdentifierAt octets offset components) IsIdentifierTag octets offset
       o.status → o.offset ≡ offset → o.count ≡ 0 → after ≡ before →

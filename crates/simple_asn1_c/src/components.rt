@@ -3,10 +3,12 @@ ghost use Rattle.std.specs.Prelude.{◌<◌, ◌≤◌, ℕ, IfNone, IfSome, len
 ghost use Rattle.simple_asn1_c.specs.Contents.{AnswersComponent, AnswersComponents, AnswersDotted, AnswersShortest};
 ghost use Rattle.simple_asn1_c.specs.Room.{ArePut};
 
-use crate::dotted::put_decimal;
+use crate::dotted::{MOST_IN_DECIMAL, put_decimal};
 use crate::putting::{all_put, not_enough, nothing_put, put_octets};
 use crate::record::Outcome;
-use crate::status::{INCOMPLETE, NO_MEMORY, NO_SUCH_VALUE, OUT_OF_RANGE, status_of_fault};
+use crate::status::{
+    INCOMPLETE, NO_MEMORY, NO_SUCH_VALUE, OUT_OF_RANGE, TOO_LONG, status_of_fault,
+};
 use asn1_leaves::contents::object_identifier::are_shortest;
 use asn1_leaves::oid;
 use simple_asn1::ASN1DecodeErr;
@@ -38,10 +40,13 @@ pub fn put_components(alloc: Global, contents: &[u8], room: &mut [u64]) -> Outco
     }
 }
 
-// Puts them in decimal.
+// Puts them in decimal, if their contents octets are few enough.
 pub fn put_dotted(alloc: Global, contents: &[u8], room: &mut [u8]) -> Outcome
     ensures { AnswersDotted contents.now room.old room.new result }
 {
+    if contents.len() > MOST_IN_DECIMAL {
+        return nothing_put(TOO_LONG, 0);
+    }
     match put_decimal(alloc, contents, room) {
         Ok(outcome) => outcome,
         Err(status) => nothing_put(status, 0),

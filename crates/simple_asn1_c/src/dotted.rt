@@ -19,6 +19,15 @@ use itoa::Buffer;
 use simple_asn1::OID;
 use std::alloc::{AllocError, Global};
 
+// How many octets are put in decimal at most: the digits of one number take time that grows as the square of its
+// octets, and a document is not to make its reader wait.
+pub const MOST_IN_DECIMAL: usize = 1024;
+
+// How many characters are read as components, and how many as a tag number: what is put in decimal is never longer.
+pub const MOST_DOTTED: usize = 4097;
+
+pub const MOST_DIGITS: usize = 3072;
+
 // Room for the text of all but long identifiers.
 type Text = ArrayVec<u8, 128>;
 

@@ -1,5 +1,5 @@
 // One encoding of a document by its header: its record, and its tag number of any size.
-ghost use Rattle.std.specs.Prelude.{◌≡◌, ◌∷◌, [], IfOk, Bool, List, ℕ, string_bytes};
+ghost use Rattle.std.specs.Prelude.{◌≡◌, ◌<◌, ◌∷◌, [], IfOk, Bool, List, ℕ, length, string_bytes};
 ghost use Rattle.asn1_numbers.specs.Decimal.{natural_numeral};
 ghost use Rattle.simple_asn1.specs.Places.{IsEncoding};
 ghost use Rattle.simple_asn1.specs.Header.{Encoding};
@@ -7,10 +7,11 @@ ghost use Rattle.asn1_headers.specs.declared.header.ASN1Class.{ASN1Class};
 ghost use Rattle.simple_asn1_c.specs.Contents.{AnswersHeader, AnswersTag, AnswersTagOctets};
 ghost use Rattle.simple_asn1_c.specs.Room.{ArePut};
 
+use crate::dotted::MOST_IN_DECIMAL;
 use crate::header_record::header_record;
 use crate::putting::{all_put, not_enough, nothing_put, put_octets};
 use crate::record::{Block, Outcome};
-use crate::status::{NO_MEMORY, NO_SUCH_VALUE};
+use crate::status::{NO_MEMORY, NO_SUCH_VALUE, TOO_LONG};
 use asn1_headers::header::identifier_at;
 use asn1_headers::whole_header::read_header;
 use simple_asn1::{ASN1DecodeErr, BigUint, HeaderCount, encoding_at};
@@ -46,6 +47,18 @@ pub fn put_header(alloc: Global, octets: &[u8], offset: usize, room: &mut [Block
     put_record(block, room)
 }
 
+// How many identifier octets an encoding has.
+fn identifier_size(encoding: &[u8]) -> usize
+    requires { IsEncoding encoding.now }
+    ensures some { 0 < result }
+    ensures size { (e : IsEncoding encoding.now) → length e.encoding.identifier ≡ result }
+{
+    match identifier_at(encoding) {
+        Some(size) => size,
+        None => unreachable!(),
+    }
+}
+
 // The tag number of an encoding.
 fn tag_of(alloc: Global, encoding: &[u8]) -> Result<BigUint, AllocError>
     requires { IsEncoding encoding.now }
@@ -68,13 +81,16 @@ fn numeral_of(alloc: Global, number: &BigUint) -> Result<String, AllocError>
     format!(in alloc; "{number}")
 }
 
-// Puts the tag number of the encoding at the offset.
+// Puts the tag number of the encoding at the offset, if its identifier octets are few enough.
 pub fn put_tag(alloc: Global, octets: &[u8], offset: usize, room: &mut [u8]) -> Outcome
     ensures { AnswersTag octets.now offset room.old room.new result }
 {
     let Some(encoding) = encoding_at(octets, offset) else {
         return nothing_put(NO_SUCH_VALUE, offset);
     };
+    if identifier_size(encoding) > MOST_IN_DECIMAL {
+        return nothing_put(TOO_LONG, offset);
+    }
     let Ok(tag) = tag_of(alloc, encoding) else {
         return nothing_put(NO_MEMORY, offset);
     };
@@ -91,8 +107,5 @@ pub fn tag_octets_at(octets: &[u8], offset: usize) -> Outcome
     let Some(encoding) = encoding_at(octets, offset) else {
         return nothing_put(NO_SUCH_VALUE, offset);
     };
-    match identifier_at(encoding) {
-        Some(size) => all_put(size - 1),
-        None => unreachable!(),
-    }
+    all_put(identifier_size(encoding) - 1)
 }

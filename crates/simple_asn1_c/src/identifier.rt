@@ -6,10 +6,10 @@ ghost use Rattle.simple_asn1_c.specs.Status.{no_memory, out_of_range};
 ghost use Rattle.simple_asn1_c.specs.Values.{AnswersIdentifier};
 
 use crate::alone::universal_at;
-use crate::dotted::put_decimal;
+use crate::dotted::{MOST_DOTTED, MOST_IN_DECIMAL, put_decimal};
 use crate::putting::{nothing_put, put_octets};
 use crate::record::Outcome;
-use crate::status::{NO_MEMORY, NO_SUCH_VALUE, NOT_OID, OUT_OF_RANGE};
+use crate::status::{NO_MEMORY, NO_SUCH_VALUE, NOT_OID, OUT_OF_RANGE, TOO_LONG};
 use asn1_headers::tags::OBJECT_IDENTIFIER;
 use simple_asn1::{ASN1EncodeErr, OID};
 use std::alloc::Global;
@@ -23,6 +23,9 @@ pub fn identifier_at(alloc: Global, octets: &[u8], offset: usize, room: &mut [u8
     };
     if tag != OBJECT_IDENTIFIER {
         return nothing_put(NO_SUCH_VALUE, offset);
+    }
+    if contents.len() > MOST_IN_DECIMAL {
+        return nothing_put(TOO_LONG, offset);
     }
     match put_decimal(alloc, contents, room) {
         Ok(outcome) => outcome,
@@ -41,10 +44,13 @@ fn status_of_unwritten(e: &ASN1EncodeErr) -> u32
     }
 }
 
-// Puts the contents octets of the OBJECT IDENTIFIER that the text is of.
+// Puts the contents octets of the OBJECT IDENTIFIER that the text is of, if it is short enough.
 pub fn put_identifier(alloc: Global, text: &[u8], room: &mut [u8]) -> Outcome
     ensures { AnswersPutIdentifier text.now room.old room.new result }
 {
+    if text.len() > MOST_DOTTED {
+        return nothing_put(TOO_LONG, 0);
+    }
     let Ok(text) = str::from_utf8(text) else {
         return nothing_put(NOT_OID, 0);
     };

@@ -40,9 +40,9 @@ ghost use Rattle.simple_asn1_c.specs.Paths.{AnswersValues};
 ghost use Rattle.simple_asn1_c.specs.Puts.{AnswersPutBits, AnswersPutBoolean, AnswersPutIdentifier, AnswersPutInteger, AnswersPutMoment, AnswersPutText, moment_in};
 ghost use Rattle.simple_asn1_c.specs.Raw.{AnswersEncoding, AnswersRawBits, AnswersRawIdentifier, AnswersRawMoment, AnswersRawText, AnswersSpell};
 ghost use Rattle.simple_asn1_c.specs.Status.{done};
-ghost use Rattle.simple_asn1_c.specs.Values.{AnswersIdentifier, AnswersInteger, AnswersMoment, AnswersText, UniversalAt};
+ghost use Rattle.simple_asn1_c.specs.Values.{AnswersBits, AnswersIdentifier, AnswersInteger, AnswersMoment, AnswersText, UniversalAt};
 
-use crate::bits::{put_bits, put_boolean};
+use crate::bits::{bits_at, put_bits, put_boolean};
 use crate::components::{component_at, put_components, put_dotted, put_shortest};
 use crate::departures::{list_departures, put_departures};
 use crate::document_entries::{
@@ -59,7 +59,8 @@ use crate::put_encodings::{put_encoding, put_spelled};
 use crate::putting::{all_put, put_found, put_octets, put_records};
 use crate::raw::{put_raw_bits, put_raw_identifier, put_raw_moment, put_raw_text};
 use crate::record::{
-    Block, DepartureRecord, IntegerAnswer, MomentAnswer, Outcome, Path, SignedAnswer, Value,
+    BitStringAnswer, Block, DepartureRecord, IntegerAnswer, MomentAnswer, Outcome, Path,
+    SignedAnswer, Value,
 };
 use crate::signed::signed_in;
 use crate::spelling::spell;
@@ -260,6 +261,15 @@ pub extern "C" fn simple_asn1_int64(alloc: Global, octets: &[u8], offset: usize)
     integer_at(alloc, octets, offset)
 }
 
+/// The number of bits of the BIT STRING at an offset (X.690 8.6), and where the octets stand that hold them; otherwise
+/// as [`simple_asn1_int64`].
+#[unsafe(no_mangle)]
+pub extern "C" fn simple_asn1_bits(alloc: Global, octets: &[u8], offset: usize) -> BitStringAnswer
+    ensures { AnswersBits octets.now offset result }
+{
+    bits_at(alloc, octets, offset)
+}
+
 /// The moment of the UTCTime or GeneralizedTime at an offset (X.690 8.25), in UTC; otherwise as [`simple_asn1_int64`].
 #[unsafe(no_mangle)]
 pub extern "C" fn simple_asn1_time(alloc: Global, octets: &[u8], offset: usize) -> MomentAnswer
@@ -284,7 +294,8 @@ pub extern "C" fn simple_asn1_text(
 }
 
 /// Writes the components of the OBJECT IDENTIFIER at an offset (X.690 8.19) in decimal, with a point between two of
-/// them, of any size, as [`simple_asn1_text`] does. A component past 64 bits takes quadratic time.
+/// them, of any size, as [`simple_asn1_text`] does. `TOO_LONG` if there are more than 1,024 contents octets, since the
+/// digits of one component take time that grows as their square.
 #[unsafe(no_mangle)]
 pub extern "C" fn simple_asn1_oid(
     alloc: Global,
@@ -373,9 +384,9 @@ pub extern "C" fn simple_asn1_put_bits(
 }
 
 /// Puts the contents octets of the OBJECT IDENTIFIER (X.690 8.19) whose components the text has in decimal, with a
-/// point between two of them, as [`simple_asn1_put_boolean`] does. `NOT_OID` for any other text; `OUT_OF_RANGE` if
-/// there is one component, the first is above 2, or the second above 39, after 2 above 175: the first two take one
-/// octet.
+/// point between two of them, as [`simple_asn1_put_boolean`] does. `TOO_LONG` for a text of more than 4,097 octets,
+/// which [`simple_asn1_oid`] never writes; `NOT_OID` for any other text; `OUT_OF_RANGE` if there is one component, the
+/// first is above 2, or the second above 39, after 2 above 175: the first two take one octet.
 #[unsafe(no_mangle)]
 pub extern "C" fn simple_asn1_put_oid(alloc: Global, text: &[u8], room: &mut [u8]) -> Outcome
     ensures { AnswersPutIdentifier text.now room.old room.new result }
@@ -419,6 +430,7 @@ pub extern "C" fn simple_asn1_components(
 }
 
 /// Puts these components in decimal with a point between two of them, of any size, as [`simple_asn1_components`] does.
+/// `TOO_LONG` if there are more than 1,024 contents octets.
 #[unsafe(no_mangle)]
 pub extern "C" fn simple_asn1_dotted(alloc: Global, contents: &[u8], room: &mut [u8]) -> Outcome
     ensures answer { AnswersDotted contents.now room.old room.new result }
@@ -465,8 +477,8 @@ pub extern "C" fn simple_asn1_header(
     put_header(alloc, octets, offset, blocks)
 }
 
-/// Writes the tag number of the encoding at an offset (X.690 8.1.2) in decimal, of any size. Errors are those of
-/// [`simple_asn1_header`].
+/// Writes the tag number of the encoding at an offset (X.690 8.1.2) in decimal, of any size. `TOO_LONG` if there are
+/// more than 1,024 identifier octets. Other errors are those of [`simple_asn1_header`].
 #[unsafe(no_mangle)]
 pub extern "C" fn simple_asn1_tag(
     alloc: Global,
@@ -565,7 +577,8 @@ pub extern "C" fn simple_asn1_spell(
 }
 
 /// Puts the shortest encoding (X.690 8.1) of contents octets with this class, constructed unless 0, and the tag number
-/// in decimal, of any size. `BAD_RECORD` if there is no such class, or the text is not a numeral.
+/// in decimal. `BAD_RECORD` if there is no such class, or the text is not a numeral; `TOO_LONG` for a text of more than
+/// 3,072 octets, which [`simple_asn1_tag`] never writes.
 #[unsafe(no_mangle)]
 pub extern "C" fn simple_asn1_encoding(
     alloc: Global,

@@ -3,10 +3,11 @@ ghost use Rattle.std.specs.Prelude.{◌≡◌, IfOk};
 ghost use Rattle.simple_asn1.specs.Canonical.{shortest_encoding};
 ghost use Rattle.simple_asn1_c.specs.Raw.{AnswersEncoding, AnswersSpell};
 
+use crate::dotted::MOST_DIGITS;
 use crate::putting::{nothing_put, put_octets};
 use crate::record::{Block, Outcome};
 use crate::spelling::{class_of, spell};
-use crate::status::{BAD_RECORD, NO_MEMORY};
+use crate::status::{BAD_RECORD, NO_MEMORY, TOO_LONG};
 use simple_asn1::{ASN1Class, BigUint, encode_len, encode_tag};
 use std::alloc::{AllocError, Global};
 
@@ -37,7 +38,7 @@ fn encoding_of(
     Ok(octets)
 }
 
-// Puts the encoding of the contents octets with the tag number in decimal.
+// Puts the encoding of the contents octets with the tag number in decimal, if it is short enough.
 pub fn put_encoding(
     alloc: Global,
     class: u8,
@@ -51,6 +52,9 @@ pub fn put_encoding(
     let Some(class) = class_of(class) else {
         return nothing_put(BAD_RECORD, 0);
     };
+    if numeral.len() > MOST_DIGITS {
+        return nothing_put(TOO_LONG, 0);
+    }
     let Ok(numeral) = str::from_utf8(numeral) else {
         return nothing_put(BAD_RECORD, 0);
     };

@@ -39,6 +39,16 @@ pub struct IntegerAnswer {
     pub value: i64,
 }
 
+/// A BIT STRING, or why there is none. `simple_asn1.h` describes the fields.
+#[repr(C)]
+#[derive(Clone, Copy)]
+pub struct BitStringAnswer {
+    pub status: u32,
+    pub start: usize,
+    pub size: usize,
+    pub bits: usize,
+}
+
 /// A moment, or why there is none.
 #[repr(C)]
 #[derive(Clone, Copy)]
@@ -100,6 +110,8 @@ const _: () = prove!(size_of::<Block>() == 64);
 const _: () = prove!(size_of::<Outcome>() == 24);
 
 const _: () = prove!(size_of::<IntegerAnswer>() == 16);
+
+const _: () = prove!(size_of::<BitStringAnswer>() == 32);
 
 const _: () = prove!(size_of::<MomentAnswer>() == 32);
 

@@ -31,6 +31,8 @@ pub const BAD_RECORD: u32 = 15;
 
 pub const NOT_OID: u32 = 16;
 
+pub const TOO_LONG: u32 = 17;
+
 pub fn status_of_fault(e: &ASN1DecodeErr) -> u32
     ensures { result ≡ status_of (fault_of e.now) }
 {

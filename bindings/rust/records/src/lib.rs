@@ -217,7 +217,11 @@ impl<'d, 'a> Block<'d, 'a> {
         }
         Ok(match self.contents() {
             [] => (&[], 0),
-            [unused, octets @ ..] => (octets, 8 * octets.len() - usize::from(*unused)),
+            [unused, octets @ ..] => match (8 * octets.len()).checked_sub(usize::from(*unused)) {
+                Some(bits) => (octets, bits),
+                // `outline` does not check contents octets
+                None => return Err(Fault { kind: FaultKind::BitStringLength, offset: self.offset() }),
+            },
         })
     }
 }

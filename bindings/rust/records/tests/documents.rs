@@ -76,6 +76,21 @@ fn an_outline_is_walked_past_a_leaf_at_fault() -> Result<(), Fault> {
 }
 
 #[test]
+fn an_outline_has_no_bits_where_more_are_unused_than_there_are() {
+    // X.690 8.6.2.2: from 0 to 7 bits are unused. Here 7 of none, 9 of 8, and 255 of 16 are
+    for octets in [&[3, 1, 7][..], &[3, 2, 9, 0], &[3, 3, 255, 1, 2]] {
+        let document = Document::outline(octets).unwrap();
+        let fault = document.blocks().next().unwrap().bits().unwrap_err();
+        assert_eq!(fault, Fault { kind: FaultKind::BitStringLength, offset: 0 });
+    }
+    let document = Document::outline(&[5, 0, 3, 2, 8, 0xFF, 3, 0]).unwrap();
+    let blocks: Vec<_> = document.blocks().collect();
+    assert_eq!(blocks[0].bits(), Err(Fault { kind: FaultKind::NoSuchValue, offset: 0 }));
+    assert_eq!(blocks[1].bits(), Ok((&[0xFF][..], 0)));
+    assert_eq!(blocks[2].bits(), Ok((&[][..], 0)));
+}
+
+#[test]
 fn paths_lead_to_blocks_and_nowhere() -> Result<(), Fault> {
     let octets = [0x30, 12, 2, 2, 0xFF, 0x7F, 0x1E, 2, 0, 0xE4, 0xA0, 2, 5, 0, 6, 1, 42];
     let paths = Paths::new([&[0, 0][..], &[0, 1], &[0, 2, 0], &[1], &[2], &[1, 0], &[]]);

@@ -1,18 +1,22 @@
 -- For `components::put_dotted`: what it returns is right.
-use Rattle.std.proofs.Common.{inl, inr, ◌∙◌}
+use Rattle.std.proofs.Common.{◌≤◌, length, inl, inr, ◌∙◌, arith}
 use Rattle.simple_asn1_c.specs.Contents.{had_no_memory_for_components, mean_components, mean_no_components}
+use Rattle.simple_asn1_c.specs.Values.{most_in_decimal}
 use Rattle.simple_asn1_c.proofs.components.put_dotted.Goals as goal
 
 pub returns-in-Ok : goal.returns-in-Ok
 returns-in-Ok c =
     let (ns, meant, put) = c.in-Ok.ensures.put in
-    mean_components ns meant put
+    inl (omega (arith, c.if-contents-gt-MOST_IN_DECIMAL.false), mean_components ns meant put)
 
 pub returns-in-Err : goal.returns-in-Err
 returns-in-Err c =
-    let put = c.nothing_put.ensures in
+    let put = c.nothing_put-in-Err.ensures in
+    let few : length c.args.contents.now ≤ most_in_decimal = omega (arith, c.if-contents-gt-MOST_IN_DECIMAL.false) in
     let (kept, why) = c.in-Err.ensures.refused in
     elim why [
-      | inl memory ↦ had_no_memory_for_components (put.status ∙ memory, put.offset, put.count, kept)
-      | inr (f, fault, outcome) ↦ mean_no_components f fault (put.status ∙ outcome, put.offset, put.count, kept)
+      | inl memory ↦
+          inl (few, had_no_memory_for_components (put.status ∙ memory, put.offset, put.count, kept))
+      | inr (f, fault, outcome) ↦
+          inl (few, mean_no_components f fault (put.status ∙ outcome, put.offset, put.count, kept))
     ]

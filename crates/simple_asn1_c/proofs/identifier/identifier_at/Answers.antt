@@ -3,7 +3,7 @@ use Rattle.std.proofs.Common.{◌≡◌, ℕ, List, inl, inr, refl, subst, ◌�
 use Rattle.asn1_headers.specs.declared.tags.TheConstants.{OBJECT_IDENTIFIER}
 use Rattle.simple_asn1.specs.Contents.{leaf_tag, of_object_identifier}
 use Rattle.simple_asn1.specs.Tree.{Leaf, object_identifier}
-use Rattle.simple_asn1_c.specs.Values.{IsIdentifierAt, IsIdentifierTag, IsLeafAt, UniversalAt, identifier_is_missing, identifier_was_found}
+use Rattle.simple_asn1_c.specs.Values.{IsIdentifierAt, IsIdentifierTag, IsLeafAt, UniversalAt, identifier_is_missing, identifier_is_too_long, identifier_was_found}
 use Rattle.simple_asn1_c.proofs.OffsetLeaves.{IsMissing-not_tag, IsMissing-fault, IsLeafAt-universal, IsMissing-nothing}
 use Rattle.simple_asn1_c.proofs.identifier.identifier_at.Goals as goal
 use Rattle.asn1_outline.proofs.Values.{HasTag-small}
@@ -37,6 +37,16 @@ returns-then-tag-ne-OBJECT_IDENTIFIER c =
     (λ m t. omega (arith, t)) c.if-tag-ne-OBJECT_IDENTIFIER.true put.status)
     put.offset put.count refl
 
+pub returns-then-contents-gt-MOST_IN_DECIMAL : goal.returns-then-contents-gt-MOST_IN_DECIMAL
+returns-then-contents-gt-MOST_IN_DECIMAL c =
+    let v = c.in-Ok.found.1.now in
+    let put = c.nothing_put-then-contents-gt-MOST_IN_DECIMAL.ensures in
+    let (n, u, number) = c.in-Ok.ensures.found in
+    let same : n ≡ OBJECT_IDENTIFIER = HasTag-small n c.in-Ok.found.0 OBJECT_IDENTIFIER number
+    c.if-tag-ne-OBJECT_IDENTIFIER.false (omega arith) in
+    identifier_is_too_long v (subst (λ z. UniversalAt c.args.octets.now c.args.offset z v) same u)
+    (omega (arith, c.if-contents-gt-MOST_IN_DECIMAL.true)) put.status put.offset put.count refl
+
 pub returns-in-Ok-put_decimal : goal.returns-in-Ok-put_decimal
 returns-in-Ok-put_decimal c =
     let octets = c.args.octets.now in
@@ -49,7 +59,8 @@ returns-in-Ok-put_decimal c =
     let is =
     IsLeafAt-universal octets offset (object_identifier ns) v
     (subst (λ z. UniversalAt octets offset z v) same u) meant in
-    identifier_was_found ns is put
+    identifier_was_found ns is v (subst (λ z. UniversalAt octets offset z v) same u)
+    (omega (arith, c.if-contents-gt-MOST_IN_DECIMAL.false)) put
 
 pub returns-in-Err-put_decimal : goal.returns-in-Err-put_decimal
 returns-in-Err-put_decimal c =

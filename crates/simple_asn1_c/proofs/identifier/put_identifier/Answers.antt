@@ -1,5 +1,5 @@
 -- For `identifier::put_identifier`: what it returns is right.
-use Rattle.std.proofs.Common.{◌≡◌, Some, None, inl, inr, refl, sym, subst, ◌∙◌}
+use Rattle.std.proofs.Common.{◌≡◌, Some, None, inl, inr, refl, sym, subst, ◌∙◌, arith}
 use Rattle.asn1_leaves.specs.Contents.ObjectIdentifier.{object_identifier_contents}
 use Rattle.simple_asn1.specs.DottedDecimal.{IsDottedDecimal}
 use Rattle.simple_asn1_c.specs.Puts.{had_no_memory_for_identifier, has_components, has_no_components}
@@ -9,7 +9,7 @@ use Rattle.simple_asn1_c.proofs.identifier.put_identifier.Goals as goal
 
 pub returns-in_default : goal.returns-in_default
 returns-in_default c =
-    let put = c.nothing_put.ensures in
+    let put = c.nothing_put-in_default.ensures in
     has_no_components (λ ns dotted. c.in_default.ensures.cases.0 (IsUtf8-dotted_decimal c.args.text.now ns dotted))
     (put.status, put.offset, put.count, refl)
 
@@ -20,7 +20,7 @@ returns-in-Ok-as_raw c =
     let dotted : IsDottedDecimal c.args.text.now ns = subst (λ z. IsDottedDecimal z ns) c.in-Ok.ensures.cases.0 here in
     let octets : c.deref.result.now ≡ object_identifier_contents ns =
     c.deref.ensures.value ∙ c.in-Ok-as_raw.ensures.contents in
-    has_components ns dotted
+    has_components (omega (arith, c.if-text-gt-MOST_DOTTED.false)) ns dotted
     (inl (
       c.in-Ok-as_raw.ensures.writable,
       subst (λ z. ArePut z c.args.room.now c.put_octets.new.room c.put_octets.result) octets c.put_octets.ensures,
@@ -37,7 +37,7 @@ returns c =
       | inr (other, outcome) ↦ elim c.in-Err-as_raw.ensures.refused [
         | inl memory ↦ absurd (other memory)
         | inr fault ↦
-            has_components ns dotted
+            has_components (omega (arith, c.if-text-gt-MOST_DOTTED.false)) ns dotted
             (inr (
               (λ none. let e : None ≡ Some c.in-Err-as_raw.e = sym none ∙ fault in cc),
               (put.status ∙ outcome, put.offset, put.count, refl),

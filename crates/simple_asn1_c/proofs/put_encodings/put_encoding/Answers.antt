@@ -1,5 +1,5 @@
 -- For `put_encodings::put_encoding`: what it returns is right.
-use Rattle.std.proofs.Common.{◌≡◌, refl, sym, subst, ◌∙◌}
+use Rattle.std.proofs.Common.{◌≡◌, refl, sym, subst, ◌∙◌, arith}
 use Rattle.asn1_numbers.specs.Decimal.{natural_numeral}
 use Rattle.simple_asn1_c.specs.Raw.{is_no_numeral, was_encoded}
 use Rattle.simple_asn1_c.specs.Room.{ArePut}
@@ -16,7 +16,8 @@ pub returns-in-Ok-encoding_of : goal.returns-in-Ok-encoding_of
 returns-in-Ok-encoding_of c =
     let tag = c.in-Ok-Some.tag in
     let here : c.in-Ok.numeral.now ≡ natural_numeral tag = rw c.in-Ok-Some.field-0-is at c.in-Ok-Some.ensures.number in
-    was_encoded c.in-Some.class c.in-Some.ensures.found tag (sym c.in-Ok.ensures.cases.0 ∙ here)
+    was_encoded c.in-Some.class c.in-Some.ensures.found
+    (omega (arith, c.if-numeral-gt-MOST_DIGITS.false)) tag (sym c.in-Ok.ensures.cases.0 ∙ here)
     (subst (λ z. ArePut z c.args.room.now c.put_octets.new.room c.put_octets.result)
     (c.deref.ensures.value ∙ c.in-Ok-encoding_of.ensures)
     c.put_octets.ensures)
