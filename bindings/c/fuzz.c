@@ -19,10 +19,24 @@ static void *room_for(size_t bytes)
     return room;
 }
 
+/* The bits of a BIT STRING lie in its contents octets; there are none of any other block, or of one at fault. */
+static void ask_bits(const uint8_t *octets, size_t size, const simple_asn1_block *block)
+{
+    simple_asn1_bit_string found = simple_asn1_bits(octets, size, block->offset);
+    size_t start = block->offset + block->header, end = start + block->contents;
+    if (found.status == SIMPLE_ASN1_OK) {
+        CHECK(block->tag_class == 0 && block->tag == 3 && found.bits <= 8 * found.size);
+        CHECK(start <= found.start && found.start + found.size == end && found.size + 1 >= block->contents);
+    } else {
+        CHECK(found.start == 0 && found.size == 0 && found.bits == 0);
+    }
+}
+
 /* Each value of each block, into just as much room as it needs. */
 static void ask_values(const uint8_t *octets, size_t size, const simple_asn1_block *block)
 {
     simple_asn1_int64(octets, size, block->offset);
+    ask_bits(octets, size, block);
     simple_asn1_time(octets, size, block->offset);
     simple_asn1_outcome text = simple_asn1_text(octets, size, block->offset, NULL, 0);
     if (text.status == SIMPLE_ASN1_NO_ROOM) {
@@ -41,6 +55,10 @@ static void ask_values(const uint8_t *octets, size_t size, const simple_asn1_blo
 /* The contents octets of an OBJECT IDENTIFIER in canonical form mean the same components, in no more octets. */
 static void shorten(const uint8_t *contents, size_t size)
 {
+    if (size > 1024) {
+        CHECK(simple_asn1_dotted(contents, size, NULL, 0).status == SIMPLE_ASN1_TOO_LONG);
+        return;
+    }
     size_t length = simple_asn1_shortest_oid(contents, size, NULL, 0).count;
     CHECK(0 < length && length <= size);
     uint8_t *shortest = room_for(length);
@@ -76,6 +94,21 @@ static void rewrite(const uint8_t *octets, size_t size, const simple_asn1_block 
     free(again);
 }
 
+/* By headers alone: contents octets are not checked, and asking for the value of a leaf at fault is no harm. */
+static void look_at_outline(const uint8_t *octets, size_t size)
+{
+    simple_asn1_outcome asked = simple_asn1_outline(octets, size, NULL, 0);
+    if (asked.status != SIMPLE_ASN1_NO_ROOM)
+        return;
+    simple_asn1_block *blocks = room_for(asked.count * sizeof *blocks);
+    CHECK(simple_asn1_outline(octets, size, blocks, asked.count).status == SIMPLE_ASN1_OK);
+    for (size_t index = 0; index < asked.count; index++) {
+        CHECK(blocks[index].offset + blocks[index].header + blocks[index].contents <= size);
+        ask_values(octets, size, &blocks[index]);
+    }
+    free(blocks);
+}
+
 static void look_at_signed(const uint8_t *octets, size_t size)
 {
     simple_asn1_signed_parts parts = simple_asn1_signed(octets, size);
@@ -107,6 +140,7 @@ static void list_departures(const uint8_t *octets, size_t size)
 int LLVMFuzzerTestOneInput(const uint8_t *octets, size_t size)
 {
     list_departures(octets, size);
+    look_at_outline(octets, size);
     simple_asn1_outcome asked = simple_asn1_read(octets, size, NULL, 0);
     if (asked.status != SIMPLE_ASN1_NO_ROOM) {
         CHECK(asked.status != SIMPLE_ASN1_OK && asked.offset <= size);

@@ -60,7 +60,8 @@ enum { /* what calls return */
     SIMPLE_ASN1_RANGE = 13,            /* the value does not fit */
     SIMPLE_ASN1_NOT_SIGNED = 14,       /* the first block is not a signed triple */
     SIMPLE_ASN1_BAD_RECORD = 15,       /* write: the record at index `offset` cannot be written; the last such one */
-    SIMPLE_ASN1_NOT_OID = 16           /* put: the text is not an OBJECT IDENTIFIER's, as 1.2.840 is */
+    SIMPLE_ASN1_NOT_OID = 16,          /* put: the text is not an OBJECT IDENTIFIER's, as 1.2.840 is */
+    SIMPLE_ASN1_TOO_LONG = 17          /* oid, dotted, tag, put_oid, encoding: too long for text in decimal */
 };
 
 /* A block. The blocks that it holds come right after it. */
@@ -147,6 +148,13 @@ typedef struct simple_asn1_integer {
     int64_t value; /* 0 unless the status is SIMPLE_ASN1_OK */
 } simple_asn1_integer;
 
+typedef struct simple_asn1_bit_string { /* all 0 unless the status is SIMPLE_ASN1_OK */
+    uint32_t status;
+    size_t start; /* offset of the first byte that holds bits, from the start of the input */
+    size_t size;  /* of so many bytes that hold them */
+    size_t bits;  /* number of bits; at most 8 * size, and the others at the end are unused */
+} simple_asn1_bit_string;
+
 typedef struct simple_asn1_moment { /* in UTC; all 0 unless the status is SIMPLE_ASN1_OK */
     uint32_t status;
     int32_t year;
@@ -229,12 +237,13 @@ simple_asn1_outcome simple_asn1_rewrite(const uint8_t *octets, size_t size, uint
 simple_asn1_outcome simple_asn1_write(const uint8_t *octets, size_t size, const simple_asn1_block *blocks, size_t count,
                                       uint8_t *out, size_t room);
 
-/* The value of the block at an offset: an INTEGER's number, if it fits; a UTCTime's or GeneralizedTime's moment; a
- * string's text, of any kind, in UTF-8; an OBJECT IDENTIFIER's components, as in 1.2.840. No terminating 0 is added.
- * Only its header and its own contents octets are looked at; a block with another tag is NO_SUCH_VALUE. A component
- * beyond uint64_t takes time that grows as the square of its octets, with a room of 0 too: simple_asn1_oid_room is
- * enough at once, and simple_asn1_component gives its octets in linear time. */
+/* The value of the block at an offset: an INTEGER's number, if it fits; where the bits of a BIT STRING are; the moment
+ * of a UTCTime or GeneralizedTime; a string's text, of any kind, in UTF-8; an OBJECT IDENTIFIER's components, as in
+ * 1.2.840. No terminating 0 is added. Only its header and its own contents octets are looked at; a block with another
+ * tag is NO_SUCH_VALUE. An OBJECT IDENTIFIER of more than 1,024 contents octets is TOO_LONG, since the digits of one
+ * component take time that grows as the square of its octets: simple_asn1_component gives the octets, of any size. */
 simple_asn1_integer simple_asn1_int64(const uint8_t *octets, size_t size, size_t offset);
+simple_asn1_bit_string simple_asn1_bits(const uint8_t *octets, size_t size, size_t offset);
 simple_asn1_moment simple_asn1_time(const uint8_t *octets, size_t size, size_t offset);
 simple_asn1_outcome simple_asn1_text(const uint8_t *octets, size_t size, size_t offset, uint8_t *out, size_t room);
 simple_asn1_outcome simple_asn1_oid(const uint8_t *octets, size_t size, size_t offset, uint8_t *out, size_t room);
@@ -246,8 +255,8 @@ static inline size_t simple_asn1_oid_room(size_t contents)
 }
 
 /* The parts of a certificate, request or revocation list with which its signature is verified (RFC 5280, section 4.1).
- * The algorithm's parameters are the octets from the end of its OBJECT IDENTIFIER to the offset of the signature; the
- * first contents octet of the signature is the number of its unused bits. */
+ * The algorithm's parameters are the octets from the end of its OBJECT IDENTIFIER to the offset of the signature;
+ * simple_asn1_bits says where the bits of the signature are. */
 simple_asn1_signed_parts simple_asn1_signed(const uint8_t *octets, size_t size);
 
 /* Each writes the contents octets of a value, for a record of simple_asn1_write to point at:
@@ -260,8 +269,9 @@ simple_asn1_signed_parts simple_asn1_signed(const uint8_t *octets, size_t size);
  *
  * A value that does not fit its type, or would not be read back, is rejected:
  *
- * - NOT_OID: another text. RANGE: components that cannot be written, a character above 7F in an IA5String, octets that
- *   are not the fewest for so many bits.
+ * - NOT_OID: another text. TOO_LONG: a text of more than 4,097 bytes, which simple_asn1_oid never writes.
+ * - RANGE: components that cannot be written, a character above 7F in an IA5String, octets that are not the fewest for
+ *   so many bits.
  * - UTF8, PRINTABLE and DATE, as in reading; DATE also for a UTCTime of another year than 1950 to 2049, or with a
  *   fraction of a second. NO_SUCH_VALUE: the tag number is not that of a string, or of a time. */
 simple_asn1_outcome simple_asn1_put_boolean(uint8_t value, uint8_t *out, size_t room);
@@ -274,8 +284,8 @@ simple_asn1_outcome simple_asn1_put_time(uint64_t tag, const simple_asn1_moment 
 /* For bindings that make their own values from records and contents octets.
  *
  * Each takes the contents octets of an OBJECT IDENTIFIER. simple_asn1_components writes the components as numbers, or
- * returns RANGE if one is 2^64 or more; simple_asn1_dotted writes them in decimal, of any size; and
- * simple_asn1_shortest_oid writes the canonical contents octets. Errors of other bytes are those of reading. */
+ * returns RANGE if one is 2^64 or more; simple_asn1_dotted writes them in decimal, of any size, as simple_asn1_oid does;
+ * and simple_asn1_shortest_oid writes the canonical contents octets. Errors of other bytes are those of reading. */
 simple_asn1_outcome simple_asn1_components(const uint8_t *contents, size_t size, uint64_t *out, size_t room);
 simple_asn1_outcome simple_asn1_dotted(const uint8_t *contents, size_t size, uint8_t *out, size_t room);
 simple_asn1_outcome simple_asn1_shortest_oid(const uint8_t *contents, size_t size, uint8_t *out, size_t room);
@@ -287,10 +297,10 @@ simple_asn1_outcome simple_asn1_shortest_oid(const uint8_t *contents, size_t siz
 simple_asn1_outcome simple_asn1_component(const uint8_t *contents, size_t size, size_t index);
 
 /* simple_asn1_header writes the record of the encoding at an offset, read by its header alone: items, next and depth
- * are 0. simple_asn1_tag writes its tag number in decimal, of any size; simple_asn1_tag_room of its header is always
- * enough. simple_asn1_tag_octets returns how many octets (count) after the first of the encoding have the number, seven
- * bits in each, most significant first: none for a number in the first octet, below 31. NO_SUCH_VALUE: no encoding is
- * at the offset. */
+ * are 0. simple_asn1_tag writes its tag number in decimal, of any size, or returns TOO_LONG if it has more than 1,024
+ * identifier octets; simple_asn1_tag_room of its header is always enough. simple_asn1_tag_octets returns how many octets
+ * (count) after the first of the encoding have the number, seven bits in each, most significant first: none for a number
+ * in the first octet, below 31. NO_SUCH_VALUE: no encoding is at the offset. */
 simple_asn1_outcome simple_asn1_header(const uint8_t *octets, size_t size, size_t offset, simple_asn1_block *blocks,
                                        size_t room);
 simple_asn1_outcome simple_asn1_tag(const uint8_t *octets, size_t size, size_t offset, uint8_t *out, size_t room);
@@ -317,19 +327,18 @@ simple_asn1_outcome simple_asn1_raw_time(uint64_t tag, const simple_asn1_moment 
 simple_asn1_outcome simple_asn1_spell(const uint8_t *octets, size_t size, const simple_asn1_block *blocks, size_t count,
                                       uint8_t *out, size_t room);
 
-/* The shortest encoding of contents octets, with the tag number in decimal, of any size. BAD_RECORD: the class is above
- * 3, or the text is not a numeral. */
+/* The shortest encoding of contents octets, with the tag number in decimal. BAD_RECORD: the class is above 3, or the
+ * text is not a numeral. TOO_LONG: a text of more than 3,072 bytes, which simple_asn1_tag never writes. */
 simple_asn1_outcome simple_asn1_encoding(uint8_t tag_class, uint8_t constructed, const uint8_t *tag, size_t tag_size,
                                          const uint8_t *contents, size_t size, uint8_t *out, size_t room);
 
 /* The contents octets of a block of this document: the value of an OCTET STRING; the number of an INTEGER, of any size,
- * in two's complement, most significant octet first; of a BIT STRING the number of unused bits in the last octet, and
- * then the bits, most significant first:
+ * in two's complement, most significant octet first. Of a BIT STRING they are the number of unused bits and then the
+ * bits, most significant first. In an outline, which does not check them, there may be more unused bits than bits: so
+ * take the bits of simple_asn1_bits.
  *
- *     const uint8_t *contents = simple_asn1_contents(octets, &block);
- *     size_t unused = block.contents ? contents[0] : 0, all = block.contents ? 8 * (block.contents - 1) : 0;
- *     size_t bits = unused <= all ? all - unused : 0; // simple_asn1_outline does not check that
- *     int sixth = bits > 5 && (contents[1 + 5 / 8] >> (7 - 5 % 8) & 1);
+ *     simple_asn1_bit_string found = simple_asn1_bits(octets, size, block.offset);
+ *     int sixth = found.bits > 5 && (octets[found.start + 5 / 8] >> (7 - 5 % 8) & 1);
  */
 static inline const uint8_t *simple_asn1_contents(const uint8_t *octets, const simple_asn1_block *block)
 {
@@ -357,6 +366,7 @@ static inline const char *simple_asn1_status_text(uint32_t status)
     case SIMPLE_ASN1_NOT_SIGNED: return "the first block is not a signed triple";
     case SIMPLE_ASN1_BAD_RECORD: return "a record cannot be written";
     case SIMPLE_ASN1_NOT_OID: return "the text is not an OBJECT IDENTIFIER";
+    case SIMPLE_ASN1_TOO_LONG: return "too long for text in decimal";
     default: return "unknown status";
     }
 }

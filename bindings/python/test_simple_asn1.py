@@ -89,6 +89,18 @@ class Reading(unittest.TestCase):
         self.assertEqual(self.refused(simple_asn1.departures, many[:-1]), (Status.INCOMPLETE, 14997))
         self.assertEqual(self.refused(simple_asn1.departures, b""), (Status.EMPTY, 0))
 
+    def test_text_in_decimal_has_a_bound(self):
+        # 1,024 contents octets, and one more: 2.5, and components of an octet each
+        most, more = (bytes([6, 0x82, 4, size, 0x55]) + bytes(1023 + size) for size in (0, 1))
+        found = simple_asn1.read(most + more)
+        self.assertEqual(found[0].oid, "2.5" + ".0" * 1023)
+        self.assertEqual(self.refused(lambda: found[1].oid), (Status.TOO_LONG, len(most)))
+        self.assertEqual(found[1].contents, more[4:])
+        self.assertEqual(Builder().add_oid(found[0].oid).finish(), most)
+        self.assertEqual(self.refused(Builder().add_oid, "2.5" + ".0" * 2048), (Status.TOO_LONG, 0))
+        signed = bytes.fromhex("30 82 04 12 30 03 02 01 01 30 82 04 05") + more + bytes.fromhex("03 02 00 99")
+        self.assertEqual(self.refused(simple_asn1.Signed, signed), (Status.TOO_LONG, 13))
+
     def test_an_outline_has_no_bits_where_more_are_unused_than_there_are(self):
         # X.690 8.6.2.2: from 0 to 7 bits are unused. Here 7 of none, 9 of 8, and 255 of 16 are
         for octets in ("03 01 07", "03 02 09 00", "03 03 FF 01 02"):
@@ -244,15 +256,15 @@ class Objects(unittest.TestCase):
                 self.assertEqual(str(other), str(why.exception))
 
     def test_a_status_of_a_later_library_is_its_number(self):
-        answer = simple_asn1._calls.Outcome(17, 3, 0)
+        answer = simple_asn1._calls.Outcome(99, 3, 0)
         with unittest.mock.patch.object(simple_asn1._calls._LIBRARY, "simple_asn1_check", lambda *_: answer):
             with self.assertRaises(Refused) as why:
                 simple_asn1.check(DOCUMENT)
         for error in (why.exception, pickle.loads(pickle.dumps(why.exception))):
-            self.assertEqual((error.status, error.status.name, error.offset), (17, "UNKNOWN_17", 3))
-            self.assertEqual(str(error), "unknown status 17, at 3")
-            self.assertEqual(error.status, Status(17))
-        for number in (-1, "17"):
+            self.assertEqual((error.status, error.status.name, error.offset), (99, "UNKNOWN_99", 3))
+            self.assertEqual(str(error), "unknown status 99, at 3")
+            self.assertEqual(error.status, Status(99))
+        for number in (-1, "99"):
             self.assertRaises(ValueError, Status, number)
 
     def test_a_rule_of_a_later_library_is_its_number(self):
@@ -492,7 +504,7 @@ class Building(unittest.TestCase):
         self.assertEqual((time.moment, text.text, oid.oid, bits.bits), (moment, "ä😀", "2.175.128", (b"", 0)))
 
     def test_long_values_are_octets_and_text_as_short_ones_are(self):
-        text, components, zeros = "ä" * 100_000, "2.5." + ".".join(["300"] * 30_000), bytes(100_000)
+        text, components, zeros = "ä" * 100_000, "2.5." + ".".join(["300"] * 511), bytes(100_000)
         made = Builder().add_text(12, text).add_oid(components).add_bits(zeros, 800_000).finish()
         for octets in made, simple_asn1.rewrite(made), simple_asn1.write(made, simple_asn1.read(made).records):
             self.assertEqual((type(octets), octets), (bytes, made))

@@ -56,6 +56,15 @@ class Integer(ctypes.Structure):
     _fields_ = [("status", ctypes.c_uint32), ("value", ctypes.c_int64)]
 
 
+class BitString(ctypes.Structure):
+    _fields_ = [
+        ("status", ctypes.c_uint32),
+        ("start", ctypes.c_size_t),
+        ("size", ctypes.c_size_t),
+        ("bits", ctypes.c_size_t),
+    ]
+
+
 class MomentAnswer(ctypes.Structure):
     _fields_ = [("status", ctypes.c_uint32), ("year", ctypes.c_int32)] + [
         (name, ctypes.c_uint32) for name in ("month", "day", "hour", "minute", "second", "nanosecond")
@@ -202,6 +211,7 @@ def _library() -> Any:
         ("rewrite", Outcome, octets + room),
         ("write", Outcome, octets + records + room),
         ("int64", Integer, octets + offset),
+        ("bits", BitString, octets + offset),
         ("time", MomentAnswer, octets + offset),
         ("text", Outcome, octets + offset + room),
         ("oid", Outcome, octets + offset + room),
@@ -354,6 +364,14 @@ def int64(octets: bytes, offset: int) -> int:
     return int(answer.value)
 
 
+def bits(octets: bytes, offset: int) -> Tuple[bytes, int]:
+    """The octets that hold the bits of a BIT STRING, and the number of bits."""
+    answer = _LIBRARY.simple_asn1_bits(octets, len(octets), offset)
+    if answer.status != _OK:
+        raise refusal(answer.status, offset)
+    return octets[answer.start : answer.start + answer.size], answer.bits
+
+
 def time(octets: bytes, offset: int) -> Tuple[int, ...]:
     """Year, month, day, hour, minute, second and nanosecond."""
     fields = _MOMENT.unpack_from(_LIBRARY.simple_asn1_time(octets, len(octets), offset))
@@ -393,7 +411,7 @@ def oid(octets: bytes, record: Record) -> str:
     """The components of the OBJECT IDENTIFIER with this record.
 
     Its first octet gives at most five characters, as in 2.175, and each other at most four: so the text is never made
-    twice, which can take long.
+    twice.
     """
     contents = record.contents if (record.tag_class, record.tag) == (0, 6) else 0
     if 0 < contents <= USUAL_OID:
@@ -405,7 +423,12 @@ def oid(octets: bytes, record: Record) -> str:
 
 
 def oid_at(octets: bytes, offset: int, contents: int) -> str:
-    return _written(_LIBRARY.simple_asn1_oid, octets, len(octets), offset, room=4 * contents + 1).decode()
+    return _written(_LIBRARY.simple_asn1_oid, octets, len(octets), offset, room=_oid_room(contents)).decode()
+
+
+def _oid_room(contents: int) -> int:
+    """The library makes no text of more than 1,024 contents octets."""
+    return 4 * min(contents, 1024) + 1
 
 
 # the most contents octets of an OBJECT IDENTIFIER whose text is kept

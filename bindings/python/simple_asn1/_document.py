@@ -265,28 +265,14 @@ class Block:
     def oid(self) -> str:
         """The components of an OBJECT IDENTIFIER, as in 1.2.840.
 
-        For a component of thousands of bytes this takes quadratic time.
+        One of more than 1,024 contents octets is refused as TOO_LONG: `contents` has them.
         """
         return _calls.oid(self._document._octets, self._made or self.record)
 
     @property
     def bits(self) -> Bits:
         """The octets that hold the bits of a BIT STRING, and the number of bits."""
-        record = self._made or self.record
-        if record.tag_class != 0 or record.tag != 3:
-            raise refusal(Status.NO_SUCH_VALUE, record.offset)
-        octets, unused = _bits_of(self._document._octets, record)
-        if unused > 8 * len(octets):  # outline does not check contents octets
-            raise refusal(Status.BIT_STRING_LENGTH, record.offset)
-        return Bits(octets, 8 * len(octets) - unused)
-
-
-def _bits_of(octets: bytes, record: Record) -> Tuple[bytes, int]:
-    """The octets that hold the bits of the BIT STRING with this record, and the number of unused bits."""
-    if record.contents == 0:
-        return b"", 0
-    start = record.offset + record.header
-    return octets[start + 1 : _end(record)], octets[start]
+        return made(Bits, _calls.bits(self._document._octets, (self._made or self.record).offset))
 
 
 def _count(number: int, what: str) -> str:
@@ -357,7 +343,8 @@ class Signed:
         # content, algorithm and signature stand one after another
         self.algorithm_identifier = octets[end : signature.offset]
         self.parameters = octets[_end(algorithm) : signature.offset]
-        self.signature, self.unused_bits = _bits_of(octets, signature)
+        self.signature, bits = _calls.bits(octets, signature.offset)
+        self.unused_bits = 8 * len(self.signature) - bits
 
     def _key(self) -> Tuple[bytes, bytes, bytes, int]:
         return self.content, self.algorithm_identifier, self.signature, self.unused_bits

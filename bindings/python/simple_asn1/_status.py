@@ -23,6 +23,7 @@ class Status(enum.IntEnum):
     NOT_SIGNED = 14
     BAD_RECORD = 15
     NOT_OID = 16
+    TOO_LONG = 17
 
     @classmethod
     def _missing_(cls, value: object) -> "Optional[Status]":
@@ -56,6 +57,7 @@ TEXTS = {
     Status.NOT_SIGNED: "the first block is not a signed triple",
     Status.BAD_RECORD: "a record cannot be written",
     Status.NOT_OID: "the text is not an OBJECT IDENTIFIER",
+    Status.TOO_LONG: "too long for text in decimal",
 }
 
 

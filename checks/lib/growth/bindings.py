@@ -5,10 +5,9 @@ INTEGER, and many items.
 
 KIND is `c`, `rust` or `python`, of which PROGRAM is given a call and a file, and prints the processor time of the call
 in microseconds and a status; or `json`, for `der_dump`. It fails where twice the size takes more than three times as
-long, or where 100 kB take more than a second. The decimal digits of one long number take quadratic time: there the
-second alone counts. With PATIENCE=N in the environment, for a machine that does other work, each call is timed once,
-may take N seconds, and sizes are not compared. Of `memory`, PROGRAM is given a call alone, and prints how many kB it takes for 100 MB without room
-for what it writes, a status and a count. Of `signed`, PROGRAM is `der_signed`, which may take twice its input.
+long, or where 100 kB take more than a second. With PATIENCE=N in the environment, for a machine that does other work,
+each call is timed once, may take N seconds, and sizes are not compared. Of `memory`, PROGRAM is given a call alone, and
+prints how many kB it takes for 100 MB without room for what it writes, a status and a count. Of `signed`, PROGRAM is `der_signed`, which may take twice its input.
 `der_dump` may take its input and 20 MiB, as lines, as JSON and on a page.
 """
 import filecmp
@@ -52,14 +51,14 @@ SHAPES = {
     "a long algorithm": signed,
 }
 
-# the status that is right, and the calls, those that make the decimal digits of a long number with a star
-OK, RANGE = 0, 13
+# the status that is right, and the calls
+OK, RANGE, TOO_LONG = 0, 13, 17
 CALLS = {
     "c": {
-        "a long component": {OK: "read rewrite shortest_oid oid* dotted*", RANGE: "components"},
-        "many long components": {OK: "read rewrite shortest_oid oid dotted", RANGE: "components"},
-        "many components": {OK: "read rewrite shortest_oid oid dotted components"},
-        "a long tag": {OK: "read rewrite tag*"},
+        "a long component": {OK: "read rewrite shortest_oid", RANGE: "components", TOO_LONG: "oid dotted"},
+        "many long components": {OK: "read rewrite shortest_oid", RANGE: "components", TOO_LONG: "oid dotted"},
+        "many components": {OK: "read rewrite shortest_oid components", TOO_LONG: "oid dotted"},
+        "a long tag": {OK: "read rewrite", TOO_LONG: "tag"},
         "a long INTEGER": {OK: "read rewrite each", RANGE: "int64"},
         "many items": {OK: "read rewrite each"},
         "a long algorithm": {OK: "read signed"},
@@ -73,14 +72,14 @@ CALLS = {
         "many items": {OK: "from_der == to_der"},
     },
     "python": {
-        "a long component": {OK: "read oid* hasattr*"},
+        "a long component": {OK: "read oid hasattr"},
         "many long components": {OK: "read oid hasattr"},
         "a long tag": {OK: "read repr"},
         "a long INTEGER": {OK: "read integer repr"},
         "a long BIT STRING": {OK: "read bits repr"},
         "many items": {OK: "read block[i] each-repr"},
         "many blocks": {OK: "read document[i]"},
-        "a long algorithm": {OK: "read Signed*"},
+        "a long algorithm": {OK: "read Signed"},
     },
     "json": {shape: {OK: "--json"} for shape in SHAPES},
 }
@@ -127,9 +126,9 @@ def seconds(kind, program, call, path):
     return took / 1e6, status
 
 
-def is_well(times, is_quadratic):
+def is_well(times):
     grows = any(b > MOST_RATIO * a + NOISE for a, b in zip(times, times[1:]))
-    return times[-1] <= MOST_SECONDS and (is_quadratic or not grows or PATIENCE != 1)
+    return times[-1] <= MOST_SECONDS and (not grows or PATIENCE != 1)
 
 
 def memory(program):
@@ -206,11 +205,10 @@ def main():
                 file.write(make(size))
         for kind, program in programs.items():
             for status, calls in CALLS[kind].get(shape, {}).items():
-                for call in calls.split():
-                    name, is_quadratic = call.rstrip("*"), call.endswith("*")
+                for name in calls.split():
                     found = [seconds(kind, program, name, path) for path in paths]
                     times = [time for time, _ in found]
-                    good = is_well(times, is_quadratic) and all(it == status for _, it in found)
+                    good = is_well(times) and all(it == status for _, it in found)
                     tried, wrong = tried + 1, wrong + (not good)
                     print(f"growth: {kind} {name}, {shape}: {', '.join(f'{time * 1000:.1f}' for time in times)} ms" +
                           ("" if good else ": WRONG"), flush=True)

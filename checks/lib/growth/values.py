@@ -20,14 +20,22 @@ def shown(blocks):
     return max(len(repr(blocks.document)) + len(repr(block)) for block in blocks)
 
 
+def is_too_long(call):
+    """Whether the call refuses to make text of what is too long for it."""
+    try:
+        call()
+    except simple_asn1.Refused as why:
+        return why.status == simple_asn1.Status.TOO_LONG
+
+
 CALLS = {
     "read": lambda octets: len(simple_asn1.read(octets).octets) == len(octets),
-    "oid": lambda octets: len(simple_asn1.read(octets)[0].oid) > len(octets) * 2,
-    "hasattr": lambda octets: hasattr(simple_asn1.read(octets)[0], "oid"),
+    "oid": lambda octets: is_too_long(lambda: simple_asn1.read(octets)[0].oid),
+    "hasattr": lambda octets: not hasattr(simple_asn1.read(octets)[0], "integer"),
     "integer": lambda octets: simple_asn1.read(octets)[0].integer > 0,
     "bits": lambda octets: len(simple_asn1.read(octets)[0].bits.octets) > len(octets) - 9,
     "repr": lambda octets: len(repr(simple_asn1.read(octets)[0])) < 200,
-    "Signed": lambda octets: len(simple_asn1.Signed(octets).algorithm) > len(octets),
+    "Signed": lambda octets: is_too_long(lambda: simple_asn1.Signed(octets)),
     "block[i]": lambda octets: by_index(simple_asn1.read(octets)[0]) > len(octets) // 3,
     "document[i]": lambda octets: by_index(simple_asn1.read(octets)) > len(octets) // 3,
     "each-repr": lambda octets: shown(simple_asn1.read(octets)[0]) < 200,

@@ -12,6 +12,7 @@ static void check_nothing(void)
     CHECK(simple_asn1_write(NULL, 0, NULL, 0, NULL, 0).status == SIMPLE_ASN1_EMPTY);
     CHECK(simple_asn1_int64(NULL, 0, 0).status == SIMPLE_ASN1_NO_SUCH_VALUE);
     CHECK(simple_asn1_int64(NULL, 0, SIZE_MAX).status == SIMPLE_ASN1_NO_SUCH_VALUE);
+    CHECK(simple_asn1_bits(NULL, 0, 0).status == SIMPLE_ASN1_NO_SUCH_VALUE);
     CHECK(simple_asn1_time(NULL, 0, 0).status == SIMPLE_ASN1_NO_SUCH_VALUE);
     CHECK(simple_asn1_text(NULL, 0, 0, NULL, 0).status == SIMPLE_ASN1_NO_SUCH_VALUE);
     CHECK(simple_asn1_oid(NULL, 0, 0, NULL, 0).status == SIMPLE_ASN1_NO_SUCH_VALUE);

@@ -109,6 +109,7 @@ records = {
     "departure": _calls.DepartureRecord,
     "outcome": _calls.Outcome,
     "integer": _calls.Integer,
+    "bit_string": _calls.BitString,
     "moment": _calls.MomentAnswer,
     "signed_parts": _calls.SignedParts,
     "refusal": Refusal,
@@ -140,7 +141,8 @@ same("the header's and Python's records", found, wanted)
 
 source = "".join((top / "crates/simple_asn1_c/src" / name).read_text() for name in ("record.rt", "first_fault.rt"))
 answers = {
-    "IntegerAnswer": "integer", "MomentAnswer": "moment", "SignedAnswer": "signed_parts", "FaultAnswer": "refusal",
+    "IntegerAnswer": "integer", "BitStringAnswer": "bit_string", "MomentAnswer": "moment",
+    "SignedAnswer": "signed_parts", "FaultAnswer": "refusal",
     "DepartureRecord": "departure",
 }
 for kind, size in re.findall(r"size_of::<(\w+)>\(\) == (\d+)", source):

@@ -41,7 +41,7 @@ void free(void *from)
 }
 
 static uint8_t *octets;
-static size_t size, count, text, oid, integer, moment;
+static size_t size, count, text, oid, integer, bits, moment;
 static simple_asn1_block blocks[1 << 13];
 static uint8_t out[1 << 16];
 static const simple_asn1_path whole = {0, 1};
@@ -75,6 +75,7 @@ static uint32_t status_of(int call)
     case 16: return simple_asn1_values(octets, size, &size, 1, &whole, 1, &value, 1).status;
     case 17: return simple_asn1_departures(octets, size, departures, 1 << 10).status;
     case 18: return simple_asn1_departures(broken, sizeof broken, departures, 1 << 10).status;
+    case 19: return simple_asn1_bits(octets, size, bits).status;
     default: return simple_asn1_write(octets, size, blocks, count, out, sizeof out).status;
     }
 }
@@ -86,6 +87,7 @@ int main(int argc, char **argv)
     count = simple_asn1_read(octets, size, blocks, 1 << 13).count;
     for (size_t i = 0; i < count; i++) {
         size_t *kind = blocks[i].tag == 2 && blocks[i].contents <= 8 ? &integer
+                       : blocks[i].tag == 3                          ? &bits
                        : blocks[i].tag == 6                          ? &oid
                        : blocks[i].tag == 23                         ? &moment
                        : blocks[i].tag == 12 || blocks[i].tag == 19  ? &text
@@ -94,7 +96,7 @@ int main(int argc, char **argv)
             *kind = blocks[i].offset;
     }
     size_t refused = 0;
-    for (int call = 0; call < 20; call++) {
+    for (int call = 0; call < 21; call++) {
         for (long k = 0;; k++) {
             long before = live;
             asked = 0, left = k;

@@ -67,6 +67,7 @@ static void call_all(const uint8_t *octets, size_t size, simple_asn1_block *bloc
     simple_asn1_fault(octets, size / 2, out, sizeof out);
     for (size_t i = 0; i < o.count; i++) {
         simple_asn1_int64(octets, size, blocks[i].offset);
+        simple_asn1_bits(octets, size, blocks[i].offset);
         simple_asn1_time(octets, size, blocks[i].offset);
         simple_asn1_text(octets, size, blocks[i].offset, out, sizeof out);
         simple_asn1_oid(octets, size, blocks[i].offset, out, sizeof out);

@@ -86,6 +86,78 @@ static void reading(void)
     CHECK(refused(simple_asn1_fault(OCTETS(0x17, 0x01, 0x41), NULL, 0).text, SIMPLE_ASN1_NO_ROOM, 0, 1));
 }
 
+static int has_bits(simple_asn1_bit_string found, uint32_t status, size_t start, size_t size, size_t bits)
+{
+    return found.status == status && found.start == start && found.size == size && found.bits == bits;
+}
+
+static void bits(void)
+{
+    CHECK(has_bits(simple_asn1_bits(OCTETS(0x03, 0x02, 0x04, 0xB0), 0), SIMPLE_ASN1_OK, 3, 1, 4));
+    CHECK(has_bits(simple_asn1_bits(OCTETS(0x05, 0x00, 0x03, 0x03, 0x0A, 0xFF, 0xFF), 2), SIMPLE_ASN1_OK, 5, 2, 6));
+    CHECK(has_bits(simple_asn1_bits(OCTETS(0x03, 0x02, 0x08, 0xFF), 0), SIMPLE_ASN1_OK, 3, 1, 0));
+    CHECK(has_bits(simple_asn1_bits(OCTETS(0x03, 0x01, 0x00), 0), SIMPLE_ASN1_OK, 3, 0, 0));
+    CHECK(has_bits(simple_asn1_bits(OCTETS(0x03, 0x00), 0), SIMPLE_ASN1_OK, 2, 0, 0));
+    CHECK(has_bits(simple_asn1_bits(OCTETS(0x03, 0x81, 0x02, 0x04, 0xB0), 0), SIMPLE_ASN1_OK, 4, 1, 4));
+    CHECK(has_bits(simple_asn1_bits(OCTETS(0x1F, 0x03, 0x02, 0x04, 0xB0), 0), SIMPLE_ASN1_OK, 4, 1, 4));
+    /* the parts of a constructed one are not joined */
+    CHECK(has_bits(simple_asn1_bits(OCTETS(0x23, 0x04, 0x03, 0x02, 0x00, 0xFF), 0), SIMPLE_ASN1_OK, 3, 3, 21));
+    /* more unused bits than there are */
+    CHECK(has_bits(simple_asn1_bits(OCTETS(0x03, 0x01, 0x07), 0), SIMPLE_ASN1_BIT_STRING_LENGTH, 0, 0, 0));
+    CHECK(has_bits(simple_asn1_bits(OCTETS(0x03, 0x02, 0x09, 0x00), 0), SIMPLE_ASN1_BIT_STRING_LENGTH, 0, 0, 0));
+    CHECK(has_bits(simple_asn1_bits(OCTETS(0x03, 0x03, 0xFF, 0x01, 0x02), 0), SIMPLE_ASN1_BIT_STRING_LENGTH, 0, 0, 0));
+    /* another type, another class, and nothing */
+    CHECK(has_bits(simple_asn1_bits(OCTETS(0x04, 0x02, 0x04, 0xB0), 0), SIMPLE_ASN1_NO_SUCH_VALUE, 0, 0, 0));
+    CHECK(has_bits(simple_asn1_bits(OCTETS(0x83, 0x02, 0x04, 0xB0), 0), SIMPLE_ASN1_NO_SUCH_VALUE, 0, 0, 0));
+    CHECK(has_bits(simple_asn1_bits(OCTETS(0x03, 0x02, 0x04), 0), SIMPLE_ASN1_NO_SUCH_VALUE, 0, 0, 0));
+    CHECK(has_bits(simple_asn1_bits(OCTETS(0x03, 0x00), 2), SIMPLE_ASN1_NO_SUCH_VALUE, 0, 0, 0));
+    CHECK(has_bits(simple_asn1_bits(NULL, 0, SIZE_MAX), SIMPLE_ASN1_NO_SUCH_VALUE, 0, 0, 0));
+}
+
+/* What is put in decimal, and read of it, has a bound: above it stands the status, and below it all is as ever. */
+static void long_numbers(void)
+{
+    static uint8_t octets[1029], text[4099];
+    octets[0] = 0x06, octets[1] = 0x82, octets[2] = 0x04, octets[3] = 0x00, octets[4] = 0x2A;
+    memset(octets + 5, 0x01, 1024);
+    /* 1.2, and .1 a thousand times and more */
+    CHECK(refused(simple_asn1_oid(octets, 1028, 0, NULL, 0), SIMPLE_ASN1_NO_ROOM, 0, 3 + 2 * 1023));
+    CHECK(refused(simple_asn1_dotted(octets + 4, 1024, NULL, 0), SIMPLE_ASN1_NO_ROOM, 0, 3 + 2 * 1023));
+    CHECK(refused(simple_asn1_dotted(octets + 4, 1025, NULL, 0), SIMPLE_ASN1_TOO_LONG, 0, 0));
+    octets[3] = 0x01;
+    CHECK(refused(simple_asn1_oid(octets, 1029, 0, NULL, 0), SIMPLE_ASN1_TOO_LONG, 0, 0));
+    /* one component, 128^1022, which has 2,154 digits */
+    memset(octets + 5, 0x80, 1023);
+    octets[3] = 0x00, octets[5] = 0x81, octets[1027] = 0x00;
+    CHECK(refused(simple_asn1_oid(octets, 1028, 0, NULL, 0), SIMPLE_ASN1_NO_ROOM, 0, 4 + 2154));
+    CHECK(refused(simple_asn1_component(octets + 4, 1024, 1), SIMPLE_ASN1_OK, 0, 1023));
+    /* cut off, and too long */
+    octets[1027] = 0x80;
+    CHECK(refused(simple_asn1_oid(octets, 1028, 0, NULL, 0), SIMPLE_ASN1_INCOMPLETE, 0, 0));
+    CHECK(refused(simple_asn1_dotted(octets + 4, 1025, NULL, 0), SIMPLE_ASN1_TOO_LONG, 0, 0));
+    /* a tag number of 128^1022 in 1,024 identifier octets, and of 128^1023 in one more */
+    octets[0] = 0x9F, octets[1] = 0x81;
+    memset(octets + 2, 0x80, 1023);
+    octets[1023] = 0x00, octets[1024] = 0x00;
+    CHECK(refused(simple_asn1_tag(octets, 1025, 0, NULL, 0), SIMPLE_ASN1_NO_ROOM, 0, 2154));
+    octets[1023] = 0x80, octets[1025] = 0x00;
+    CHECK(refused(simple_asn1_tag(octets, 1026, 0, NULL, 0), SIMPLE_ASN1_TOO_LONG, 0, 0));
+    CHECK(refused(simple_asn1_tag_octets(octets, 1026, 0), SIMPLE_ASN1_OK, 0, 1024));
+    /* 1.2.1.1 .. of 4,097 characters, and of one more: ..12 */
+    for (size_t index = 0; index < sizeof text; index++)
+        text[index] = index % 2 ? '.' : '1';
+    text[2] = '2';
+    CHECK(refused(simple_asn1_put_oid(text, 4097, NULL, 0), SIMPLE_ASN1_NO_ROOM, 0, 2048));
+    text[4097] = '2';
+    CHECK(refused(simple_asn1_put_oid(text, 4098, NULL, 0), SIMPLE_ASN1_TOO_LONG, 0, 0));
+    CHECK(refused(simple_asn1_put_oid(text + 1, 4098, NULL, 0), SIMPLE_ASN1_TOO_LONG, 0, 0));
+    memset(text, '1', sizeof text);
+    uint32_t status = simple_asn1_encoding(2, 0, text, 3072, NULL, 0, NULL, 0).status;
+    CHECK(status == SIMPLE_ASN1_NO_ROOM);
+    CHECK(refused(simple_asn1_encoding(2, 0, text, 3073, NULL, 0, NULL, 0), SIMPLE_ASN1_TOO_LONG, 0, 0));
+    CHECK(refused(simple_asn1_encoding(4, 0, text, 3073, NULL, 0, NULL, 0), SIMPLE_ASN1_BAD_RECORD, 0, 0));
+}
+
 static void writing(void)
 {
     CHECK(put(simple_asn1_raw_bits(OCTETS(0xFF), 1, out, 64), "\x07\xFF", 2));
@@ -122,6 +194,8 @@ static void writing(void)
 int main(void)
 {
     reading();
+    bits();
+    long_numbers();
     writing();
     puts("values: each call puts what it says");
 }

@@ -127,6 +127,15 @@ pub fn int64(octets: &[u8], offset: usize) -> Result<i64, Fault> {
     }
 }
 
+/// The octets that hold the bits of a BIT STRING, and the number of bits.
+pub fn bits(octets: &[u8], offset: usize) -> Result<(&[u8], usize), Fault> {
+    let answer = unsafe { simple_asn1_bits(octets.as_ptr(), octets.len(), offset) };
+    match answer.status {
+        OK => Ok((&octets[answer.start..][..answer.size], answer.bits)),
+        status => Err(Fault::of_status(status, offset)),
+    }
+}
+
 pub fn time(octets: &[u8], offset: usize) -> Result<Moment, Fault> {
     let answer = unsafe { simple_asn1_time(octets.as_ptr(), octets.len(), offset) };
     match answer.status {
@@ -147,11 +156,15 @@ pub fn text(octets: &[u8], offset: usize, room: usize) -> Result<Vec<u8>, Fault>
     sized(room, |out, room| unsafe { simple_asn1_text(octets.as_ptr(), octets.len(), offset, out, room) })
 }
 
+/// The library makes no text of an OBJECT IDENTIFIER with more contents octets.
+const MOST_IN_DECIMAL: usize = 1024;
+
 /// The components of an OBJECT IDENTIFIER with so many contents octets; for another block that number is 0. Its first
-/// octet gives at most five characters, as in `2.175`, and each other at most four: so the text is never made twice,
-/// which can take long.
+/// octet gives at most five characters, as in `2.175`, and each other at most four: so the text is never made twice.
 pub fn oid(octets: &[u8], offset: usize, contents: usize) -> Result<Vec<u8>, Fault> {
-    sized(4 * contents + 1, |out, room| unsafe { simple_asn1_oid(octets.as_ptr(), octets.len(), offset, out, room) })
+    sized(4 * contents.min(MOST_IN_DECIMAL) + 1, |out, room| unsafe {
+        simple_asn1_oid(octets.as_ptr(), octets.len(), offset, out, room)
+    })
 }
 
 pub fn signed(octets: &[u8]) -> Result<SignedParts, Fault> {

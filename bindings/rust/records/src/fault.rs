@@ -46,6 +46,9 @@ pub enum FaultKind {
     BadRecord,
     /// The text is not an OBJECT IDENTIFIER's, as `1.2.840` is: only from [`Builder`](crate::Builder).
     NotOid,
+    /// An OBJECT IDENTIFIER has more than 1,024 contents octets, which are not made into text: their digits would take
+    /// time that grows as the square of the size. Of a [`Builder`](crate::Builder): a text has more than 4,097 bytes.
+    TooLong,
     /// A status of a later library, by its number there.
     Unknown(u32),
 }
@@ -68,6 +71,7 @@ impl Fault {
             14 => FaultKind::NotSigned,
             15 => FaultKind::BadRecord,
             16 => FaultKind::NotOid,
+            17 => FaultKind::TooLong,
             _ => FaultKind::Unknown(status),
         };
         Fault { kind, offset }
@@ -92,6 +96,7 @@ impl fmt::Display for FaultKind {
             FaultKind::NotSigned => "the first block is not a signed triple",
             FaultKind::BadRecord => "a record cannot be written",
             FaultKind::NotOid => "the text is not an OBJECT IDENTIFIER",
+            FaultKind::TooLong => "too long for text in decimal",
             FaultKind::Unknown(status) => return write!(f, "unknown status {status}"),
         })
     }
@@ -117,9 +122,10 @@ mod tests {
 
     #[test]
     fn a_status_without_a_name_stays_a_number() {
-        let fault = Fault::of_status(17, 3);
-        assert_eq!(fault, Fault { kind: FaultKind::Unknown(17), offset: 3 });
-        assert_eq!(fault.to_string(), "unknown status 17, at 3");
+        let fault = Fault::of_status(99, 3);
+        assert_eq!(fault, Fault { kind: FaultKind::Unknown(99), offset: 3 });
+        assert_eq!(fault.to_string(), "unknown status 99, at 3");
         assert_eq!(Fault::of_status(16, 0).kind, FaultKind::NotOid);
+        assert_eq!(Fault::of_status(17, 0).kind, FaultKind::TooLong);
     }
 }

@@ -202,8 +202,8 @@ impl<'d, 'a> Block<'d, 'a> {
         text_of(calls::text(self.document.octets, self.offset(), room)?, self.offset())
     }
 
-    /// The components of an OBJECT IDENTIFIER, as in `1.2.840`. For a component of thousands of bytes this takes quadratic
-    /// time.
+    /// The components of an OBJECT IDENTIFIER, as in `1.2.840`. One of more than 1,024 contents octets is
+    /// [`FaultKind::TooLong`]: [`contents`](Block::contents) has them.
     pub fn oid(&self) -> Result<String, Fault> {
         let contents = if self.class() == Class::Universal && self.tag() == 6 { self.record().contents } else { 0 };
         text_of(calls::oid(self.document.octets, self.offset(), contents)?, self.offset())
@@ -212,17 +212,7 @@ impl<'d, 'a> Block<'d, 'a> {
     /// The bytes that hold the bits of a BIT STRING, and the number of bits. The first bit is the most significant of
     /// the first octet.
     pub fn bits(&self) -> Result<(&'a [u8], usize), Fault> {
-        if self.class() != Class::Universal || self.tag() != 3 {
-            return Err(Fault { kind: FaultKind::NoSuchValue, offset: self.offset() });
-        }
-        Ok(match self.contents() {
-            [] => (&[], 0),
-            [unused, octets @ ..] => match (8 * octets.len()).checked_sub(usize::from(*unused)) {
-                Some(bits) => (octets, bits),
-                // `outline` does not check contents octets
-                None => return Err(Fault { kind: FaultKind::BitStringLength, offset: self.offset() }),
-            },
-        })
+        calls::bits(self.document.octets, self.offset())
     }
 }
 
@@ -293,18 +283,16 @@ pub struct Signed<'a> {
 impl<'a> Signed<'a> {
     pub fn read(octets: &'a [u8]) -> Result<Signed<'a>, Fault> {
         let SignedParts { content, algorithm, signature, .. } = calls::signed(octets)?;
-        let (unused_bits, bits) = match &octets[signature.offset + signature.header..end_of(&signature)] {
-            [] => (0, &[][..]),
-            [unused, bits @ ..] => (*unused, bits),
-        };
+        let (held, bits) = calls::bits(octets, signature.offset)?;
         Ok(Signed {
             content: &octets[content.offset..end_of(&content)],
             algorithm: text_of(calls::oid(octets, algorithm.offset, algorithm.contents)?, algorithm.offset)?,
             // content, algorithm and signature stand one after another
             algorithm_identifier: &octets[end_of(&content)..signature.offset],
             parameters: &octets[end_of(&algorithm)..signature.offset],
-            signature: bits,
-            unused_bits,
+            signature: held,
+            // at most 255: an octet has their number
+            unused_bits: (8 * held.len() - bits) as u8,
         })
     }
 }

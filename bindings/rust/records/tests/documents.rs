@@ -1,6 +1,8 @@
 //! What the bindings add to the library's calls, on documents that were made by hand.
 
-use simple_asn1_records::{departures, rewrite, write, Class, Document, Fault, FaultKind, Moment, Paths, Rule, Signed};
+use simple_asn1_records::{
+    departures, rewrite, write, Builder, Class, Document, Fault, FaultKind, Moment, Paths, Rule, Signed,
+};
 use std::error::Error;
 
 const DOCUMENT: [u8; 13] = [0x30, 0x09, 0x02, 0x01, 0x05, 0xA0, 0x04, 0x0C, 0x02, 0xC3, 0xA4, 0x05, 0x00];
@@ -88,6 +90,25 @@ fn an_outline_has_no_bits_where_more_are_unused_than_there_are() {
     assert_eq!(blocks[0].bits(), Err(Fault { kind: FaultKind::NoSuchValue, offset: 0 }));
     assert_eq!(blocks[1].bits(), Ok((&[0xFF][..], 0)));
     assert_eq!(blocks[2].bits(), Ok((&[][..], 0)));
+}
+
+#[test]
+fn text_in_decimal_has_a_bound() {
+    // 1,024 contents octets, and one more: 2.5, and components of an octet each
+    let [most, more] = [0, 1].map(|size| [vec![6, 0x82, 4, size, 0x55], vec![0; 1023 + usize::from(size)]].concat());
+    let document = [most.clone(), more.clone()].concat();
+    let document = Document::read(&document).unwrap();
+    let blocks: Vec<_> = document.blocks().collect();
+    let text = format!("2.5{}", ".0".repeat(1023));
+    assert_eq!(blocks[0].oid(), Ok(text.clone()));
+    assert_eq!(blocks[1].oid(), Err(Fault { kind: FaultKind::TooLong, offset: most.len() }));
+    assert_eq!(blocks[1].contents(), &more[4..]);
+    assert_eq!(Builder::new().add_oid(&text).finish(), Ok(most));
+    let refused = Builder::new().add_oid(&format!("2.5{}", ".0".repeat(2048))).finish();
+    assert_eq!(refused, Err(Fault { kind: FaultKind::TooLong, offset: 0 }));
+    let front = [0x30, 0x82, 4, 0x12, 0x30, 3, 2, 1, 1, 0x30, 0x82, 4, 5];
+    let signed = [&front[..], &more, &[3, 2, 0, 0x99]].concat();
+    assert_eq!(Signed::read(&signed), Err(Fault { kind: FaultKind::TooLong, offset: 13 }));
 }
 
 #[test]

@@ -16,7 +16,7 @@ static MAX_DEPTH: AtomicUsize = AtomicUsize::new(DEFAULT_MAX_DEPTH);
 /// Sets for all threads how many blocks may stand around a block that [`from_der`] reads.
 ///
 /// Dropping, copying, comparing and showing blocks call themselves for the blocks inside, so each level takes stack: up
-/// to 110 bytes to drop, 430 to copy, 2,700 to show with `{:#?}`, and in a debug build 2,000 to copy. The default, of
+/// to 110 bytes to drop, 430 to copy, 2,700 to show with `{:#?}`, and in a debug build 2,100 to copy. The default, of
 /// 256 levels, fits the 2 MiB of a thread of Rust twice over.
 ///
 /// ```

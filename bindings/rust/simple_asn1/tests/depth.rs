@@ -38,9 +38,13 @@ fn no_more_blocks_stand_around_one_than_is_set() {
     let attempt = [&[0xA0, 0x82, 7, 12][..], &contents].concat();
     assert!(matches!(from_der(&attempt).as_deref(), Ok([ASN1Block::Unknown(..)])));
     set_max_depth(2000);
-    let blocks = from_der(&nested(2000, 0x30)).unwrap();
-    assert_eq!(to_der(&blocks[0]).unwrap().len(), blocks_size(2000));
-    assert_eq!(from_der(&to_der(&blocks[0]).unwrap()).as_ref(), Ok(&blocks));
+    // in a debug build a level takes up to 1,100 bytes of stack to compare
+    let written = || {
+        let blocks = from_der(&nested(2000, 0x30)).unwrap();
+        assert_eq!(to_der(&blocks[0]).unwrap().len(), blocks_size(2000));
+        assert_eq!(from_der(&to_der(&blocks[0]).unwrap()).as_ref(), Ok(&blocks));
+    };
+    thread::Builder::new().stack_size(4 << 20).spawn(written).unwrap().join().unwrap();
     // what was read before an empty SEQUENCE goes away without a stack for each level, however deeply it nests
     set_max_depth(usize::MAX);
     for leading in [0x30, 0x31] {

@@ -18,6 +18,7 @@ pub const RANGE: u32 = 13;
 pub const NOT_SIGNED: u32 = 14;
 pub const BAD_RECORD: u32 = 15;
 pub const NOT_OID: u32 = 16;
+pub const TOO_LONG: u32 = 17;
 
 pub const RULE_LONG_IDENTIFIER: u32 = 1;
 pub const RULE_PADDED_TAG: u32 = 2;
@@ -107,6 +108,16 @@ pub struct Integer {
     pub value: i64,
 }
 
+/// Where the bits of a BIT STRING are: so many, in octets of the input.
+#[repr(C)]
+#[derive(Clone, Copy, Debug, PartialEq, Eq)]
+pub struct BitString {
+    pub status: u32,
+    pub start: usize,
+    pub size: usize,
+    pub bits: usize,
+}
+
 #[repr(C)]
 #[derive(Clone, Copy, Debug, PartialEq, Eq)]
 pub struct Moment {
@@ -166,6 +177,7 @@ extern "C" {
         room: usize,
     ) -> Outcome;
     pub fn simple_asn1_int64(octets: *const u8, size: usize, offset: usize) -> Integer;
+    pub fn simple_asn1_bits(octets: *const u8, size: usize, offset: usize) -> BitString;
     pub fn simple_asn1_time(octets: *const u8, size: usize, offset: usize) -> Moment;
     pub fn simple_asn1_text(octets: *const u8, size: usize, offset: usize, out: *mut u8, room: usize) -> Outcome;
     pub fn simple_asn1_oid(octets: *const u8, size: usize, offset: usize, out: *mut u8, room: usize) -> Outcome;
