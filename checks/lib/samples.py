@@ -3,6 +3,7 @@
 A command is a paragraph of indented lines that begins with `printf` or with the name of the program. The indented
 paragraph behind it, unless that is a command, is what it prints: there a line `...` stands for any lines, `..` for any
 characters, and how many days a certificate is valid is not compared. What has nothing behind it only has to succeed.
+Commands with `rt` build another program, and are left out.
 """
 import os
 import re
@@ -19,7 +20,7 @@ def samples_of(text, program):
     behind = {start: shown for start, _, shown in found}
     is_command = re.compile(rf"(?:printf|{program}) ").match
     for _, end, command in found:
-        if is_command(command):
+        if is_command(command) and not re.search(r"\brt (?:run|try)\b", command):
             shown = behind.get(end + 1)
             yield command, None if shown is None or is_command(shown) else shown
 
@@ -37,7 +38,7 @@ def wrong_samples(top, program, page, room):
     They run in an empty folder that has the repository's files, one after another.
     """
     tools, place = room / "tools", room / "place"
-    tools.mkdir()
+    tools.mkdir(parents=True)
     place.mkdir()
     (tools / program.name).symlink_to(program.resolve())
     for name in FOLDERS:
