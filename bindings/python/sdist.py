@@ -28,7 +28,9 @@ def build_sdist(sdist_directory, config_settings=None):
     if place not in project:
         raise ValueError(f"pyproject.toml has no line {place}")
     project = project.replace(place, f'backend-path = ["{_named(HERE)}"]')
-    files = {"PKG-INFO": metadata, "pyproject.toml": project.encode(), **wheel_backend.licences()}
+    # the manifest at the top names the README beside it
+    files = {"PKG-INFO": metadata, "pyproject.toml": project.encode(), **wheel_backend.licences(),
+             "README.md": (HERE / "README.md").read_bytes()}
     for path in [*sorted(HERE.glob("*.*")), *sorted(HERE.glob("simple_asn1/*.*")), LIBRARY]:
         if path.is_file() and path.suffix != ".pyc":
             files[_named(path)] = path.read_bytes()

@@ -56,8 +56,14 @@ def licences():
 
 def _fields():
     project = (HERE / "pyproject.toml").read_text()
-    keys = ("name", "version", "description", "requires-python", "license")
+    keys = ("name", "version", "description", "readme", "requires-python", "license")
     return {key: re.search(rf'^{key} = "(.*)"$', project, re.MULTILINE)[1] for key in keys}
+
+
+def _classifiers():
+    project = (HERE / "pyproject.toml").read_text()
+    listed = re.search(r"^classifiers = \[\n(.*?)^\]$", project, re.MULTILINE | re.DOTALL)[1]
+    return re.findall(r'^    "(.*)",$', listed, re.MULTILINE)
 
 
 def _tags(library):
@@ -79,10 +85,12 @@ def _wheel(wheel_directory, files, platforms):
     info = f"{name}-{version}.dist-info"
     files.update({f"{info}/licenses/{file}": text for file, text in licences().items()})
     named = "".join(f"License-File: {file}\n" for file in licences())
+    classified = "".join(f"Classifier: {it}\n" for it in _classifiers())
     files[f"{info}/METADATA"] = (
         f"Metadata-Version: 2.4\nName: {name}\nVersion: {version}\nSummary: {fields['description']}\n"
         f"License-Expression: {fields['license']}\n{named}"
-        f"Requires-Python: {fields['requires-python']}\nClassifier: Typing :: Typed\n"
+        f"Requires-Python: {fields['requires-python']}\n{classified}"
+        f"Description-Content-Type: text/markdown\n\n{(HERE / fields['readme']).read_text(encoding='utf-8')}"
     ).encode()
     tags = "".join(f"Tag: py3-none-{platform}\n" for platform in platforms)
     files[f"{info}/WHEEL"] = (

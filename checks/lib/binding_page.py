@@ -1,4 +1,4 @@
-"""The whole programs of docs/BINDINGS.md print what the page shows: binding_page.py TOP CC WORK
+"""The whole programs of the pages of the languages print what the pages show: binding_page.py TOP CC WORK
 
 A program is a block of C with a `main`, of Rust with a `main`, or of Python that imports the package. Behind it, before
 the next heading, stand indented commands, and behind each, after an empty line, what it prints, errors included. Those of
@@ -11,6 +11,7 @@ import shutil
 import subprocess
 import sys
 
+PAGES = ("docs/c.md", "docs/rust.md", "docs/python.md", "bindings/python/README.md")
 BLOCK = re.compile(r"^```(c|rust|python)\n(.*?)^```$", re.S | re.M)
 WHOLE = {"c": r"^int main\(", "rust": r"^fn main\(", "python": r"^import simple_asn1$"}
 
@@ -67,24 +68,29 @@ def run(command, top, cc, folder):
 
 def main(top, cc, work):
     if not shutil.which("xxd"):
-        print("bindings: NOT CHECKED, the programs of BINDINGS.md, there is no xxd")
+        print("bindings: NOT CHECKED, the programs of docs/c.md, there is no xxd")
         return
     count = wrong = 0
-    for language, text, commands in programs(top / "docs/BINDINGS.md"):
+    found = [(page, *program) for page in PAGES for program in programs(top / page)]
+    for page in set(PAGES) - {page for page, *_ in found}:
+        print(f"bindings: {page} has no program")
+        wrong += 1
+    for page, language, text, commands in found:
         if language == "rust" and not shutil.which("cargo"):
             print("bindings: NOT CHECKED, the page's program in Rust, there is no cargo")
             continue
         folder = prepare(language, text, commands, top, work)
         if not commands:
-            print(f"bindings: BINDINGS.md: no command behind a program:\n{text}")
+            print(f"bindings: {page}: no command behind a program:\n{text}")
             wrong += 1
         for command, shown in commands:
             there = run(command, top, cc, folder)
             count += bool(shown)
             if there != "\n".join(shown):
-                print(f"bindings: BINDINGS.md: {command}\n  prints:\n{there}\n  where the page has:\n" + "\n".join(shown))
+                print(f"bindings: {page}: {command}\n  prints:\n{there}\n  where the page has:",
+                      *shown, sep="\n")
                 wrong += 1
-    print(f"the programs of BINDINGS.md print what it shows, {count} times" if not wrong else f"{wrong} wrong")
+    print(f"the programs of {len(PAGES)} pages print what these show, {count} times" if not wrong else f"{wrong} wrong")
     sys.exit(1 if wrong or not count else 0)
 
 

@@ -1,16 +1,4 @@
-//! Reads and writes DER (ITU-T X.690) by the proved library `simple_asn1`.
-//!
-//! ```
-//! use simple_asn1_records::{Document, Fault};
-//!
-//! fn main() -> Result<(), Fault> {
-//!     let document = Document::read(&[0x30, 0x06, 0x02, 0x01, 0x05, 0x02, 0x01, 0xFF])?;
-//!     let sequence = document.blocks().next().unwrap();
-//!     let numbers: Result<Vec<i64>, Fault> = sequence.items().map(|item| item.int64()).collect();
-//!     assert_eq!(numbers?, [5, -1]);
-//!     Ok(())
-//! }
-//! ```
+#![doc = include_str!("../README.md")]
 
 mod builder;
 mod calls;
