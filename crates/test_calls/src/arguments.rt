@@ -1,8 +1,7 @@
 // What a call is given, read from the octets of its line.
-use crate::refusal::{Answer, Refusal, ran_out, refusal_of};
-use simple_asn1::{BigInt, BigUint, Document, decode_base127};
+use crate::refusal::{Answer, Refusal, ran_out};
+use simple_asn1::Document;
 use std::alloc::Global;
-use std::str;
 
 // What is read from octets, and given to a call.
 pub trait Argument: Drop + Sized {
@@ -36,35 +35,5 @@ impl Argument for Document {
 
     fn is_same(&self, other: &Document) -> bool {
         self.blocks() == other.blocks()
-    }
-}
-
-// A number by its two's complement octets (X.690 8.3).
-impl Argument for BigInt {
-    fn read(alloc: Global, octets: &[u8]) -> Result<BigInt, Refusal> {
-        Ok(BigInt::from_signed_bytes_be(alloc, octets)?)
-    }
-
-    fn is_same(&self, other: &BigInt) -> bool {
-        self == other
-    }
-}
-
-// A number by its base-128 form (X.690 8.1.2.4.2).
-impl Argument for BigUint {
-    fn read(alloc: Global, octets: &[u8]) -> Result<BigUint, Refusal> {
-        Ok(decode_base127(alloc, octets, &mut 0)?)
-    }
-
-    fn is_same(&self, other: &BigUint) -> bool {
-        self == other
-    }
-}
-
-// The text of these octets.
-pub fn text_of(alloc: Global, octets: &[u8]) -> Result<&str, Refusal> {
-    match str::from_utf8(octets) {
-        Ok(text) => Ok(text),
-        Err(_) => Err(refusal_of(alloc, "no text")),
     }
 }

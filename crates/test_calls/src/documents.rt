@@ -1,9 +1,8 @@
 // Calls that read documents.
 use crate::refusal::{Answer, Refusal, ran_out, refusal_of};
 use simple_asn1::{
-    ASN1DecodeErr, Document, HeaderCount, Outline, TripleErr, check_document, discard, encoding_at,
-    from_der_counted, from_der_located, from_der_strict, is_der, read_signed, rewrite,
-    rewrite_unless_canonical,
+    ASN1DecodeErr, Document, HeaderCount, Outline, TripleErr, discard, from_der_counted,
+    from_der_located, from_der_strict, is_der, read_signed, rewrite,
 };
 use std::alloc::Global;
 use test_notation::{blocks_text, components_text, octets_text};
@@ -29,21 +28,9 @@ fn first_entry(outline: &Outline<'_>) -> usize {
     outline.entries()[0].offset
 }
 
-// The blocks of the document, or its first fault with its place.
-pub fn located(alloc: Global, octets: &[u8]) -> Answer {
-    let document = Document::from_der_located(alloc, octets)?;
-    read(alloc, &document)
-}
-
 // Whether the document is read, or its first fault with its place.
 pub fn place(alloc: Global, octets: &[u8]) -> Answer {
     discard(from_der_located(alloc, octets)?);
-    Ok(String::from_str(alloc, "read")?)
-}
-
-// Whether the octets are a document, or their first fault with its place.
-pub fn checked(alloc: Global, octets: &[u8]) -> Answer {
-    check_document(alloc, octets)?;
     Ok(String::from_str(alloc, "read")?)
 }
 
@@ -84,14 +71,6 @@ pub fn rewritten(alloc: Global, octets: &[u8]) -> Answer {
     Ok(octets_text(alloc, &canonical)?)
 }
 
-// The canonical octets of the document, or a minus where it has them already.
-pub fn rewritten_if_needed(alloc: Global, octets: &[u8]) -> Answer {
-    match rewrite_unless_canonical(alloc, octets)? {
-        Some(canonical) => Ok(octets_text(alloc, &canonical)?),
-        None => Ok(String::from_str(alloc, "-")?),
-    }
-}
-
 // The blocks of a canonical document.
 pub fn strict(alloc: Global, octets: &[u8]) -> Answer {
     let blocks = from_der_strict(alloc, octets)?;
@@ -108,17 +87,6 @@ pub fn der(alloc: Global, octets: &[u8]) -> Answer {
         "false"
     };
     Ok(String::from_str(alloc, text)?)
-}
-
-// The octets of the encoding at an offset, the first octet, of the document after it.
-pub fn encoding(alloc: Global, octets: &[u8]) -> Answer {
-    let Some((offset, document)) = octets.split_first() else {
-        return Err(refusal_of(alloc, "no offset"));
-    };
-    match encoding_at(document, *offset as usize) {
-        Some(encoding) => Ok(octets_text(alloc, encoding)?),
-        None => Err(refusal_of(alloc, "-")),
-    }
 }
 
 // The parts of the signed triple that the document begins with.

@@ -15,24 +15,18 @@
 //     read 04 89              refused LengthTooLarge 9
 //     is_der 05 00            true
 //     signed 05 00            refused Shape
+//     departures 01 01 01     0 BooleanValue
 //
 // `read` is answered by the blocks in the notation of `test_notation`, `count` by the number of headers that were
 // begun, and whether the octets were read, `place` by whether they were read, and at which offset they are at fault,
 // `rewrite` by the canonical octets, `strict` as `read`, of canonical documents alone, `is_der` by `true` or `false`,
-// and `signed` by the content, the algorithm, the number of bits and the octets of the signature: `content 30 00,
-// algorithm 1.2, 8 bits, AB`. `check_document` is answered as `place`, `rewrite_unless_canonical` as `rewrite`, or by a
-// minus where nothing is rewritten, and `Outline::from_der_counted` by the number of headers that were begun and that
-// of entries. A call that refuses its octets is answered by `refused`, the name of the fault, and after a space what
-// the fault holds: its number in decimal, or its characters as in the notation. The other calls are named as in the
-// library. Those of `OID::new`, `OID::from_u64s`, `OID::to_string`, `BigUint::to`, `BigUint::to_string` and
-// `BigUint::cmp` are given base-128 forms, `OID::from_text` and `BigUint::from_text` a text, `encoding_at` the offset
-// and then the document. `parts` is answered by class, tag number and offset of each block, and what else it has,
-// `boolean`, `bits`, `oid`, `moment` and `sequence_items` by that of each block, or a minus, `{:?}` by what that writes
-// of the blocks, `==` by the places of blocks that are equal, `all_blocks` by the offsets of all, `Utf8Error` by where
-// contents octets stop being UTF-8, the two of texts by contents octets and by a base-128 form, and `made` by what
-// becomes of a block made by hand (`made.rt`). `to_string` of an error is given the error's number in the list of them
-// and what it holds, and is answered by its text. What the other `to_string` and `oid` answer `{:?}` writes too, and of
-// an object identifier and a natural number the same is read. A line that is anything else is answered by `badline`.
+// `departures` by the offset and the name of each rule of DER that is broken, or by `none`, and `signed` by the
+// content, the algorithm, the number of bits and the octets of the signature: `content 30 00, algorithm 1.2, 8 bits,
+// AB`. `first` is answered by the offsets of the first block of a tree and of an outline, `Outline::from_der_counted`
+// by the number of headers that were begun and that of entries, `decode_tag` by the tag, the index after it and the
+// number of headers, and `made` by what becomes of a block made by hand (`made.rt`). A call that refuses its octets is
+// answered by `refused`, the name of the fault, and after a space what the fault holds: its number in decimal, or its
+// characters as in the notation. A line that is anything else is answered by `badline`.
 use crate::calls::answer;
 use crate::refusal::{Refusal, ran_out};
 use der_io::split_line;

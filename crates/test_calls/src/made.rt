@@ -24,9 +24,7 @@ use crate::arguments::Argument;
 use crate::identifiers::made as identifier;
 use crate::refusal::{Answer, Refusal, refusal_of};
 use jiff::civil::DateTime;
-use simple_asn1::{
-    ASN1Block, BigInt, BigUint, Document, FaithfulErr, decode_class, to_der, to_der_faithful,
-};
+use simple_asn1::{ASN1Block, BigInt, BigUint, Document, decode_class, to_der};
 use std::alloc::{AllocError, Global};
 use std::slice;
 use test_notation::{blocks_text, octets_text};
@@ -55,17 +53,6 @@ pub fn survival(alloc: Global, block: &ASN1Block) -> Answer {
         Err(fault) => Refusal::from(fault).text(alloc)?,
     };
     Ok(format!(in alloc; "{text}, faithful {is_faithful}")?)
-}
-
-// What is written of the block if it survives this; otherwise the index of the first block that does not, and why.
-pub fn faithful(alloc: Global, block: &ASN1Block) -> Answer {
-    match to_der_faithful(alloc, block) {
-        Ok(octets) => Ok(octets_text(alloc, &octets)?),
-        Err(FaithfulErr::NotFaithful(index, reason)) => Ok(format!(in alloc;
-            "{index} {reason:?}"
-        )?),
-        Err(FaithfulErr::OutOfMemory) => Err(Refusal::from(AllocError)),
-    }
 }
 
 fn read_back(alloc: Global, block: &ASN1Block, octets: &[u8]) -> Answer {

@@ -5,19 +5,15 @@
 #![tactic(auto)]
 
 mod arguments;
-mod blocks;
 mod calls;
+mod departures;
 mod documents;
-mod errors;
 mod headers;
 mod identifiers;
 mod lines;
 mod made;
-mod makers;
-mod numbers;
-mod outlines;
-mod points;
 mod refusal;
+mod tried;
 
 use crate::lines::answers;
 use der_io::{StreamFault, fault_text, read_all, status, write_all};

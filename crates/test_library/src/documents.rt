@@ -1,9 +1,7 @@
-// A large document, and deep ones.
+// A large document, and a deep one that a type of one's own writes.
 use crate::helpers::octets;
 use crate::types::Encoded;
-use simple_asn1::{
-    ASN1Block, ASN1DecodeErr, Document, all_blocks, der_encode, encode_len, from_der, rewrite,
-};
+use simple_asn1::{ASN1Block, der_encode, encode_len, from_der, rewrite};
 use std::alloc::Global;
 use std::process::Abort;
 use std::test::Fail;
@@ -73,24 +71,6 @@ fn nested(alloc: Global, levels: usize) -> Result<Vec<u8>, Fail> {
 
 // A call for each level would pass a stack of 8 MB.
 const LEVELS: usize = 100_000;
-
-#[test]
-fn a_deep_document_is_dropped(rt: HostRuntime) -> Result<(), Fail> {
-    let alloc = rt.alloc();
-    let document = Document::from_der(alloc, &nested(alloc, LEVELS)?)?;
-    assert_eq!(rt; all_blocks(alloc, document.blocks())?.len(), LEVELS + 1);
-    Ok(())
-}
-
-#[test]
-fn deep_blocks_before_a_fault_are_dropped(rt: HostRuntime) -> Result<(), Fail> {
-    let alloc = rt.alloc();
-    let mut document = nested(alloc, LEVELS)?;
-    document.extend_from_slice(&[0x04, 0x89])?;
-    let refused = Document::from_der(alloc, &document).err();
-    assert_eq!(rt; refused, Some(ASN1DecodeErr::LengthTooLarge(9)));
-    Ok(())
-}
 
 #[test]
 fn deep_blocks_that_are_encoded_are_dropped(rt: HostRuntime) -> Result<(), Fail> {

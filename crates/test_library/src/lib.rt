@@ -1,26 +1,12 @@
-//! Tests of `simple_asn1` through its public calls, of what no line of `test_calls` says: types of one's own, long,
-//! large and deep documents. The values were worked out outside the library.
+//! Tests of `simple_asn1` through its public calls, of types of one's own, which generic code has to meet, and of a
+//! document that is too large for a row of `checks/calls`. The values were worked out outside the library.
 #![tactic(auto)]
 
-#[cfg(test)]
-mod blocks;
 #[cfg(test)]
 mod convert;
 #[cfg(test)]
 mod documents;
 #[cfg(test)]
-mod equality;
-#[cfg(test)]
-mod errors;
-#[cfg(test)]
 mod helpers;
-#[cfg(test)]
-mod names;
-#[cfg(test)]
-mod numerals;
-#[cfg(test)]
-mod oids;
-#[cfg(test)]
-mod outlines;
 #[cfg(test)]
 mod types;
