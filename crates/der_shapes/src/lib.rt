@@ -33,6 +33,7 @@
 
 mod field_walk;
 mod fit;
+mod headers;
 mod identifier;
 mod named;
 mod shapes;
@@ -41,6 +42,7 @@ mod tables;
 mod take;
 
 pub use field_walk::FieldWalk;
+pub use fit::{DocumentType, TypeSource};
 pub use named::Named;
 pub use shapes::{Shapes, Tag};
 pub use shapes_text::ShapesFault;

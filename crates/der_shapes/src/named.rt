@@ -68,7 +68,7 @@ impl Shapes {
 }
 
 // The number of contents octets of an INTEGER or an ENUMERATED (X.690 8.3), if it is at least 0 and below 2^15.
-fn small_number(contents: &[u8]) -> Option<u128> {
+pub(crate) fn small_number(contents: &[u8]) -> Option<u128> {
     match contents {
         [low] if *low < 128 => Some(*low as u128),
         [high, low] if *high < 128 => Some(*high as u128 * 256 + *low as u128),

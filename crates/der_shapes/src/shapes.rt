@@ -57,8 +57,24 @@ pub(crate) struct Shape {
     pub full_name: &'static str,
     pub name: &'static str,
     pub kind: ShapeKind,
+    pub rule: ValueRule,
     pub first: u16,
     pub end: u16,
+}
+
+// What a shape of leaves says of their values, besides their tag and the names of numbers and bits.
+#[derive(Clone, Copy, Debug, Drop, PartialEq)]
+pub(crate) enum ValueRule {
+    // nothing
+    Any,
+    // numbers that have no name are none of the type
+    Closed,
+    // bits that are 0 may be the last: the type has a size, or its bits have names outside of ASN.1
+    Padded,
+    // octets that are an address of the Internet Protocol
+    Address,
+    // octets that may be encodings
+    Holding,
 }
 
 // What elements of a shape are, and what its parts are.

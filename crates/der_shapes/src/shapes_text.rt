@@ -1,6 +1,6 @@
 // Shapes in text, which has a line for each shape and each of its parts.
 use crate::identifier::written_number;
-use crate::shapes::{Candidate, Part, Shape, ShapeKind, Shapes, Tag};
+use crate::shapes::{Candidate, Part, Shape, ShapeKind, Shapes, Tag, ValueRule};
 use crate::tables::{FITS, TABLES};
 use asn1_headers::header::ASN1Class;
 use std::alloc::{AllocError, AllocFailed, Global};
@@ -146,15 +146,18 @@ impl Reader {
     fn begin(&mut self, line: &'static str) -> Result<(), ShapesFault> {
         let (name, text) = line.split_once(" ::= ").unwrap_or((line, line));
         let list = text.split_once(" OF ").or(text.split_once(" CONTAINING "));
-        let kind = match list {
-            Some((outer, _)) => ShapeKind::Items(self.tag_of(outer)?),
-            None => self.kind_of(text)?,
+        let (kind, rule) = match list {
+            Some((outer, _)) => (ShapeKind::Items(self.tag_of(outer)?), ValueRule::Any),
+            None => {
+                let (text, rule) = rule_behind(text);
+                (self.kind_of(text)?, rule)
+            }
         };
         let first = self.index(self.shapes.parts.len())?;
         let place = self.place(name)?;
         let fault = self.fault();
         match self.shapes.shapes.get_mut(place as usize) {
-            Some(shape) if shape.is_missing() => shape.begin(kind, first),
+            Some(shape) if shape.is_missing() => shape.begin(kind, rule, first),
             _ => return Err(fault),
         }
         self.last = Some(place);
@@ -250,6 +253,7 @@ impl Shape {
             full_name,
             name: full_name.split_once('.').unwrap_or(("", full_name)).1,
             kind: ShapeKind::Known,
+            rule: ValueRule::Any,
             first: 1,
             end: 0,
         }
@@ -260,10 +264,22 @@ impl Shape {
     }
 
     // Begins a shape, whose first part is this.
-    fn begin(&mut self, kind: ShapeKind, first: u16) {
+    fn begin(&mut self, kind: ShapeKind, rule: ValueRule, first: u16) {
         self.kind = kind;
+        self.rule = rule;
         self.first = first;
         self.end = first;
+    }
+}
+
+// What a word behind the type of a leaf says of its values, if there is one, and the words before it.
+fn rule_behind(text: &'static str) -> (&'static str, ValueRule) {
+    match text.rsplit_once(' ') {
+        Some((text, "CLOSED")) => (text, ValueRule::Closed),
+        Some((text, "PADDED")) => (text, ValueRule::Padded),
+        Some((text, "ADDRESS")) => (text, ValueRule::Address),
+        Some((text, "HOLDING")) => (text, ValueRule::Holding),
+        _ => (text, ValueRule::Any),
     }
 }
 

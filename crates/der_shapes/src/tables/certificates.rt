@@ -17,7 +17,7 @@ TBSCertificate ::= SEQUENCE
   issuerUniqueID [1] UniqueIdentifier OPTIONAL
   subjectUniqueID [2] UniqueIdentifier OPTIONAL
   extensions [3] EXPLICIT Extensions OPTIONAL
-Version ::= INTEGER
+Version ::= INTEGER CLOSED
   0 v1
   1 v2
   2 v3
@@ -102,7 +102,7 @@ CertificationRequestInfo ::= SEQUENCE
   subject Name
   subjectPKInfo SubjectPublicKeyInfo
   attributes [0] Attributes
-PKCS10.Version ::= INTEGER
+PKCS10.Version ::= INTEGER CLOSED
   0 v1
 Attributes ::= SET OF Attribute
 
@@ -121,7 +121,7 @@ AttributeCertificateInfo ::= SEQUENCE
   attributes SEQUENCE OF Attribute
   issuerUniqueID UniqueIdentifier OPTIONAL
   extensions Extensions OPTIONAL
-AttCertVersion ::= INTEGER
+AttCertVersion ::= INTEGER CLOSED
   1 v2
 Holder ::= SEQUENCE
   baseCertificateID [0] IssuerSerial OPTIONAL

@@ -29,15 +29,15 @@ ExtensionValue ::= KNOWN
   1.3.6.1.5.5.7.1.3 QCStatements
   1.3.6.1.5.5.7.1.11 SubjectInfoAccessSyntax
   1.3.6.1.5.5.7.1.14 ProxyCertInfo
-  1.3.6.1.5.5.7.1.24 TLSFeatures
+  1.3.6.1.5.5.7.1.24 Features
   1.3.6.1.5.5.7.48.1.2 OCTET STRING
   1.3.6.1.5.5.7.48.1.5 NULL
   1.3.6.1.4.1.11129.2.4.2 SignedCertificateTimestampList
   1.3.6.1.4.1.11129.2.4.3 NULL
   1.3.6.1.4.1.11129.2.4.5 SignedCertificateTimestampList
-  1.3.6.1.4.1.311.20.2 EnrollCertType
-  1.3.6.1.4.1.311.21.1 CAVersion
-  1.3.6.1.4.1.311.21.2 PreviousCACertHash
+  1.3.6.1.4.1.311.20.2 BMPString
+  1.3.6.1.4.1.311.21.1 INTEGER
+  1.3.6.1.4.1.311.21.2 OCTET STRING
   1.3.6.1.4.1.311.21.7 CertificateTemplate
   1.3.6.1.4.1.311.21.10 CertificatePolicies
   1.2.840.113533.7.65.0 EntrustVersInfo
@@ -199,7 +199,7 @@ HoldInstructionCode ::= OBJECT IDENTIFIER
 
 -- RFC 6962, 3.3; RFC 7633, 4; RFC 3739, 3.2.6; RFC 3820, 3.8; RFC 8551, 2.5.2
 SignedCertificateTimestampList ::= OCTET STRING
-TLSFeatures ::= SEQUENCE OF INTEGER
+Features ::= SEQUENCE OF INTEGER
 QCStatements ::= SEQUENCE OF QCStatement
 QCStatement ::= SEQUENCE
   statementId OBJECT IDENTIFIER
@@ -221,9 +221,6 @@ RootKeyThumb ::= SEQUENCE
 
 -- Netscape; MS-WCCE, 2.2.2.7.7; Entrust
 NetscapeCertType ::= BIT STRING
-EnrollCertType ::= BMPString
-CAVersion ::= INTEGER
-PreviousCACertHash ::= OCTET STRING
 CertificateTemplate ::= SEQUENCE
   templateID OBJECT IDENTIFIER
   templateMajorVersion INTEGER OPTIONAL

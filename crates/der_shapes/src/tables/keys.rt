@@ -104,7 +104,7 @@ SpecifiedECDomain ::= SEQUENCE
   order INTEGER
   cofactor INTEGER OPTIONAL
   hash AlgorithmIdentifier OPTIONAL
-SpecifiedECDomainVersion ::= INTEGER
+SpecifiedECDomainVersion ::= INTEGER CLOSED
   1 ecdpVer1
   2 ecdpVer2
   3 ecdpVer3
@@ -180,7 +180,7 @@ OneAsymmetricKey ::= SEQUENCE
   privateKey OCTET STRING CONTAINING PrivateKey
   attributes [0] Attributes OPTIONAL
   publicKey [1] BIT STRING OPTIONAL
-PKCS8.Version ::= INTEGER
+PKCS8.Version ::= INTEGER CLOSED
   0 v1
   1 v2
 OCTET STRING CONTAINING PrivateKey
@@ -210,7 +210,7 @@ RSAPrivateKey ::= SEQUENCE
   exponent2 INTEGER
   coefficient INTEGER
   otherPrimeInfos OtherPrimeInfos OPTIONAL
-RSA.Version ::= INTEGER
+RSA.Version ::= INTEGER CLOSED
   0 two-prime
   1 multi
 OtherPrimeInfos ::= SEQUENCE OF OtherPrimeInfo
@@ -223,7 +223,7 @@ ECPrivateKey ::= SEQUENCE
   privateKey OCTET STRING
   parameters [0] EXPLICIT ECParameters OPTIONAL
   publicKey [1] EXPLICIT BIT STRING OPTIONAL
-EC.Version ::= INTEGER
+EC.Version ::= INTEGER CLOSED
   1 ecPrivkeyVer1
 -- the traditional form of OpenSSL
 DSAPrivateKey ::= SEQUENCE

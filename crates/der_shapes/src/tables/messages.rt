@@ -209,7 +209,7 @@ SNMP.Message ::= SEQUENCE
   version SNMP.Version
   community OCTET STRING
   data PDUs
-SNMP.Version ::= INTEGER
+SNMP.Version ::= INTEGER CLOSED
   0 version-1
   1 version-2c
 PDUs ::= CHOICE

@@ -5,7 +5,7 @@ PFX ::= SEQUENCE
   version PFX.Version
   authSafe PFX.ContentInfo
   macData MacData OPTIONAL
-PFX.Version ::= INTEGER
+PFX.Version ::= INTEGER CLOSED
   3 v3
 PFX.ContentInfo ::= SEQUENCE
   contentType ContentType

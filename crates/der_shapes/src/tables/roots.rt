@@ -1,6 +1,6 @@
 // Which shape a document has.
 
-// The shape of what stands behind a label: first the shape, then the label (RFC 7468; those of OpenSSL).
+// The shape of what stands behind a label: first the shape, then the label (RFC 7468; those of OpenSSL and of gpgsm).
 pub const LABELS: &str = "\
 Certificate CERTIFICATE
 Certificate X509 CERTIFICATE
@@ -12,6 +12,8 @@ AttributeCertificate ATTRIBUTE CERTIFICATE
 ContentInfo CMS
 ContentInfo PKCS7
 ContentInfo PKCS #7 SIGNED DATA
+ContentInfo SIGNED MESSAGE
+ContentInfo ENCRYPTED MESSAGE
 OneAsymmetricKey PRIVATE KEY
 EncryptedPrivateKeyInfo ENCRYPTED PRIVATE KEY
 SubjectPublicKeyInfo PUBLIC KEY

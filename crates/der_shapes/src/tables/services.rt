@@ -9,7 +9,7 @@ TBSRequest ::= SEQUENCE
   requestorName [1] EXPLICIT GeneralName OPTIONAL
   requestList SEQUENCE OF Request
   requestExtensions [2] EXPLICIT Extensions OPTIONAL
-OCSP.Version ::= INTEGER
+OCSP.Version ::= INTEGER CLOSED
   0 v1
 SEQUENCE OF Request
 Signature ::= SEQUENCE
@@ -81,7 +81,7 @@ TimeStampReq ::= SEQUENCE
   nonce INTEGER OPTIONAL
   certReq BOOLEAN OPTIONAL
   extensions [0] Extensions OPTIONAL
-TSP.Version ::= INTEGER
+TSP.Version ::= INTEGER CLOSED
   1 v1
 MessageImprint ::= SEQUENCE
   hashAlgorithm AlgorithmIdentifier

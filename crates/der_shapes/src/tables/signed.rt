@@ -14,7 +14,7 @@ Content ::= KNOWN
   1.2.840.113549.1.9.16.1.2 AuthenticatedData
   1.2.840.113549.1.9.16.1.9 CompressedData
   1.2.840.113549.1.9.16.1.23 AuthEnvelopedData
-CMSVersion ::= INTEGER
+CMSVersion ::= INTEGER CLOSED
   0 v0
   1 v1
   2 v2
