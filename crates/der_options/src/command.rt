@@ -1,7 +1,4 @@
 // The command, as `clap` has it.
-ghost use Rattle.std.specs.Prelude.{◌≡◌, IfOk, false};
-ghost use Rattle.clap.specs.Words.{app_of, rule_of};
-ghost use Rattle.der_options.specs.Options.{command as command_is, flag as flag_is, valued as valued_is, bare_command, field_rules, form_rules, look_rules, style_rules, task_rules, with_rules};
 
 use clap::{Arg, ArgAction, Command};
 use std::alloc::{AllocError, Global};
@@ -13,10 +10,7 @@ const ABOUT: &str =
     "Shows DER documents, such as certificates and keys, given as DER, PEM, hex digits or base64.";
 
 // The command with all of its arguments.
-#[tactic(auto, unfolding(crate::specs::Options::command))]
-pub fn command<'a>(alloc: Global) -> Result<Command<'a>, AllocError>
-    ensures { IfOk result (λ c. app_of c ≡ command_is) }
-{
+pub fn command<'a>(alloc: Global) -> Result<Command<'a>, AllocError> {
     let bare = bare(alloc)?;
     let with_tasks = with_tasks(alloc, bare)?;
     let with_styles = with_styles(alloc, with_tasks)?;
@@ -26,9 +20,7 @@ pub fn command<'a>(alloc: Global) -> Result<Command<'a>, AllocError>
 }
 
 // The command with its files alone.
-fn bare<'a>(alloc: Global) -> Result<Command<'a>, AllocError>
-    ensures { IfOk result (λ c. app_of c ≡ bare_command) }
-{
+fn bare<'a>(alloc: Global) -> Result<Command<'a>, AllocError> {
     let files = Arg::new(alloc, "FILE").action(ArgAction::Append).help(
         "Files to read, each in turn; `-`, or no file, is standard input",
     );
@@ -39,9 +31,7 @@ fn bare<'a>(alloc: Global) -> Result<Command<'a>, AllocError>
 }
 
 // The command with what is done with each input.
-fn with_tasks<'a>(alloc: Global, command: Command<'a>) -> Result<Command<'a>, AllocError>
-    ensures { IfOk result (λ c. app_of c ≡ with_rules (app_of command.entry) task_rules) }
-{
+fn with_tasks<'a>(alloc: Global, command: Command<'a>) -> Result<Command<'a>, AllocError> {
     let at = valued(
         alloc,
         "at",
@@ -70,9 +60,7 @@ fn with_tasks<'a>(alloc: Global, command: Command<'a>) -> Result<Command<'a>, Al
 }
 
 // The command with what the dump shows.
-fn with_styles<'a>(alloc: Global, command: Command<'a>) -> Result<Command<'a>, AllocError>
-    ensures { IfOk result (λ c. app_of c ≡ with_rules (app_of command.entry) style_rules) }
-{
+fn with_styles<'a>(alloc: Global, command: Command<'a>) -> Result<Command<'a>, AllocError> {
     let strict = flag(
         alloc,
         "strict",
@@ -90,9 +78,7 @@ fn with_styles<'a>(alloc: Global, command: Command<'a>) -> Result<Command<'a>, A
 }
 
 // The command with the names and colors of lines.
-fn with_looks<'a>(alloc: Global, command: Command<'a>) -> Result<Command<'a>, AllocError>
-    ensures { IfOk result (λ c. app_of c ≡ with_rules (app_of command.entry) look_rules) }
-{
+fn with_looks<'a>(alloc: Global, command: Command<'a>) -> Result<Command<'a>, AllocError> {
     let oids = valued(
         alloc,
         "oids",
@@ -109,9 +95,7 @@ fn with_looks<'a>(alloc: Global, command: Command<'a>) -> Result<Command<'a>, Al
 }
 
 // The command with the names of fields.
-fn with_fields<'a>(alloc: Global, command: Command<'a>) -> Result<Command<'a>, AllocError>
-    ensures { IfOk result (λ c. app_of c ≡ with_rules (app_of command.entry) field_rules) }
-{
+fn with_fields<'a>(alloc: Global, command: Command<'a>) -> Result<Command<'a>, AllocError> {
     let plain = flag(alloc, "plain", "Do not name the fields of known types");
     let type_name = valued(
         alloc,
@@ -123,9 +107,7 @@ fn with_fields<'a>(alloc: Global, command: Command<'a>) -> Result<Command<'a>, A
 }
 
 // The command with the forms in which documents are written.
-fn with_forms<'a>(alloc: Global, command: Command<'a>) -> Result<Command<'a>, AllocError>
-    ensures { IfOk result (λ c. app_of c ≡ with_rules (app_of command.entry) form_rules) }
-{
+fn with_forms<'a>(alloc: Global, command: Command<'a>) -> Result<Command<'a>, AllocError> {
     let json = flag(
         alloc,
         "json",
@@ -145,10 +127,7 @@ fn with_forms<'a>(alloc: Global, command: Command<'a>) -> Result<Command<'a>, Al
 }
 
 // An argument `--name` with no value.
-fn flag<'a>(alloc: Global, name: &'a str, help: &'a str) -> Arg<'a>
-    ensures rule { rule_of result ≡ flag_is name.entry.now }
-    ensures local { result.global ≡ false }
-{
+fn flag<'a>(alloc: Global, name: &'a str, help: &'a str) -> Arg<'a> {
     Arg::new(alloc, name)
         .long(name)
         .action(ArgAction::SetTrue)
@@ -156,10 +135,7 @@ fn flag<'a>(alloc: Global, name: &'a str, help: &'a str) -> Arg<'a>
 }
 
 // An argument `--name` with a value.
-fn valued<'a>(alloc: Global, name: &'a str, value_name: &'a str, help: &'a str) -> Arg<'a>
-    ensures rule { rule_of result ≡ valued_is name.entry.now }
-    ensures local { result.global ≡ false }
-{
+fn valued<'a>(alloc: Global, name: &'a str, value_name: &'a str, help: &'a str) -> Arg<'a> {
     Arg::new(alloc, name)
         .long(name)
         .action(ArgAction::Set)

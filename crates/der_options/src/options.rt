@@ -1,14 +1,24 @@
 // The options, and how the matches of `clap` give them.
-ghost use Rattle.std.specs.Prelude.{◌≡◌, ℕ, IfOk, IfErr, MatchOption, OnOk, Some, codes, drop, map, option_map, true, false};
-ghost use Rattle.clap.specs.Words.{all_of, first_of, found_of, rows_of};
-ghost use Rattle.der_options.specs.Options.{AsksFor, AsksForNothing, IsNumberOf, IsRefused, IsTask, Means, are_both_given, are_exclusive, go_together, is_given as is_given_by, color_exclusions, go_together_of, html_exclusions, json_exclusions, oids_exclusions, task_exclusions, text_exclusions, type_exclusions, IsNumber, begins_hex, is_true, names_of, takes_number, color_by, color_in as color_in_is};
-ghost use Rattle.der_options.specs.Steps.{IsMatched, IsUnmatched, LacksOptions};
 
 use crate::command::command;
 use crate::options_fault::OptionsFault;
 use clap::ArgMatches;
 use std::alloc::{AllocError, Global};
 use std::convert::AsStr;
+
+// The arguments that say what is written in place of lines, of which one may be given.
+const OUTPUTS: [&str; 6] = ["text", "html", "json", "extract", "contents", "value"];
+
+// JSON has all blocks whole, and an account has no blocks.
+const REFUSED_WITH_JSON: [&str; 4] = ["color", "full", "flat", "depth"];
+
+// Only lines have colors.
+const REFUSED_WITH_PAGE: [&str; 1] = ["color"];
+
+// Bytes are shown in no way.
+const REFUSED_WITH_OCTETS: [&str; 9] = [
+    "at", "strict", "full", "flat", "depth", "oids", "color", "plain", "as",
+];
 
 /// What the arguments of a command line ask for.
 #[derive(Debug, Drop, PartialEq)]
@@ -72,10 +82,7 @@ pub enum Task {
 pub fn options_of<'a, S: AsStr>(
     alloc: Global,
     arguments: &'a [S],
-) -> Result<Options<'a>, OptionsFault<'a>>
-    ensures read { IfOk result (Means (map S.text arguments.entry.now)) }
-    ensures refused { IfErr result (IsRefused (map S.text arguments.entry.now)) }
-{
+) -> Result<Options<'a>, OptionsFault<'a>> {
     let matches = matches_for(alloc, arguments)?;
     asked_for(alloc, &matches)
 }
@@ -84,10 +91,7 @@ pub fn options_of<'a, S: AsStr>(
 fn matches_for<'a, S: AsStr>(
     alloc: Global,
     arguments: &'a [S],
-) -> Result<ArgMatches<'a>, OptionsFault<'a>>
-    ensures read { IfOk result (IsMatched (map S.text arguments.entry.now)) }
-    ensures refused { IfErr result (IsUnmatched (map S.text arguments.entry.now)) }
-{
+) -> Result<ArgMatches<'a>, OptionsFault<'a>> {
     match command(alloc)?.try_get_matches_from(arguments) {
         Ok(matches) => Ok(matches),
         Err(e) => Err(OptionsFault::Command(e)),
@@ -95,10 +99,7 @@ fn matches_for<'a, S: AsStr>(
 }
 
 // The options that the matches ask for.
-fn asked_for<'a>(alloc: Global, matches: &ArgMatches<'a>) -> Result<Options<'a>, OptionsFault<'a>>
-    ensures read { IfOk result (AsksFor (rows_of (found_of matches.now))) }
-    ensures refused { IfErr result (LacksOptions (rows_of (found_of matches.now))) }
-{
+fn asked_for<'a>(alloc: Global, matches: &ArgMatches<'a>) -> Result<Options<'a>, OptionsFault<'a>> {
     refuse_exclusions(matches)?;
     Ok(Options {
         inputs: inputs_of(alloc, matches)?,
@@ -117,127 +118,47 @@ fn asked_for<'a>(alloc: Global, matches: &ArgMatches<'a>) -> Result<Options<'a>,
     })
 }
 
-// Refuses arguments that do not go together.
-fn refuse_exclusions<'a>(matches: &ArgMatches<'a>) -> Result<(), OptionsFault<'a>>
-    ensures together { OnOk result (go_together (rows_of (found_of matches.now)) ≡ true) }
-    ensures refused { IfErr result (AsksForNothing (rows_of (found_of matches.now))) }
-{
-    refuse_tasks(matches)?;
-    refuse_with_json(matches)?;
-    refuse_with_html(matches)?;
-    refuse_with_text(matches)?;
-    refuse_with_color(matches)?;
-    refuse_with_oids(matches)?;
-    refuse_with_type(matches)
+// The argument that says what is written in place of lines, if one is given. Two are refused.
+fn chosen<'a>(matches: &ArgMatches<'a>) -> Result<Option<&'static str>, OptionsFault<'a>> {
+    let mut chosen = None;
+    for name in OUTPUTS {
+        if is_given(matches, name) {
+            if let Some(first) = chosen {
+                return Err(OptionsFault::NotTogether(first, name));
+            }
+            chosen = Some(name);
+        }
+    }
+    Ok(chosen)
 }
 
-// Refuses two tasks.
-fn refuse_tasks<'a>(matches: &ArgMatches<'a>) -> Result<(), OptionsFault<'a>>
-    ensures together { OnOk result (go_together_of task_exclusions (rows_of (found_of matches.now)) ≡ true) }
-    ensures refused { IfErr result (AsksForNothing (rows_of (found_of matches.now))) }
-{
-    refuse_both(matches, "at", "extract")?;
-    refuse_both(matches, "at", "contents")?;
-    refuse_both(matches, "at", "value")?;
-    refuse_both(matches, "extract", "contents")?;
-    refuse_both(matches, "extract", "value")?;
-    refuse_both(matches, "contents", "value")
-}
-
-// Refuses JSON with what shows fewer blocks or less of them, or writes octets.
-fn refuse_with_json<'a>(matches: &ArgMatches<'a>) -> Result<(), OptionsFault<'a>>
-    ensures together { OnOk result (go_together_of json_exclusions (rows_of (found_of matches.now)) ≡ true) }
-    ensures refused { IfErr result (AsksForNothing (rows_of (found_of matches.now))) }
-{
-    refuse_both(matches, "json", "depth")?;
-    refuse_both(matches, "json", "full")?;
-    refuse_both(matches, "json", "flat")?;
-    refuse_both(matches, "json", "extract")?;
-    refuse_both(matches, "json", "contents")?;
-    refuse_both(matches, "json", "value")
-}
-
-// Refuses a page with JSON or octets.
-fn refuse_with_html<'a>(matches: &ArgMatches<'a>) -> Result<(), OptionsFault<'a>>
-    ensures together { OnOk result (go_together_of html_exclusions (rows_of (found_of matches.now)) ≡ true) }
-    ensures refused { IfErr result (AsksForNothing (rows_of (found_of matches.now))) }
-{
-    refuse_both(matches, "html", "json")?;
-    refuse_both(matches, "html", "extract")?;
-    refuse_both(matches, "html", "contents")?;
-    refuse_both(matches, "html", "value")
-}
-
-// Refuses accounts with what shows some blocks, and with other forms of output.
-fn refuse_with_text<'a>(matches: &ArgMatches<'a>) -> Result<(), OptionsFault<'a>>
-    ensures together { OnOk result (go_together_of text_exclusions (rows_of (found_of matches.now)) ≡ true) }
-    ensures refused { IfErr result (AsksForNothing (rows_of (found_of matches.now))) }
-{
-    refuse_both(matches, "text", "json")?;
-    refuse_both(matches, "text", "html")?;
-    refuse_both(matches, "text", "color")?;
-    refuse_both(matches, "text", "extract")?;
-    refuse_both(matches, "text", "contents")?;
-    refuse_both(matches, "text", "value")?;
-    refuse_both(matches, "text", "depth")?;
-    refuse_both(matches, "text", "full")?;
-    refuse_both(matches, "text", "flat")
-}
-
-// Refuses colors of lines with what writes none.
-fn refuse_with_color<'a>(matches: &ArgMatches<'a>) -> Result<(), OptionsFault<'a>>
-    ensures together { OnOk result (go_together_of color_exclusions (rows_of (found_of matches.now)) ≡ true) }
-    ensures refused { IfErr result (AsksForNothing (rows_of (found_of matches.now))) }
-{
-    refuse_both(matches, "color", "json")?;
-    refuse_both(matches, "color", "html")?;
-    refuse_both(matches, "color", "extract")?;
-    refuse_both(matches, "color", "contents")?;
-    refuse_both(matches, "color", "value")
-}
-
-// Refuses names of object identifiers with octets.
-fn refuse_with_oids<'a>(matches: &ArgMatches<'a>) -> Result<(), OptionsFault<'a>>
-    ensures together { OnOk result (go_together_of oids_exclusions (rows_of (found_of matches.now)) ≡ true) }
-    ensures refused { IfErr result (AsksForNothing (rows_of (found_of matches.now))) }
-{
-    refuse_both(matches, "oids", "extract")?;
-    refuse_both(matches, "oids", "contents")?;
-    refuse_both(matches, "oids", "value")
-}
-
-// Refuses the type of a document with no names of fields, and with octets.
-fn refuse_with_type<'a>(matches: &ArgMatches<'a>) -> Result<(), OptionsFault<'a>>
-    ensures together { OnOk result (go_together_of type_exclusions (rows_of (found_of matches.now)) ≡ true) }
-    ensures refused { IfErr result (AsksForNothing (rows_of (found_of matches.now))) }
-{
-    refuse_both(matches, "as", "plain")?;
-    refuse_both(matches, "as", "extract")?;
-    refuse_both(matches, "as", "contents")?;
-    refuse_both(matches, "as", "value")
-}
-
-// Refuses two arguments, where both are given.
-fn refuse_both<'a>(
-    matches: &ArgMatches<'a>,
-    first: &'static str,
-    second: &'static str,
-) -> Result<(), OptionsFault<'a>>
-    requires { are_exclusive first.now second.now ≡ true }
-    ensures together { OnOk result
-        (are_both_given first.entry.now second.entry.now (rows_of (found_of matches.now)) ≡ false) }
-    ensures refused { IfErr result (AsksForNothing (rows_of (found_of matches.now))) }
-{
-    if is_given(matches, first) && is_given(matches, second) {
-        return Err(OptionsFault::NotTogether(first, second));
+// Refuses two arguments that say what is written, and others that do not go with the one; and the type of a document
+// with no names of fields.
+fn refuse_exclusions<'a>(matches: &ArgMatches<'a>) -> Result<(), OptionsFault<'a>> {
+    if let Some(name) = chosen(matches)? {
+        for other in refused_with(name) {
+            if is_given(matches, other) {
+                return Err(OptionsFault::NotTogether(other, name));
+            }
+        }
+    }
+    if is_given(matches, "as") && is_given(matches, "plain") {
+        return Err(OptionsFault::NotTogether("as", "plain"));
     }
     Ok(())
 }
 
+// The arguments that do not go with the one that says what is written.
+fn refused_with(name: &str) -> &'static [&'static str] {
+    match name {
+        "json" | "text" => &REFUSED_WITH_JSON,
+        "html" => &REFUSED_WITH_PAGE,
+        _ => &REFUSED_WITH_OCTETS,
+    }
+}
+
 // Whether an argument is given: one that takes a value has one then, and a flag is set.
-fn is_given(matches: &ArgMatches<'_>, name: &str) -> bool
-    ensures { result ≡ is_given_by name.now (rows_of (found_of matches.now)) }
-{
+fn is_given(matches: &ArgMatches<'_>, name: &str) -> bool {
     match name {
         "at" | "extract" | "contents" | "value" | "depth" | "oids" | "color" | "as" => {
             value(matches, name).is_some()
@@ -247,10 +168,7 @@ fn is_given(matches: &ArgMatches<'_>, name: &str) -> bool
 }
 
 // The names of the inputs.
-fn inputs_of<'a>(alloc: Global, matches: &ArgMatches<'a>) -> Result<Vec<&'a str>, AllocError>
-    ensures { IfOk result (λ names. map (λ name. name.now) names.items
-        ≡ names_of (all_of (codes "FILE") (rows_of (found_of matches.now)))) }
-{
+fn inputs_of<'a>(alloc: Global, matches: &ArgMatches<'a>) -> Result<Vec<&'a str>, AllocError> {
     let mut inputs = Vec::new(alloc);
     match values(matches, "FILE") {
         None | Some([]) => inputs.push("-")?,
@@ -260,10 +178,7 @@ fn inputs_of<'a>(alloc: Global, matches: &ArgMatches<'a>) -> Result<Vec<&'a str>
 }
 
 // What is done with each input.
-fn task_of<'a>(matches: &ArgMatches<'a>) -> Result<Task, OptionsFault<'a>>
-    ensures read { IfOk result (IsTask (rows_of (found_of matches.now))) }
-    ensures refused { IfErr result (AsksForNothing (rows_of (found_of matches.now))) }
-{
+fn task_of<'a>(matches: &ArgMatches<'a>) -> Result<Task, OptionsFault<'a>> {
     if let Some(offset) = number_of(matches, "at")? {
         return Ok(Task::At(offset));
     }
@@ -283,11 +198,7 @@ fn task_of<'a>(matches: &ArgMatches<'a>) -> Result<Task, OptionsFault<'a>>
 fn number_of<'a>(
     matches: &ArgMatches<'a>,
     name: &'static str,
-) -> Result<Option<usize>, OptionsFault<'a>>
-    requires { takes_number name.now ≡ true }
-    ensures read { IfOk result (IsNumberOf name.entry.now (rows_of (found_of matches.now))) }
-    ensures refused { IfErr result (AsksForNothing (rows_of (found_of matches.now))) }
-{
+) -> Result<Option<usize>, OptionsFault<'a>> {
     let Some(text) = value(matches, name) else {
         return Ok(None);
     };
@@ -298,11 +209,7 @@ fn number_of<'a>(
 }
 
 // When lines are colored.
-fn color_of<'a>(matches: &ArgMatches<'a>) -> Result<Color, OptionsFault<'a>>
-    ensures read { IfOk result (λ color. color_by (first_of (codes "color") (rows_of (found_of matches.now)))
-        ≡ Some color) }
-    ensures refused { IfErr result (AsksForNothing (rows_of (found_of matches.now))) }
-{
+fn color_of<'a>(matches: &ArgMatches<'a>) -> Result<Color, OptionsFault<'a>> {
     let Some(text) = value(matches, "color") else {
         return Ok(Color::Auto);
     };
@@ -312,9 +219,7 @@ fn color_of<'a>(matches: &ArgMatches<'a>) -> Result<Color, OptionsFault<'a>>
     }
 }
 
-fn color_in(text: &str) -> Option<Color>
-    ensures { result ≡ color_in_is text.now }
-{
+fn color_in(text: &str) -> Option<Color> {
     match text {
         "auto" => Some(Color::Auto),
         "always" => Some(Color::Always),
@@ -324,9 +229,7 @@ fn color_in(text: &str) -> Option<Color>
 }
 
 // The number that a text is, in hex digits behind `0x`, or in decimal digits.
-fn number_in(text: &str) -> Option<usize>
-    ensures { MatchOption result ((n : ℕ) → IsNumber text.now n → ⊥) (IsNumber text.now) }
-{
+fn number_in(text: &str) -> Option<usize> {
     match hex_digits(text) {
         Some(digits) => usize::from_str_radix(digits, 16).ok(),
         None => text.parse::<usize>().ok(),
@@ -334,32 +237,22 @@ fn number_in(text: &str) -> Option<usize>
 }
 
 // What stands behind `0x`, if the text begins so.
-fn hex_digits(text: &str) -> Option<&str>
-    ensures { MatchOption result (begins_hex text.now ≡ false)
-        (λ digits. (begins_hex text.now ≡ true) × (digits.now ≡ drop 2 text.now)) }
-{
+fn hex_digits(text: &str) -> Option<&str> {
     text.strip_prefix("0x")
 }
 
 // The value of an argument.
-fn value<'a>(matches: &ArgMatches<'a>, name: &str) -> Option<&'a str>
-    ensures { option_map (λ text. text.now) result ≡ first_of name.now (rows_of (found_of matches.now)) }
-{
+fn value<'a>(matches: &ArgMatches<'a>, name: &str) -> Option<&'a str> {
     matches.get_str(name)
 }
 
 // The values of an argument that may have several.
-fn values<'m, 'a>(matches: &'m ArgMatches<'a>, name: &str) -> Option<&'m [&'a str]>
-    ensures { option_map (λ texts. map (λ text. text.now) texts.now) result
-        ≡ all_of name.now (rows_of (found_of matches.now)) }
-{
+fn values<'m, 'a>(matches: &'m ArgMatches<'a>, name: &str) -> Option<&'m [&'a str]> {
     matches.get_strs(name)
 }
 
 // Whether the flag is given.
-fn is_set(matches: &ArgMatches<'_>, name: &str) -> bool
-    ensures { result ≡ is_true (first_of name.now (rows_of (found_of matches.now))) }
-{
+fn is_set(matches: &ArgMatches<'_>, name: &str) -> bool {
     match value(matches, name) {
         Some(text) => text == "true",
         None => false,

@@ -1,6 +1,6 @@
 // Why arguments are no command line.
 ghost use Rattle.std.specs.Prelude.{◌≡◌, IfOk, OnOk, false, string_bytes};
-ghost use Rattle.der_options.specs.Options.{IsMemory, IsOneLine, by_command, is_answer};
+ghost use Rattle.der_options.specs.Options.{IsOneLine, is_answer};
 
 use clap::Error;
 use clap::error::ErrorKind;
@@ -24,16 +24,12 @@ pub enum OptionsFault<'a> {
 }
 
 impl From<Error> for OptionsFault<'_> {
-    ghost from_gives = { λ e fault. fault ≡ by_command e };
-
     fn from(e: Error) -> Self {
         OptionsFault::Command(e)
     }
 }
 
 impl From<AllocError> for OptionsFault<'_> {
-    ghost from_gives = { λ _ fault. IsMemory fault };
-
     fn from(e: AllocError) -> Self {
         OptionsFault::Command(Error::from(e))
     }

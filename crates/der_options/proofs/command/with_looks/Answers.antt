@@ -1,7 +1,0 @@
--- For `command::with_looks`: what it returns is right.
-use Rattle.std.proofs.Common.{arith}
-use Rattle.std.proofs.lemmas.Grind.{common_steps}
-use Rattle.der_options.proofs.command.with_looks.Goals as goal
-
-pub returns : goal.returns
-returns c = grind (arith, common_steps)
