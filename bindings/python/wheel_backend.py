@@ -50,7 +50,8 @@ def licences():
     distribution has it at the top."""
     notices = [path for path in (TOP / "NOTICES", LIBRARY.parent.parent / "NOTICES") if path.exists()]
     if not notices:
-        raise SystemExit(f"There is no {LIBRARY.parent.parent / 'NOTICES'}: run bindings/c/build first, which makes it.")
+        missing = LIBRARY.parent.parent / "NOTICES"
+        raise SystemExit(f"There is no {missing}: run bindings/c/build first, which makes it.")
     return {"LICENSE": (TOP / "LICENSE").read_bytes(), "NOTICES": notices[0].read_bytes()}
 
 

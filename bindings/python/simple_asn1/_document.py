@@ -103,8 +103,10 @@ class Document:
 
     @overload
     def _taken(self, start: int, end: int, number: SupportsIndex) -> "Block": ...
+
     @overload
     def _taken(self, start: int, end: int, number: slice) -> List["Block"]: ...
+
     def _taken(self, start: int, end: int, number: Union[SupportsIndex, slice]) -> Union["Block", List["Block"]]:
         """The block or blocks with these numbers at a level."""
         if isinstance(number, slice):
@@ -126,8 +128,10 @@ class Document:
 
     @overload
     def __getitem__(self, index: SupportsIndex) -> "Block": ...
+
     @overload
     def __getitem__(self, index: slice) -> List["Block"]: ...
+
     def __getitem__(self, index: Union[SupportsIndex, slice]) -> Union["Block", List["Block"]]:
         return self._taken(0, len(self._blocks), index)
 
@@ -220,8 +224,10 @@ class Block:
 
     @overload
     def __getitem__(self, index: SupportsIndex) -> "Block": ...
+
     @overload
     def __getitem__(self, index: slice) -> List["Block"]: ...
+
     def __getitem__(self, index: Union[SupportsIndex, slice]) -> Union["Block", List["Block"]]:
         document = self._document
         return document._taken(self._index + 1, document._blocks.next(self._index), index)
@@ -287,8 +293,9 @@ def read(octets: Octets) -> Document:
 def read_strict(octets: Octets) -> Document:
     """Reads a document in canonical form. Raises Refused for any other.
 
-    Canonical is what `rewrite` returns, which is not quite DER: a BIT STRING of no bits is 03 00, where DER has 03 01 00.
-    Section 6 of the library's docs/GRAMMAR.md has the whole list, and `departures` says whether octets are DER.
+    Canonical is what `rewrite` returns, which is not quite DER: a BIT STRING of no bits is 03 00, where DER has
+    03 01 00. Section 6 of the library's docs/GRAMMAR.md has the whole list, and `departures` says whether octets are
+    DER.
     """
     return Document(octets, strict=True)
 

@@ -34,7 +34,7 @@ fn sized(room: usize, call: impl Fn(*mut u8, usize) -> Outcome) -> Result<Vec<u8
     Ok(out)
 }
 
-// SAFETY, of each call below: the declarations are those of simple_asn1.h, which checks/bindings compares; each pointer
+// SAFETY, of each call below: the declarations are those of simple_asn1.h, which checks/run bindings compares; each pointer
 // comes with the length of what is behind it; `out` is memory of its own, so it overlaps nothing; no call keeps a
 // pointer.
 
