@@ -38,7 +38,10 @@ def number(x):
 def main():
     times = {key: x for key, x in measured().items() if key[0] in ITEMS and key[1] in PEERS}
     low, high = (math.log10(it) for it in (min(times.values()) / 1.5, max(times.values()) * 1.1))
-    across = lambda x: LEFT + (math.log10(x) - low) / (high - low) * (WIDTH - LEFT - RIGHT)
+
+    def across(x):
+        return LEFT + (math.log10(x) - low) / (high - low) * (WIDTH - LEFT - RIGHT)
+
     marks = [m * 10.0**e for e in range(-3, 5) for m in (1, 2, 5) if low < math.log10(m * 10.0**e) < high]
     parts, y = [], 56
     for kind, x in zip(COLORS, (LEFT, LEFT + 140, LEFT + 240)):
@@ -53,7 +56,8 @@ def main():
         y += HEAD
         for x, label, kind in sorted(rows):
             parts.append(f'<text x="{LEFT - 10}" y="{y + 12}" text-anchor="end">{label}</text>')
-            parts.append(f'<rect x="{LEFT}" y="{y}" width="{across(x) - LEFT:.1f}" height="{BAR}" fill="{COLORS[kind]}"/>')
+            width = f"{across(x) - LEFT:.1f}"
+            parts.append(f'<rect x="{LEFT}" y="{y}" width="{width}" height="{BAR}" fill="{COLORS[kind]}"/>')
             parts.append(f'<text x="{across(x) + 6:.1f}" y="{y + 12}">{number(x)}</text>')
             y += STEP
     grid = [f'<path d="M{across(m):.1f} {top + 8}V{y}" stroke="#d5d9de"/>'

@@ -1,4 +1,8 @@
-"""Compares accounts with what openssl says of the same certificates: PROGRAM FOLDER."""
+"""What `der_dump --text` says of each certificate is what `openssl x509` says: subject, issuer, serial number, dates,
+alternative names, fingerprint.
+
+    checks/run accounts [-- FOLDER]    /etc/ssl/certs unless given
+"""
 import datetime
 import pathlib
 import re
@@ -6,6 +10,7 @@ import subprocess
 import sys
 import tempfile
 
+from builds import program as built
 from certificates import certificates
 
 # how many characters the label of a line takes, behind two spaces
@@ -21,8 +26,8 @@ def moment(text):
 def wanted(file):
     """What openssl says, by the labels of an account."""
     words = ["-subject", "-issuer", "-serial", "-startdate", "-enddate", "-fingerprint", "-sha256", *NAMES]
-    said = subprocess.run(["openssl", "x509", "-inform", "DER", "-in", file, "-noout", *words, "-ext", "subjectAltName"],
-                          capture_output=True).stdout.decode().splitlines()
+    command = ["openssl", "x509", "-inform", "DER", "-in", file, "-noout", *words, "-ext", "subjectAltName"]
+    said = subprocess.run(command, capture_output=True).stdout.decode().splitlines()
     told = {label: text.strip() for label, _, text in (line.partition("=") for line in said[:6])}
     lines = {
         "subject": told["subject"],
@@ -49,8 +54,8 @@ def told(program, file):
     return lines
 
 
-def main():
-    program, folder = sys.argv[1:]
+def main(words):
+    program, folder = built("der_dump"), words[0] if words else ""
     count = wrong = 0
     with tempfile.TemporaryDirectory() as room:
         file = pathlib.Path(room) / "certificate.der"
@@ -63,7 +68,8 @@ def main():
                     wrong += 1
                     print(f"{theirs['subject']}: {label}: {ours.get(label)!r}, and openssl says {text!r}")
     print(f"accounts: {count} certificates, {wrong} lines not as openssl has them")
-    sys.exit(1 if wrong or not count else 0)
+    return 1 if wrong or not count else 0
 
 
-main()
+if __name__ == "__main__":
+    sys.exit(main(sys.argv[1:]))

@@ -1,8 +1,8 @@
 """The whole programs of the pages of the languages print what the pages show: binding_page.py TOP CC WORK
 
 A program is a block of C with a `main`, of Rust with a `main`, or of Python that imports the package. Behind it, before
-the next heading, stand indented commands, and behind each, after an empty line, what it prints, errors included. Those of
-C are built by the page's own command, those of Rust as a crate over bindings/rust/records.
+the next heading, stand indented commands, and behind each, after an empty line, what it prints, errors included. Those
+of C are built by the page's own command, those of Rust as a crate over bindings/rust/records.
 """
 import os
 import pathlib

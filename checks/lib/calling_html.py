@@ -1,4 +1,4 @@
-"""One page of HTML with all types and calls, for checks/calling: it needs no other file, and no network."""
+"""One page of HTML with all types and calls, for checks/run calling: it needs no other file, and no network."""
 import base64
 import hashlib
 import html

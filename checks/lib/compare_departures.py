@@ -1,13 +1,18 @@
-"""compare_departures.py FOLDER PROGRAM ROWS: departures from DER, by test_departures and by a plain recursive reader.
+"""Departures from DER, each at its offset, are those that a plain recursive reader lists.
 
-The documents are the certificates of the folder, these and the rows with octets changed, and the rows joined by chance,
-in the indefinite form too. `checks/departures` runs it.
+    checks/run departures [-- FOLDER]    of the certificates of this folder, /etc/ssl/certs unless given
+
+The documents are these certificates, three of them and the rows of `departures` with each octet changed to each
+other value, and the rows joined by chance, in the indefinite form too. Then a million encodings stand inside one
+another, on a stack of 256 kB. In short each tenth certificate is taken, and each 30th change.
 """
 import sys
 
+import builds
 import departures
+from calls import rows_of_call
 from changed import indefinite, joined, of_certificates
-from compared import answers, compare_all, end, is_deep
+from compared import answers, compare_all, is_deep, status
 from short import part
 
 MIXTURES = 50_000
@@ -24,7 +29,7 @@ class Answered:
         self.program = program
 
     def line(self, octets):
-        return f"{octets.hex()}\n"
+        return f"departures {octets.hex()}\n"
 
     def given(self, documents):
         lines = answers(self.program, map(self.line, documents))
@@ -40,22 +45,22 @@ class Answered:
         return answer != "none"
 
 
-def documents(folder, rows):
-    with open(rows) as lines:
-        parts = [bytes.fromhex(it) for it in lines if it.strip() and not it.startswith("#")]
+def documents(folder):
+    parts = rows_of_call("departures")
     yield from of_certificates(folder, parts)
     for seed in part(range(MIXTURES), 30):
         yield joined(parts, seed)
         yield indefinite(parts, seed)
 
 
-def main(folder, program, rows):
-    answered = Answered(program)
+def main(words):
+    answered, folder = Answered(builds.program("test_calls")), words[0] if words else ""
     # (the program takes no empty line)
-    total, broken, wrong = compare_all(answered, filter(None, documents(folder, rows)))
+    found = filter(None, documents(folder))
+    total, broken, wrong = compare_all(answered, found)
     print(f"departures: {total} documents, {broken} of them with some, {len(wrong)} wrong")
-    end(total, wrong, [is_deep(answered, *it) for it in DEEP])
+    return status(total, wrong, [is_deep(answered, *it) for it in DEEP])
 
 
 if __name__ == "__main__":
-    main(*sys.argv[1:])
+    sys.exit(main(sys.argv[1:]))

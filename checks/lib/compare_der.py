@@ -1,13 +1,17 @@
-"""compare_der.py FOLDER PROGRAM ROWS: whether documents are DER, by test_calls and by a plain recursive reader.
+"""Documents are DER or not as a plain recursive reader says.
 
-The documents are the certificates of the folder, these and the rows of `is_der` with octets changed, and the rows
-joined by chance. `checks/der` runs it.
+    checks/run der [-- FOLDER]    with the certificates of this folder, /etc/ssl/certs unless given
+
+The documents are these certificates, three of them and the rows of `is_der` with each octet changed to each other
+value, and the rows joined by chance. Then a million encodings stand inside one another, on a stack of 256 kB. In short
+each tenth certificate is taken, and each 30th change.
 """
 import sys
 
+import builds
 import der
 from changed import joined, of_certificates
-from compared import answers, compare_all, end, is_deep
+from compared import answers, compare_all, is_deep, status
 from short import part
 
 MIXTURES = 100_000
@@ -44,12 +48,12 @@ def documents(folder, rows):
         yield joined(parts, seed)
 
 
-def main(folder, program, rows):
-    answered = Answered(program)
-    total, right, wrong = compare_all(answered, documents(folder, rows))
+def main(words):
+    answered, folder = Answered(builds.program("test_calls")), words[0] if words else ""
+    total, right, wrong = compare_all(answered, documents(folder, builds.CRATES / "test_calls/stdin"))
     print(f"der: {total} documents, {right} of them DER, {len(wrong)} wrong")
-    end(total, wrong, [is_deep(answered, *it) for it in DEEP])
+    return status(total, wrong, [is_deep(answered, *it) for it in DEEP])
 
 
 if __name__ == "__main__":
-    main(*sys.argv[1:])
+    sys.exit(main(sys.argv[1:]))

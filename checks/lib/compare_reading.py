@@ -1,13 +1,16 @@
-"""compare_reading.py FOLDER PROGRAM: what documents hold, by test_calls and by a plain recursive reader.
+"""What documents hold is read as a plain recursive reader reads it.
 
-The documents are the prefixes of three certificates of the folder, and these with each octet changed, in short each 30th.
-`checks/changes` runs it.
+    checks/run changes [-- FOLDER]    of certificates of this folder, /etc/ssl/certs unless given
+
+The documents are the prefixes of three certificates, and these with each octet changed to each other value, in short
+each 30th octet.
 """
 import collections
 import functools
 import multiprocessing
 import sys
 
+import builds
 import reader
 from certificates import certificates
 from changed import changed_at
@@ -27,7 +30,8 @@ def checked(program, documents):
     return wrong, kinds
 
 
-def main(folder, program):
+def main(words):
+    program, folder = builds.program("test_calls"), words[0] if words else ""
     # the smallest, the one in the middle of the smaller half, and the greatest of that half
     found = sorted(certificates(folder), key=len)[:76]
     total, bad = 0, 0
@@ -39,11 +43,11 @@ def main(folder, program):
             for some, more in pool.imap_unordered(functools.partial(checked, program), tasks):
                 wrong, kinds = wrong + some, kinds + more
             print(f"changes: {len(octets)} octets: {sum(kinds.values())} documents, {wrong} wrong: " +
-                ", ".join(f"{count} {name}" for name, count in kinds.most_common()))
+                  ", ".join(f"{count} {name}" for name, count in kinds.most_common()))
             total, bad = total + sum(kinds.values()), bad + wrong
     print(f"changes: {total} documents, {bad} wrong")
-    sys.exit(0 if total and not bad else 1)
+    return 0 if total and not bad else 1
 
 
 if __name__ == "__main__":
-    main(*sys.argv[1:])
+    sys.exit(main(sys.argv[1:]))

@@ -3,7 +3,6 @@ import functools
 import itertools
 import multiprocessing
 import subprocess
-import sys
 
 from x690 import nested
 
@@ -51,6 +50,6 @@ def is_deep(answered, kind, leading, inner, wanted):
     return is_well
 
 
-def end(total, wrong, deep):
-    """Ends the script: well if there were documents, and nothing is wrong."""
-    sys.exit(0 if total and not wrong and all(deep) else 1)
+def status(total, wrong, deep):
+    """The status of a check: 0 if there were documents, and nothing is wrong."""
+    return 0 if total and not wrong and all(deep) else 1

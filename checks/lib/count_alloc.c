@@ -1,4 +1,4 @@
-/* For checks/memory, with switch.c. `getsid` answers how many allocations there were, so that two answers say whether
+/* For checks/run memory, with switch.c. `getsid` answers how many allocations there were, so that two answers say whether
    one came between them; and where ANY_PLACE is set, how often it was asked, so that any two answers differ.
 
    A program of `rt try` holds the address sanitizer, whose `malloc` no library can take the place of. But it calls what

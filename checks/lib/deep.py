@@ -1,7 +1,7 @@
 """deep.py LEVELS LEADING BESIDE AFTER: prints a document of so many levels in hex digits.
 
-It has LEVELS encodings, whose leading octets are those of LEADING in turn, around a NULL. The octets BESIDE stand before
-and after the inner one at each level; AFTER stands after the whole. `checks/depth` runs it.
+It has LEVELS encodings, whose leading octets are those of LEADING in turn, around a NULL. The octets BESIDE stand
+before and after the inner one at each level; AFTER stands after the whole. `checks/run depth` runs it.
 """
 import sys
 

@@ -1,7 +1,7 @@
 """dump_levels.py FOLDER PROGRAM BER: der_dump shows 1,000,000 levels on a stack of 256 kB, in 20 seconds.
 
 Beside openssl asn1parse, where that is there, it shows the same offsets, sizes and levels of each certificate of FOLDER
-and of each message of the folder BER. `checks/dumps` runs it.
+and of each message of the folder BER. `checks/run dumps` runs it.
 """
 import pathlib
 import re
@@ -29,7 +29,8 @@ DEEP = [
 
 
 def dump(program, octets):
-    return subprocess.run(["sh", "-c", 'ulimit -s 256 && exec "$0" --plain', program], input=octets, capture_output=True)
+    small = ["sh", "-c", 'ulimit -s 256 && exec "$0" --plain', program]
+    return subprocess.run(small, input=octets, capture_output=True)
 
 
 def is_shown(program, name, octets, status, lines):
@@ -55,7 +56,7 @@ def are_as_openssl_shows(program, folder, messages):
         wanted = THEIRS.findall(theirs)
         same += ran.returncode == 0 and ours == wanted
         blocks += len(wanted)
-    print(f"dumps: {same} of {len(documents)} certificates and messages, {blocks} blocks, as openssl asn1parse has them")
+    print(f"dumps: {same} of {len(documents)} certificates and messages, {blocks} blocks, as by openssl asn1parse")
     return bool(streamed) and same == len(documents)
 
 

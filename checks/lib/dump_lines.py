@@ -1,8 +1,10 @@
-"""What der_dump writes with --json: dump_lines.py PROGRAM WORK FOLDER
+"""What der_dump writes with --json.
+
+    checks/run json [-- FOLDER]    with the certificates of this folder, /etc/ssl/certs unless given
 
 Each line keeps to docs/dump.schema.json and has what a dump shows, crates/der_dump/rebuild.py makes documents of lines,
 --extract takes the offset of each row, and the examples of docs/DUMP.md for jq show what openssl shows, of each
-certificate of the folder. `checks/json` runs it.
+certificate.
 """
 import copy
 import json
@@ -12,9 +14,13 @@ import re
 import shutil
 import subprocess
 import sys
+import tempfile
 import textwrap
+
+import builds
 from certificates import certificates
 from extracted import check_extracted
+from rows import rows_of
 from x690 import encoding, nested
 
 TOP = pathlib.Path(__file__).resolve().parent.parent.parent
@@ -28,7 +34,6 @@ except ImportError:
 
 LEVELS = 100000
 LONG_INTEGER = bytes.fromhex("02 82 13 88") + 5000 * b"\x5a"
-PARTS = {"hex": bytes.fromhex, "text": lambda text: text.encode() + b"\n", "text-": lambda text: text.encode()}
 wrong = 0
 
 
@@ -45,9 +50,7 @@ def fail(*words):
 def rows_inputs():
     """The standard inputs of the rows of der_dump."""
     for path in sorted((TOP / "crates/der_dump/rows").glob("*.rows")):
-        for row in path.read_text().split("\n\n"):
-            lines = (line.partition(" ") for line in row.splitlines())
-            yield b"".join(PARTS[word](rest) for word, _, rest in lines if word in PARTS)
+        yield from (row.octets["input"] for row in rows_of(path))
 
 
 def calls_inputs():
@@ -577,10 +580,9 @@ def check_examples(program, work, roots):
          f"{named} have alternative names")
 
 
-def main():
-    program, work, folder = sys.argv[1], pathlib.Path(sys.argv[2]), sys.argv[3]
-    dump = Dump(program, work / "inputs")
-    roots = certificates(folder)
+def check(program, work, folder):
+    """Whether there was something to check."""
+    dump, roots = Dump(program, work / "inputs"), certificates(folder)
     indefinite = [*map(bytes.fromhex, BER), *streamed(work / "streamed")]
     documents = list(dict.fromkeys([*rows_inputs(), *calls_inputs(), *roots, nested(0x30, 50), nested(0xA0, 50),
                                     *indefinite]))
@@ -597,7 +599,14 @@ def main():
     check_program(dump, roots)
     check_examples(program, work, roots)
     tell(f"{len(documents)} inputs, {wrong} wrong")
-    sys.exit(1 if wrong or not roots else 0)
+    return bool(roots)
 
 
-main()
+def main(words):
+    with tempfile.TemporaryDirectory() as work:
+        is_checked = check(builds.program("der_dump"), pathlib.Path(work), words[0] if words else "")
+    return 1 if wrong or not is_checked else 0
+
+
+if __name__ == "__main__":
+    sys.exit(main(sys.argv[1:]))

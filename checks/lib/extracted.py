@@ -1,4 +1,4 @@
-"""Each row of a dump has an offset that --extract takes, and the block that it writes is the row's; `checks/json` runs it."""
+"""Each row of a dump has an offset that --extract takes, and the block that it writes is the row's."""
 import concurrent.futures
 import subprocess
 
@@ -7,8 +7,8 @@ MOST_ROWS = 40
 
 
 def is_end(row, around):
-    """Whether a row is of end-of-contents octets, by the row of the encoding that it stands in: they have no value. Other
-    encodings with the tag 0 have one, or are constructed."""
+    """Whether a row is of end-of-contents octets, by the row of the encoding that it stands in: they have no value.
+    Other encodings with the tag 0 have one, or are constructed."""
     inside_indefinite = around is not None and around["size"] is None
     return row["type"] == "end-of-contents" and inside_indefinite and not row["constructed"] and row["value"] is None
 
@@ -49,6 +49,6 @@ def check_extracted(dump, documents, lines):
 
     with concurrent.futures.ThreadPoolExecutor() as pool:
         right = list(pool.map(run, runs))
-    wrong = [f"{documents[it[0]].hex()[:80]}: --extract {it[1]} does not write the block of that row, or why there is none"
-             for it, good in zip(runs, right) if not good]
+    says = "does not write the block of that row, or why there is none"
+    wrong = [f"{documents[it[0]].hex()[:80]}: --extract {it[1]} {says}" for it, good in zip(runs, right) if not good]
     return wrong, sum(it[2] is not None for it in runs), sum(it[2] is None for it in runs)

@@ -1,11 +1,12 @@
 """Whether each block of each certificate has a name in JSON, and those of a Certificate the names of RFC 5280, 4.1.
 
-    fields.py PROGRAM [FOLDER]    the program is der_dump; an empty FOLDER is /etc/ssl/certs
+    checks/run fields [-- FOLDER]    of the certificates of this folder, /etc/ssl/certs unless given
 """
 import json
 import subprocess
 import sys
 
+import builds
 from certificates import certificates
 
 # what a block with two around it is in a TBSCertificate: its field and its type, by its tag, or by its place
@@ -44,8 +45,8 @@ def wrong(blocks):
                 yield block["offset"], f"{names(block)} is not {want}"
 
 
-def main(program, folder=""):
-    found = certificates(folder)
+def main(words):
+    program, found = builds.program("der_dump"), certificates(*words)
     blocks, bad = 0, 0
     for number, octets in enumerate(found):
         ran = subprocess.run([program, "--json"], input=octets, capture_output=True, check=True)
@@ -55,8 +56,8 @@ def main(program, folder=""):
             bad += 1
             print(f"fields: certificate {number}, offset {offset}: {what}")
     print(f"fields: {len(found)} certificates, {blocks} blocks, {bad} wrong")
-    return bad > 0 or not found
+    return 1 if bad or not found else 0
 
 
 if __name__ == "__main__":
-    sys.exit(main(*sys.argv[1:]))
+    sys.exit(main(sys.argv[1:]))

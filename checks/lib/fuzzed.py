@@ -14,8 +14,8 @@ import reader
 from x690 import encoding, length_octets
 
 sys.path.insert(0, str(pathlib.Path(__file__).parents[2] / "bindings/python"))
-import simple_asn1
-from simple_asn1 import Refused, Status, _calls
+import simple_asn1  # noqa: E402
+from simple_asn1 import Refused, Status, _calls  # noqa: E402
 
 NONE, RANGE = Status.NO_SUCH_VALUE, Status.RANGE
 FAULTS = {

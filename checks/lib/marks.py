@@ -1,6 +1,12 @@
-"""Documents, and whether what der_dump lists of them as not DER is what a plain reader lists.
+"""What `der_dump --json --strict` lists of documents is what a plain recursive reader lists, rule by rule and offset by
+offset.
 
-    marks.py FOLDER PROGRAM ROWS    of the certificates of the folder, and of the encodings in the file of rows
+    checks/run marks [-- FOLDER]    of the certificates of this folder, /etc/ssl/certs unless given
+
+The documents are these certificates, one of them with octets changed, and encodings of every kind with octets changed
+and of the indefinite form. Left out on both sides: documents whose headers do not chain, and what stands inside
+strings, inside a SEQUENCE or SET that is primitive, and inside contents that are not encodings, where that reader lists
+nothing. In short each tenth certificate is taken, and each tenth change.
 """
 import base64
 import itertools
@@ -8,7 +14,9 @@ import json
 import subprocess
 import sys
 
+import builds
 import departures
+from calls import rows_of_call
 from certificates import certificates
 from changed import each_changed, indefinite, joined
 from short import part
@@ -18,13 +26,12 @@ STEP = 13  # one changed octet of so many is tried
 SEQUENCES = ("SEQUENCE", "SET")
 
 
-def documents(folder, rows):
+def documents(folder):
     """Certificates, the smallest with octets changed, and rows of encodings, put together and changed."""
     found = sorted(certificates(folder), key=len)
     yield from found
     yield from part(itertools.islice(each_changed(found[0]), 0, None, STEP), 10)
-    with open(rows) as lines:
-        parts = [bytes.fromhex(it) for it in lines if it.strip() and not it.startswith("#")]
+    parts = rows_of_call("departures")
     for octets in parts:
         if len(octets) < 12:
             yield from part(itertools.islice(each_changed(octets), 0, None, STEP), 10)
@@ -40,8 +47,8 @@ def tasks(some):
 
 def pem(some):
     """The documents as objects of PEM, each with its number."""
-    text = lambda octets: base64.encodebytes(octets).decode()
-    return "".join(f"-----BEGIN X{i}-----\n{text(it)}-----END X{i}-----\n" for i, it in enumerate(some))
+    texts = (base64.encodebytes(it).decode() for it in some)
+    return "".join(f"-----BEGIN X{i}-----\n{text}-----END X{i}-----\n" for i, text in enumerate(texts))
 
 
 def passed_over(blocks):
@@ -80,10 +87,11 @@ def wrong_marks(some, printed):
     return broken, wrong
 
 
-def main(folder, program, rows):
+def main(words):
+    program, folder = builds.program("der_dump"), words[0] if words else ""
     total = broken = 0
     wrong = []
-    for some in tasks(documents(folder, rows)):
+    for some in tasks(documents(folder)):
         words = [program, "--json", "--strict"]
         ran = subprocess.run(words, input=pem(some), capture_output=True, text=True, timeout=600)
         number, others = wrong_marks(some, ran.stdout)
@@ -95,4 +103,4 @@ def main(folder, program, rows):
 
 
 if __name__ == "__main__":
-    sys.exit(main(*sys.argv[1:]))
+    sys.exit(main(sys.argv[1:]))

@@ -1,11 +1,13 @@
-"""parts.py FOLDER PROGRAM: each block of each certificate of the folder is read alone as that block, by test_calls.
+"""Each block of each certificate reads alone as that block, and two certificates one after another as the blocks of
+both.
 
-Two certificates one after another are read as the blocks of both. `checks/parts` runs it.
+    checks/run parts [-- FOLDER]    of the certificates of this folder, /etc/ssl/certs unless given; in short each tenth
 """
 import collections
 import re
 import sys
 
+import builds
 from certificates import certificates
 from compared import answers
 
@@ -39,8 +41,8 @@ def text_at(blocks, start):
     raise ValueError(blocks[start:])
 
 
-def main(folder, program):
-    documents = certificates(folder)
+def main(words):
+    program, documents = builds.program("test_calls"), certificates(*words)
     whole = read(program, documents)
     alone, wanted, kinds = [], [], collections.Counter()
     for octets, blocks in zip(documents, whole):
@@ -58,7 +60,8 @@ def main(folder, program):
     joined = sum(text == f"{whole[a]}, {moved(whole[b], len(documents[a]))}" for text, (a, b) in zip(both, pairs))
     print(f"parts: {joined} of {len(pairs)} pairs of certificates are read as the blocks of both")
     is_well = alone and sliced == len(alone) and joined == len(pairs)
-    sys.exit(0 if is_well else 1)
+    return 0 if is_well else 1
 
 
-main(*sys.argv[1:])
+if __name__ == "__main__":
+    sys.exit(main(sys.argv[1:]))

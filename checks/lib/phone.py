@@ -10,7 +10,8 @@ SCRIPT = """onload = () => {
   lines[1].dispatchEvent(new Event('mouseover', { bubbles: true }));
   const scrolled = [...boxes].filter(it => it.scrollWidth > it.clientWidth + 1).length;
   const pointed = inside.querySelectorAll('.pointed').length;
-  document.body.innerHTML = `<p>wide=${root.scrollWidth > root.clientWidth} scrolled=${scrolled} pointed=${pointed} end`;
+  const wide = root.scrollWidth > root.clientWidth;
+  document.body.innerHTML = `<p>wide=${wide} scrolled=${scrolled} pointed=${pointed} end`;
 };
 """
 

@@ -1,6 +1,6 @@
 """Every one of the allocations refused in turn: of each line of a stored run, or of one test.
 
-PROGRAM CRATE WORK: the program, the folder of its crate, and one for files. PROGRAM CRATE WORK TEST: one of tests.
+PROGRAM CRATE WORK: the program, the folder of its stored run, and one for files. PROGRAM CRATE WORK TEST: one of tests.
 """
 import concurrent.futures
 import os
@@ -8,9 +8,13 @@ import pathlib
 import subprocess
 import sys
 
+from calls import LARGE
+
 program, crate, work = sys.argv[1:4]
 test = sys.argv[4] if len(sys.argv) > 4 else None
 name = pathlib.Path(crate).name
+# programs of calls, whose comments have no line of their own among the answers
+CALLS = ("test_calls", "tried")
 # what a run ends with where memory ran out: its status, what it wrote, and what stands on standard error
 RAN_OUT = (2, b"", b"out of memory\n")
 # lines of each kind in one run of der_tool, the last of them empty, and their answers
@@ -25,31 +29,40 @@ if test:
     RAN_OUT = (101, b"", b"error: AllocError\nthe test failed: its result gives status 1\n")
 
 
+def refusing():
+    """The environment in which allocations are refused; of a program of `rt try` it has the places where these are."""
+    places = {"___interceptor_malloc": "MALLOC_AT", "___interceptor_realloc": "REALLOC_AT"}
+    symbols = subprocess.run(["nm", program], capture_output=True, text=True).stdout.splitlines()
+    found = {places[it.split()[2]]: it.split()[0] for it in symbols if it.split()[-1] in places}
+    return {**os.environ, "LD_PRELOAD": f"{work}/fail_alloc.so", **found}
+
+
 def rows():
     """The lines of the stored run that are answered, each once, with their answers; or the test, with its result."""
     if test:
         return [(test, "\ntest result: ok")]
     lines = pathlib.Path(crate, "stdin").read_text().splitlines()
-    if name == "test_calls":  # a comment has no line of its own among the answers
+    if name in CALLS:
         lines = [it for it in lines if not it.startswith("#")]
     answers = pathlib.Path(crate, "stdout").read_text().splitlines()
     assert len(lines) == len(answers), f"{name}: {len(lines)} lines have {len(answers)} answers"
     together = [TOGETHER] if name == "der_tool" else []
-    return [it for it in dict(zip(lines, answers)).items() if it[0] and not it[0].startswith("#")] + together
+    found = [it for it in dict(zip(lines, answers)).items() if it[0] and not it[0].startswith(("#", *LARGE))]
+    return found + together
 
 
 def called(line, answer):
     """The call that the line names."""
-    if test or name != "test_calls":
+    if test or name not in CALLS:
         return test or "run"
     return line.split()[0] if answer not in ("", "badline") else "no call"
 
 
 def ran(line, number, mark):
     """How the run ended in which the allocation of this number is refused, and whether there was one."""
-    words = {"LD_PRELOAD": f"{work}/fail_alloc.so", "FAIL_ALLOC": str(number), "REFUSED": mark}
+    words = {**environment, "FAIL_ALLOC": str(number), "REFUSED": mark}
     command, given = ([program, test], b"") if test else ([program], f"{line}\n".encode())
-    run = subprocess.run(command, input=given, capture_output=True, env={**os.environ, **words})
+    run = subprocess.run(command, input=given, capture_output=True, env=words)
     met = os.path.exists(mark)
     if met:
         os.unlink(mark)
@@ -74,6 +87,7 @@ def refused_in_turn(at, line, answer):
             wrong.append(f"allocation {number} refused: {ended}"[:200])
 
 
+environment = refusing()
 lines = rows()
 with concurrent.futures.ThreadPoolExecutor(os.cpu_count()) as pool:
     counts = list(pool.map(refused_in_turn, range(len(lines)), *zip(*lines)))

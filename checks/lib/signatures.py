@@ -1,7 +1,7 @@
 """signatures.py FOLDER PROGRAM WORK: openssl verifies signatures over what der_signed writes.
 
 They are those of the self-signed certificates of the folder, each by its own key, and none verifies with a bit changed.
-WORK is a folder for files. `checks/signed` runs it.
+WORK is a folder for files. `checks/run signed` runs it.
 """
 import collections
 import pathlib
@@ -68,9 +68,9 @@ def main(folder, program, work):
 
     verified = sum(right.values())
     print(f"signed: {verified} of {tried} self-signed certificates verify over what was written, " +
-        f"{changed} with a bit changed")
+          f"{changed} with a bit changed")
     print("signed: " + ", ".join(f"{count} {name}" for name, count in right.most_common()) +
-        f"; {others} others left out")
+          f"; {others} others left out")
     sys.exit(verified == 0 or verified < tried or changed > 0)
 
 

@@ -1,4 +1,4 @@
-/* The switch of checks/arms and checks/memory. The body whose number WRONG_BODY has is wrong; the numbers of all bodies
+/* The switch of the checks arms and memory. The body whose number WRONG_BODY has is wrong; the numbers of all bodies
    that are reached are lines of the file REACHED, each once. */
 #include <fcntl.h>
 #include <stdio.h>

@@ -1,6 +1,7 @@
 """Wrong bodies behind a switch, in a copy of the crates that is built once, unproved.
 
-checks/arms and checks/memory write the bodies; here are the copy, its building, and the bodies that may stay unseen.
+checks/run arms and checks/run memory write the bodies; here are the copy, its building, and the bodies that may stay
+unseen.
 """
 import pathlib
 import re
@@ -8,7 +9,7 @@ import shutil
 import subprocess
 import sys
 
-from unproved import unproved_program
+from builds import unproved_program
 
 TOP = pathlib.Path(__file__).resolve().parent.parent.parent
 

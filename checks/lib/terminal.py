@@ -70,7 +70,7 @@ def names_of(text):
 small = bytes.fromhex("30050201010500")
 plain, _ = run([], small)
 for words, variables, colored in [([], {}, True), (["--color", "never"], {}, False), ([], {"NO_COLOR": "1"}, False),
-                                   ([], {"NO_COLOR": ""}, True), (["--color", "always"], {"NO_COLOR": "1"}, True)]:
+                                  ([], {"NO_COLOR": ""}, True), (["--color", "always"], {"NO_COLOR": "1"}, True)]:
     shown, _ = run(words, small, "stdout", **variables)
     is_so(f"{words} {variables}: colored is {colored}", (b"\x1b[" in shown) == colored)
     is_so(f"{words} {variables}: the lines", re.sub(rb"\x1b\[\d*m", b"", shown) == plain)

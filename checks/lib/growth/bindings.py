@@ -7,8 +7,8 @@ KIND is `c`, `rust` or `python`, of which PROGRAM is given a call and a file, an
 in microseconds and a status; or `json`, for `der_dump`. It fails where twice the size takes more than three times as
 long, or where 100 kB take more than a second. With PATIENCE=N in the environment, for a machine that does other work,
 each call is timed once, may take N seconds, and sizes are not compared. Of `memory`, PROGRAM is given a call alone, and
-prints how many kB it takes for 100 MB without room for what it writes, a status and a count. Of `signed`, PROGRAM is `der_signed`, which may take twice its input.
-`der_dump` may take its input and 20 MiB, as lines, as JSON and on a page.
+prints how many kB it takes for 100 MB without room for what it writes, a status and a count. Of `signed`, PROGRAM is
+`der_signed`, which may take twice its input. `der_dump` may take its input and 20 MiB, as lines, as JSON and on a page.
 """
 import filecmp
 import json

@@ -1,18 +1,19 @@
-"""library.py PROGRAM WORK: the time that test_calls takes for large and for nested documents, at twice the size.
+"""The time that test_calls takes for large and for nested documents, at twice the size: at most three times as long.
 
-Nested documents that fail are answered as by a plain recursive reader. WORK is a folder for files. `checks/growth` runs
-it, with checks/lib on Python's path.
+Nested documents that fail are answered as by a plain recursive reader.
 """
 import os
 import random
 import subprocess
 import sys
+import tempfile
 import threading
 
+import builds
 import reader
 from x690 import Nest, encoding
 
-program, work = sys.argv[1:3]
+program, work = None, None
 wrong = 0
 has_ended = False
 
@@ -78,8 +79,8 @@ def grows(name, call, documents, most=3.0):
     is_well = is_well and not any(it.startswith("status") for it in answers)
     wrong += not is_well
     print(f"growth: {call} {name}: {', '.join(f'{len(it):,}' for it in documents)} octets: " +
-        f"{', '.join(f'{it * 1000:.0f} ms' for it in times)}, ratios {', '.join(f'{it:.2f}' for it in ratios)}: " +
-        f"{answers[-1][:40]}{'' if is_well else ', WRONG'}", flush=True)
+          f"{', '.join(f'{it * 1000:.0f} ms' for it in times)}, ratios {', '.join(f'{it:.2f}' for it in ratios)}: " +
+          f"{answers[-1][:40]}{'' if is_well else ', WRONG'}", flush=True)
 
 
 def compared(count):
@@ -109,10 +110,10 @@ def side_by_side(size):
     outside, inside = encoding(0x30, attempts), encoding(0xA0, encoding(0x30, attempts))
     (_, alone, _), (_, within, _) = time_of("count", outside, 15), time_of("count", inside, 15)
     print(f"growth: failed attempts of {size + 4} octets side by side: {alone * 1000:.0f} ms, inside one that ends " +
-        f"well {within * 1000:.0f} ms: ratio {within / alone:.2f}", flush=True)
+          f"well {within * 1000:.0f} ms: ratio {within / alone:.2f}", flush=True)
 
 
-def main():
+def look():
     global has_ended
     levels = [25_000, 50_000, 100_000, 200_000]
     sizes = [4_000_000, 8_000_000, 16_000_000]
@@ -136,9 +137,18 @@ def main():
     has_ended = True
 
 
-sys.setrecursionlimit(1_000_000)
-threading.stack_size(512 * 2**20)
-thread = threading.Thread(target=main)
-thread.start()
-thread.join()
-sys.exit(0 if has_ended and not wrong else 1)
+def main(_words):
+    global program, work
+    program = builds.program("test_calls")
+    # the plain reader is recursive
+    sys.setrecursionlimit(1_000_000)
+    threading.stack_size(512 * 2**20)
+    with tempfile.TemporaryDirectory() as work:
+        thread = threading.Thread(target=look)
+        thread.start()
+        thread.join()
+    return 0 if has_ended and not wrong else 1
+
+
+if __name__ == "__main__":
+    sys.exit(main(sys.argv[1:]))

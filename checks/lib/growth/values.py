@@ -1,5 +1,5 @@
-"""values.py CALL FILE: makes a call of the package simple_asn1 on a document, and prints the processor time that it took,
-in microseconds, and 0, or 1 for another answer than is right."""
+"""values.py CALL FILE: makes a call of the package simple_asn1 on a document, and prints the processor time that it
+took, in microseconds, and 0, or 1 for another answer than is right."""
 import sys
 import time
 

@@ -18,7 +18,7 @@ def block(tag, *items):
 
 
 def certificate(attributes):
-    """A certificate whose subject and issuer have these attributes: each a type, the tag of its value, and the value."""
+    """A certificate whose subject and issuer have these attributes: a type, the tag of a value, and the value."""
     names = [block(0x31, block(0x30, block(6, kind), block(tag, value))) for kind, tag, value in attributes]
     times = block(0x30, block(23, b"261123070322Z"), block(24, b"20361123070322.5Z"))
     algorithm = block(0x30, block(6, b"\x2a"))

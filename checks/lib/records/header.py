@@ -12,8 +12,8 @@ top, compiler = pathlib.Path(sys.argv[1]), sys.argv[2]
 header = (top / "bindings/c/simple_asn1.h").read_text()
 sys.path.insert(0, str(top / "bindings/python"))
 sys.dont_write_bytecode = True
-import simple_asn1
-from simple_asn1 import _calls
+import simple_asn1  # noqa: E402
+from simple_asn1 import _calls  # noqa: E402
 
 
 def same(what, first, second):
@@ -93,7 +93,6 @@ clauses, texts = (
 )
 same("the header's texts and those of the library", {r[0]: r[1] for r in rules.values()}, texts)
 same("the header's clauses and those of the library", {r[0]: r[2] for r in rules.values()}, clauses)
-
 
 
 class Refusal(ctypes.Structure):
