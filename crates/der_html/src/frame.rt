@@ -1,5 +1,5 @@
 // The beginning and the end of a page, the same of every dump. The beginning allows the script at the end by its hash,
-// which `checks/page` compares.
+// which `checks/run page` compares.
 ghost use Rattle.std.specs.Prelude.{OnOk};
 ghost use Rattle.der_html.specs.Page.{IsLonger};
 
