@@ -1,4 +1,4 @@
-"""Every one of the allocations refused in turn: of each line of a stored run, or of one test.
+"""The allocations of each line of a stored run, or of one test, refused in turn: one by one, or each 64th of many.
 
 PROGRAM CRATE WORK: the program, the folder of its stored run, and one for files. PROGRAM CRATE WORK TEST: one of tests.
 """
@@ -20,11 +20,13 @@ RAN_OUT = (2, b"", b"out of memory\n")
 # lines of each kind in one run of der_tool, the last of them empty, and their answers
 TOGETHER = ("0280\n3000\nzz\n0489\n",
             "ok 020100\nok 3000\nbadhex\nrefused LengthTooLarge 9\nrefused EmptyBuffer")
-# calls that read an `Outline`, which guesses room for its entries, and asks for less where that much is refused. Where
+# calls that read an `Outline` or `Headers`, which guess room for their entries, and ask for less where that much is refused. Where
 # the first guess is too small for the entries of a line, it guesses once more. As many refused allocations of such a
 # line may leave the answer as it is
-GUESSING = ("Outline::", "first")
+GUESSING = ("Outline::", "Entry::", "Headers::", "outline_strict", "first")
 GUESSES = 2
+# of the allocations of one line, so many are refused one by one, and behind them each of so many
+FIRST, STEP = 256, 64
 if test:
     RAN_OUT = (101, b"", b"error: AllocError\nthe test failed: its result gives status 1\n")
 
@@ -71,16 +73,17 @@ def ran(line, number, mark):
 
 def refused_in_turn(at, line, answer):
     """How many allocations were refused, and what was wrong."""
-    number, wrong, mark = 0, [], f"{work}/refused{at}"
+    number, some, wrong, mark = 0, 0, [], f"{work}/refused{at}"
     right = (0, f"{answer}\n".encode(), b"")
     guesses = GUESSES if called(line, answer).startswith(GUESSING) else 0
     while True:
-        number += 1
+        number += 1 if number < FIRST else STEP
         ended, met = ran(line, number, mark)
         if not met:
             if ended != right:
                 wrong.append(f"none refused: {ended}"[:200])
-            return number - 1, wrong
+            return some, wrong
+        some += 1
         if ended == right and guesses:
             guesses -= 1
         elif ended != RAN_OUT:
