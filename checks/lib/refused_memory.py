@@ -1,6 +1,7 @@
-"""The allocations of each line of a stored run, or of one test, refused in turn: one by one, or each 64th of many.
+"""The allocations of each line of a stored run refused in turn: one by one, or each 64th of many.
 
-PROGRAM CRATE WORK: the program, the folder of its stored run, and one for files. PROGRAM CRATE WORK TEST: one of tests.
+PROGRAM CRATE WORK: the program, the folder of its stored run, and one for files. PROGRAM CRATE WORK strict: der_tool,
+where it reads strictly, and lines for that.
 """
 import concurrent.futures
 import os
@@ -11,8 +12,8 @@ import sys
 from calls import LARGE
 
 program, crate, work = sys.argv[1:4]
-test = sys.argv[4] if len(sys.argv) > 4 else None
-name = pathlib.Path(crate).name
+is_strict = sys.argv[4:] == ["strict"]
+name = "run_strict" if is_strict else pathlib.Path(crate).name
 # programs of calls, whose comments have no line of their own among the answers
 CALLS = ("test_calls", "tried")
 # what a run ends with where memory ran out: its status, what it wrote, and what stands on standard error
@@ -20,15 +21,15 @@ RAN_OUT = (2, b"", b"out of memory\n")
 # lines of each kind in one run of der_tool, the last of them empty, and their answers
 TOGETHER = ("0280\n3000\nzz\n0489\n",
             "ok 020100\nok 3000\nbadhex\nrefused LengthTooLarge 9\nrefused EmptyBuffer")
-# calls that read an `Outline` or `Headers`, which guess room for their entries, and ask for less where that much is refused. Where
-# the first guess is too small for the entries of a line, it guesses once more. As many refused allocations of such a
-# line may leave the answer as it is
+# such lines, where they are read strictly
+STRICTLY = ("0101ff\nzz\n050001012a", "ok 0101FF\nbadhex\nrefused NotCanonical 2")
+# calls that read an `Outline` or `Headers`, which guess room for their entries, and ask for less where that much is
+# refused. Where the first guess is too small for the entries of a line, they guess once more. As many refused
+# allocations of such a line may leave the answer as it is
 GUESSING = ("Outline::", "Entry::", "Headers::", "outline_strict", "first")
 GUESSES = 2
 # of the allocations of one line, so many are refused one by one, and behind them each of so many
 FIRST, STEP = 256, 64
-if test:
-    RAN_OUT = (101, b"", b"error: AllocError\nthe test failed: its result gives status 1\n")
 
 
 def refusing():
@@ -40,9 +41,9 @@ def refusing():
 
 
 def rows():
-    """The lines of the stored run that are answered, each once, with their answers; or the test, with its result."""
-    if test:
-        return [(test, "\ntest result: ok")]
+    """The lines of the stored run that are answered, each once, with their answers."""
+    if is_strict:
+        return [STRICTLY]
     lines = pathlib.Path(crate, "stdin").read_text().splitlines()
     if name in CALLS:
         lines = [it for it in lines if not it.startswith("#")]
@@ -55,16 +56,15 @@ def rows():
 
 def called(line, answer):
     """The call that the line names."""
-    if test or name not in CALLS:
-        return test or "run"
+    if name not in CALLS:
+        return "run"
     return line.split()[0] if answer not in ("", "badline") else "no call"
 
 
 def ran(line, number, mark):
     """How the run ended in which the allocation of this number is refused, and whether there was one."""
     words = {**environment, "FAIL_ALLOC": str(number), "REFUSED": mark}
-    command, given = ([program, test], b"") if test else ([program], f"{line}\n".encode())
-    run = subprocess.run(command, input=given, capture_output=True, env=words)
+    run = subprocess.run([program], input=f"{line}\n".encode(), capture_output=True, env=words)
     met = os.path.exists(mark)
     if met:
         os.unlink(mark)

@@ -3,8 +3,6 @@
 
 mod answers;
 mod laws;
-#[cfg(test)]
-mod tests;
 mod tool;
 
 use crate::tool::{fault_text, run, status};

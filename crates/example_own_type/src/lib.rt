@@ -192,29 +192,3 @@ impl RoundTrip for GeneralName {
 
     ghost read_back = { name_read_back };
 }
-
-#[cfg(test)]
-mod tests {
-    use super::{GeneralName, NameErr, NameKind};
-    use simple_asn1::{der_decode, der_encode, round_trip};
-
-    #[test]
-    fn a_dns_name_comes_back(rt: HostRuntime) -> Result<(), NameErr> {
-        let alloc = rt.alloc();
-        let octets = [0x82, 3, b'a', b'.', b'b'];
-        let name: GeneralName = der_decode(alloc, &octets)?;
-        assert!(rt; name.kind == NameKind::Dns);
-        assert!(rt; name.octets.as_slice() == b"a.b".as_slice());
-        let written = der_encode(alloc, &name)?;
-        assert!(rt; written.as_slice() == octets.as_slice());
-        assert!(rt; round_trip(alloc, &name).is_ok());
-        Ok(())
-    }
-
-    #[test]
-    fn another_tag_is_no_name(rt: HostRuntime) -> Result<(), NameErr> {
-        let read: Result<GeneralName, NameErr> = der_decode(rt.alloc(), &[0x83, 0]);
-        assert!(rt; matches!(&read, Err(NameErr::Shape)));
-        Ok(())
-    }
-}
