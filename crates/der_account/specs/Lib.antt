@@ -1,3 +1,1 @@
 pub mod Shown
-pub mod Kinds
-pub mod Places

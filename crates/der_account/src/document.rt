@@ -1,48 +1,98 @@
 // What is shown of certificates, certification requests, revocation lists and keys.
 use crate::extension::push_extensions;
-use crate::kind::{ATTRIBUTES, Content, DocumentKind, Key, PUBLIC_KEY, VERSION, has_fields};
 use crate::lines::Lines;
 use crate::name::name_text;
-use crate::node::{INTEGER, Items, Node, SEQUENCE, Tag};
+use crate::node::{BIT_STRING, INTEGER, Items, Node, OCTET_STRING, SEQUENCE, Tag};
 use crate::value::{
-    algorithm_text, ec_key_text, end_text, private_key_text, public_key_text, rsa_key_text,
+    algorithm_text, curve_text, end_text, private_key_text, public_key_text, rsa_key_text,
     serial_text, time_text,
 };
 use jiff::civil::DateTime;
 use sha2::{Digest, Sha256};
 use std::alloc::AllocError;
 
-// Pushes the account of a document of the kind, of which this is the first encoding.
-pub fn push_document(
-    lines: &mut Lines<'_>,
-    kind: DocumentKind,
-    first: &Node<'_, '_>,
-    now: Option<DateTime>,
-) -> Result<(), AllocError> {
-    match kind {
-        DocumentKind::Signed(content) => push_signed(lines, content, first, now),
-        DocumentKind::Key(key) => push_key(lines, key, first),
+// A document of which there are accounts, by its fields.
+#[derive(Clone, Copy)]
+pub enum Document<'h, 'd> {
+    Signed(Signed<'h, 'd>),
+    Key(Key<'h, 'd>),
+}
+
+impl<'h, 'd> Document<'h, 'd> {
+    // The document of the type with this name, of which this is the first encoding. `None` where there are no accounts
+    // of the type, or where a field is missing that an account shows of each.
+    pub fn of(type_name: &str, first: &Node<'h, 'd>) -> Option<Document<'h, 'd>> {
+        if !first.is(SEQUENCE) {
+            return None;
+        }
+        match type_name {
+            "Certificate" | "CertificateList" | "CertificationRequest" => {
+                Some(Document::Signed(Signed::of(type_name, first)?))
+            }
+            _ => Some(Document::Key(Key::of(type_name, first)?)),
+        }
+    }
+
+    // Pushes its account.
+    pub fn push(&self, lines: &mut Lines<'_>, now: Option<DateTime>) -> Result<(), AllocError> {
+        match self {
+            Document::Signed(signed) => signed.push(lines, now),
+            Document::Key(key) => key.push(lines),
+        }
     }
 }
 
-// Pushes the account of a signed structure (RFC 5280, section 4.1.1): what was signed, and how; and the fingerprint of
-// it, SHA-256 of the encoding.
-fn push_signed(
-    lines: &mut Lines<'_>,
-    kind: Content,
-    first: &Node<'_, '_>,
-    now: Option<DateTime>,
-) -> Result<(), AllocError> {
-    let mut items = Items::of(first);
-    let content = items.take_next();
-    match kind {
-        Content::Certificate => Certificate::of(&content).push(lines, now)?,
-        Content::RevocationList => RevocationList::of(&content).push(lines, now)?,
-        Content::Request => Request::of(&content).push(lines)?,
+// A signed structure (RFC 5280, section 4.1.1): what was signed, and how.
+#[derive(Clone, Copy)]
+pub struct Signed<'h, 'd> {
+    whole: Node<'h, 'd>,
+    content: Content<'h, 'd>,
+    algorithm: Node<'h, 'd>,
+}
+
+impl<'h, 'd> Signed<'h, 'd> {
+    fn of(type_name: &str, whole: &Node<'h, 'd>) -> Option<Signed<'h, 'd>> {
+        let mut fields = Items::of(whole);
+        Some(Signed {
+            whole: *whole,
+            content: Content::of(type_name, &fields.take(SEQUENCE)?)?,
+            algorithm: fields.take(SEQUENCE)?,
+        })
     }
-    push_algorithm(lines, "signature", &items.take_next())?;
-    let digest = hex::encode_upper(lines.alloc, &Sha256::digest(first.encoding()))?;
-    lines.line("SHA-256", &digest)
+
+    // Pushes its account, and the fingerprint of it, SHA-256 of the encoding.
+    fn push(&self, lines: &mut Lines<'_>, now: Option<DateTime>) -> Result<(), AllocError> {
+        self.content.push(lines, now)?;
+        push_algorithm(lines, "signature", &self.algorithm)?;
+        let digest = hex::encode_upper(lines.alloc, &Sha256::digest(self.whole.encoding()))?;
+        lines.line("SHA-256", &digest)
+    }
+}
+
+// What was signed.
+#[derive(Clone, Copy)]
+enum Content<'h, 'd> {
+    Certificate(Certificate<'h, 'd>),
+    RevocationList(RevocationList<'h, 'd>),
+    Request(Request<'h, 'd>),
+}
+
+impl<'h, 'd> Content<'h, 'd> {
+    fn of(type_name: &str, content: &Node<'h, 'd>) -> Option<Content<'h, 'd>> {
+        match type_name {
+            "Certificate" => Some(Content::Certificate(Certificate::of(content)?)),
+            "CertificateList" => Some(Content::RevocationList(RevocationList::of(content)?)),
+            _ => Some(Content::Request(Request::of(content)?)),
+        }
+    }
+
+    fn push(&self, lines: &mut Lines<'_>, now: Option<DateTime>) -> Result<(), AllocError> {
+        match self {
+            Content::Certificate(certificate) => certificate.push(lines, now),
+            Content::RevocationList(list) => list.push(lines, now),
+            Content::Request(request) => request.push(lines),
+        }
+    }
 }
 
 // The fields of a TBSCertificate (RFC 5280, section 4.1) that an account shows.
@@ -58,23 +108,24 @@ pub struct Certificate<'h, 'd> {
 }
 
 impl<'h, 'd> Certificate<'h, 'd> {
-    fn of(content: &Node<'h, 'd>) -> Certificate<'h, 'd> {
+    fn of(content: &Node<'h, 'd>) -> Option<Certificate<'h, 'd>> {
         let mut fields = Items::of(content);
-        fields.take(VERSION);
-        let serial = fields.take_next();
+        // the version
+        fields.take(Tag::Context(0));
+        let serial = fields.take(INTEGER)?;
         // the algorithm of the signature
-        fields.take_next();
-        let issuer = fields.take_next();
-        let mut validity = Items::of(&fields.take_next());
-        Certificate {
+        fields.take(SEQUENCE)?;
+        let issuer = fields.take(SEQUENCE)?;
+        let mut validity = Items::of(&fields.take(SEQUENCE)?);
+        Some(Certificate {
             serial,
             issuer,
-            not_before: validity.take_next(),
-            not_after: validity.take_next(),
-            subject: fields.take_next(),
-            key: fields.take_next(),
+            not_before: validity.take(Tag::Time)?,
+            not_after: validity.take(Tag::Time)?,
+            subject: fields.take(SEQUENCE)?,
+            key: fields.take(SEQUENCE)?,
             extensions: certificate_extensions(&mut fields),
-        }
+        })
     }
 
     fn push(&self, lines: &mut Lines<'_>, now: Option<DateTime>) -> Result<(), AllocError> {
@@ -114,15 +165,15 @@ pub struct Request<'h, 'd> {
 const EXTENSION_REQUEST: &[u8] = &[0x2A, 0x86, 0x48, 0x86, 0xF7, 0x0D, 1, 9, 14];
 
 impl<'h, 'd> Request<'h, 'd> {
-    fn of(content: &Node<'h, 'd>) -> Request<'h, 'd> {
+    fn of(content: &Node<'h, 'd>) -> Option<Request<'h, 'd>> {
         let mut fields = Items::of(content);
         // the version
-        fields.take_next();
-        Request {
-            subject: fields.take_next(),
-            key: fields.take_next(),
-            attributes: fields.take(ATTRIBUTES),
-        }
+        fields.take(INTEGER)?;
+        Some(Request {
+            subject: fields.take(SEQUENCE)?,
+            key: fields.take(SEQUENCE)?,
+            attributes: fields.take(Tag::Context(0)),
+        })
     }
 
     fn push(&self, lines: &mut Lines<'_>) -> Result<(), AllocError> {
@@ -165,18 +216,19 @@ pub struct RevocationList<'h, 'd> {
 }
 
 impl<'h, 'd> RevocationList<'h, 'd> {
-    fn of(content: &Node<'h, 'd>) -> RevocationList<'h, 'd> {
+    fn of(content: &Node<'h, 'd>) -> Option<RevocationList<'h, 'd>> {
         let mut fields = Items::of(content);
+        // the version
         fields.take(INTEGER);
         // the algorithm of the signature
-        fields.take_next();
-        RevocationList {
-            issuer: fields.take_next(),
-            this_update: fields.take_next(),
+        fields.take(SEQUENCE)?;
+        Some(RevocationList {
+            issuer: fields.take(SEQUENCE)?,
+            this_update: fields.take(Tag::Time)?,
             next_update: fields.take(Tag::Time),
             revoked: revoked_count(&mut fields),
             extensions: list_extensions(&mut fields),
-        }
+        })
     }
 
     fn push(&self, lines: &mut Lines<'_>, now: Option<DateTime>) -> Result<(), AllocError> {
@@ -229,28 +281,73 @@ fn push_public_key(
     label: &str,
     key: &Node<'_, '_>,
 ) -> Result<(), AllocError> {
-    if !has_fields(key, PUBLIC_KEY) {
+    let mut fields = Items::of(key);
+    let (Some(algorithm), Some(bits)) = (fields.take(SEQUENCE), fields.take(BIT_STRING)) else {
         return Ok(());
-    }
-    let text = public_key_text(lines.alloc, lines.names, key)?;
+    };
+    let text = public_key_text(lines.alloc, lines.names, &algorithm, &bits)?;
     lines.line(label, &text)
 }
 
-// Pushes the account of a key.
-fn push_key(lines: &mut Lines<'_>, kind: Key, key: &Node<'_, '_>) -> Result<(), AllocError> {
-    let text = match kind {
-        Key::Public => {
-            lines.title("public key")?;
-            return push_public_key(lines, "key", key);
+// A key.
+#[derive(Clone, Copy)]
+pub enum Key<'h, 'd> {
+    // a SubjectPublicKeyInfo (RFC 5280, section 4.1)
+    Public(Node<'h, 'd>),
+    // a OneAsymmetricKey (RFC 5958, section 2): its algorithm and its key
+    Private(Node<'h, 'd>, Node<'h, 'd>),
+    // an EncryptedPrivateKeyInfo (RFC 5958, section 3): its algorithm
+    Encrypted(Node<'h, 'd>),
+    // an RSAPrivateKey (RFC 8017, appendix A.1.2): its modulus
+    Rsa(Node<'h, 'd>),
+    // an ECPrivateKey (RFC 5915, section 3): its parameters
+    Ec(Option<Node<'h, 'd>>),
+}
+
+impl<'h, 'd> Key<'h, 'd> {
+    fn of(type_name: &str, key: &Node<'h, 'd>) -> Option<Key<'h, 'd>> {
+        let mut fields = Items::of(key);
+        match type_name {
+            "SubjectPublicKeyInfo" => {
+                fields.take(SEQUENCE)?;
+                fields.take(BIT_STRING)?;
+                Some(Key::Public(*key))
+            }
+            "PrivateKeyInfo" | "OneAsymmetricKey" => {
+                fields.take(INTEGER)?;
+                Some(Key::Private(fields.take(SEQUENCE)?, fields.take(OCTET_STRING)?))
+            }
+            "EncryptedPrivateKeyInfo" => Some(Key::Encrypted(fields.take(SEQUENCE)?)),
+            "RSAPrivateKey" => {
+                fields.take(INTEGER)?;
+                Some(Key::Rsa(fields.take(INTEGER)?))
+            }
+            "ECPrivateKey" => {
+                fields.take(INTEGER)?;
+                fields.take(OCTET_STRING)?;
+                Some(Key::Ec(fields.take(Tag::Context(0))))
+            }
+            _ => None,
         }
-        Key::Encrypted => {
-            lines.title("encrypted private key")?;
-            return push_algorithm(lines, "encryption", &Items::of(key).take_next());
-        }
-        Key::Private => private_key_text(lines.alloc, lines.names, key)?,
-        Key::Rsa => rsa_key_text(lines.alloc, key)?,
-        Key::Ec => ec_key_text(lines.alloc, lines.names, key)?,
-    };
-    lines.title("private key")?;
-    lines.line("key", &text)
+    }
+
+    fn push(&self, lines: &mut Lines<'_>) -> Result<(), AllocError> {
+        let text = match self {
+            Key::Public(key) => {
+                lines.title("public key")?;
+                return push_public_key(lines, "key", key);
+            }
+            Key::Encrypted(algorithm) => {
+                lines.title("encrypted private key")?;
+                return push_algorithm(lines, "encryption", algorithm);
+            }
+            Key::Private(algorithm, key) => {
+                private_key_text(lines.alloc, lines.names, algorithm, key)?
+            }
+            Key::Rsa(modulus) => rsa_key_text(lines.alloc, modulus)?,
+            Key::Ec(parameters) => curve_text(lines.alloc, lines.names, parameters.as_ref())?,
+        };
+        lines.title("private key")?;
+        lines.line("key", &text)
+    }
 }

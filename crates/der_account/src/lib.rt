@@ -15,26 +15,18 @@
 //!   SHA-256             5A6B..
 //! ```
 //!
-//! Names are written as RFC 4514 writes them. A document is known by its fields, and read by its headers: a certificate
-//! in which a value is malformed has an account as well.
+//! Names are written as RFC 4514 writes them. What a document is, `der_shapes` says. It is read by its headers: a
+//! certificate in which a value is malformed has an account as well.
 #![tactic(auto)]
-
-ghost use Rattle.std.specs.Prelude.{◌≡◌, ℕ, IfOk, IsErr, IsNone, false, is_some};
-ghost use Rattle.asn1_headers.specs.Fault.{DecodeFault};
-ghost use Rattle.asn1_headers.specs.declared.error.ASN1DecodeErr.TheVariants.{OutOfMemory};
-ghost use Rattle.asn1_outline.specs.Shapes.{FirstHeaderFaultAt, HasShapes, Shapes};
-ghost use Rattle.der_account.specs.Kinds.{is_known};
 
 mod document;
 mod extension;
-mod kind;
 mod lines;
 mod name;
 mod node;
 mod value;
 
-use crate::document::push_document;
-use crate::kind::kind_of;
+use crate::document::Document;
 use crate::lines::Lines;
 pub use crate::lines::{Line, joined};
 use crate::node::Node;
@@ -42,6 +34,7 @@ use asn1_departures::departures;
 use asn1_headers::error::ASN1DecodeErr;
 use asn1_outline::headers::Headers;
 use der_names::Names;
+use der_shapes::DocumentType;
 use jiff::civil::DateTime;
 use std::alloc::{AllocError, Global};
 
@@ -54,26 +47,25 @@ pub struct Account {
     pub lines: Vec<Line>,
 }
 
-/// The account of a document: a certificate, a certification request, a list of revoked certificates, or a key. Of
-/// other octets it is a line that says that they are none of these; octets that are no encodings by their headers are
-/// among them. If the time `now` is given, in UTC, the account says how many days are left.
+/// The account of a document: a certificate, a certification request, a list of revoked certificates, or a key. What it
+/// is, is `known`, or else the shape says that fits ([`Shapes::type_of`]). Of other octets it is a line that says that
+/// they are none of these; octets that are no encodings by their headers are among them. If the time `now` is given, in
+/// UTC, the account says how many days are left.
 ///
 /// It takes memory for the headers of the document.
 ///
 /// # Errors
 /// Memory ran out.
+///
+/// [`Shapes::type_of`]: der_shapes::Shapes::type_of
 pub fn account_of(
     alloc: Global,
     names: &Names,
+    known: Option<DocumentType>,
     octets: &[u8],
     now: Option<DateTime>,
-) -> Result<Account, AllocError>
-    ensures unreadable { (fault : DecodeFault) (offset : ℕ) → FirstHeaderFaultAt octets.now fault offset
-        → IfOk result (λ account. account.is_known ≡ false) }
-    ensures kind { (all : Shapes) → HasShapes octets.now all
-        → IfOk result (λ account. account.is_known ≡ is_known all) }
-{
-    match known_account(alloc, names, octets, now)? {
+) -> Result<Account, AllocError> {
+    match known_account(alloc, names, known, octets, now)? {
         Some(lines) => Ok(Account {
             is_known: true,
             lines,
@@ -83,9 +75,7 @@ pub fn account_of(
 }
 
 // The line that says that octets are of no kind that is known.
-fn unknown_account(alloc: Global) -> Result<Account, AllocError>
-    ensures { IfOk result (λ account. account.is_known ≡ false) }
-{
+fn unknown_account(alloc: Global) -> Result<Account, AllocError> {
     let mut lines = Vec::new(alloc);
     let text = "! no certificate, certification request, list of revoked certificates or key";
     lines.push(Line::shown(alloc, text)?)?;
@@ -95,24 +85,27 @@ fn unknown_account(alloc: Global) -> Result<Account, AllocError>
     })
 }
 
-// The lines of the account of a document of a known kind.
+// The lines of the account of a document, if it is of a type that has accounts. Only memory that ran out is an error.
 fn known_account(
     alloc: Global,
     names: &Names,
+    known: Option<DocumentType>,
     octets: &[u8],
     now: Option<DateTime>,
-) -> Result<Option<Vec<Line>>, AllocError>
-    ensures unreadable { (fault : DecodeFault) (offset : ℕ) → FirstHeaderFaultAt octets.now fault offset
-        → IfOk result (λ lines. IsNone lines) }
-    ensures kind { (all : Shapes) → HasShapes octets.now all
-        → IfOk result (λ lines. is_some lines ≡ is_known all) }
-{
+) -> Result<Option<Vec<Line>>, AllocError> {
+    let Some(document_type) = names.shapes.type_of(alloc, known, octets)? else {
+        return Ok(None);
+    };
     let headers = match Headers::read(alloc, octets) {
         Ok(headers) => headers,
-        Err(e) => return none_unless_memory(&e.error),
+        Err(e) => {
+            return match e.error {
+                ASN1DecodeErr::OutOfMemory => Err(AllocError),
+                _ => Ok(None),
+            };
+        }
     };
-    let first = Node::first(&headers);
-    let Some(kind) = kind_of(&first) else {
+    let Some(document) = Document::of(document_type.name, &Node::first(&headers)) else {
         return Ok(None);
     };
     let mut lines = Lines {
@@ -120,20 +113,9 @@ fn known_account(
         names,
         pushed: Vec::new(alloc),
     };
-    push_document(&mut lines, kind, &first, now)?;
+    document.push(&mut lines, now)?;
     push_departures(&mut lines, octets)?;
     Ok(Some(lines.pushed))
-}
-
-// Octets that are no document have no account; only memory that ran out is an error.
-fn none_unless_memory(error: &ASN1DecodeErr) -> Result<Option<Vec<Line>>, AllocError>
-    ensures none { IfOk result (λ lines. IsNone lines) }
-    ensures memory { error.now ≡ OutOfMemory → IsErr result }
-{
-    match error {
-        ASN1DecodeErr::OutOfMemory => Err(AllocError),
-        _ => Ok(None),
-    }
 }
 
 // Pushes a line for each rule of DER that is broken.

@@ -1,11 +1,4 @@
 // Encodings among those that headers list, and those inside a SEQUENCE in order.
-ghost use Rattle.std.specs.Prelude.{◌≡◌, ◌<◌, ◌^◌, ◌&&◌, ◌==◌, ℕ, is_some, length};
-ghost use Rattle.asn1_blocks.specs.declared.parsed.PlacedHeader.{PlacedHeader};
-ghost use Rattle.asn1_outline.specs.Shapes.{Shapes, more_shapes};
-ghost use Rattle.asn1_outline.specs.Triple.{entry_at};
-ghost use Rattle.der_account.specs.Kinds.{are_of, is_context as is_context_class, is_of, is_universal as is_universal_class, no_more};
-ghost use Rattle.der_account.specs.Places.{AreLeft, HasTaken, IsAt, entries_around, element_type};
-
 use asn1_headers::header::ASN1Class;
 use asn1_headers::tags;
 use asn1_outline::entry::Entry;
@@ -60,40 +53,14 @@ const NO_ENTRY: Entry = Entry {
     depth: 0,
 };
 
-// Whether an entry is of class Universal with this tag number.
-fn is_universal(entry: &Entry, number: u8) -> bool
-    ensures { result ≡ (is_universal_class entry.now.class && entry.now.tag == number) }
-{
-    match entry.class {
-        ASN1Class::Universal => entry.tag == u64::from(number),
-        ASN1Class::Application | ASN1Class::ContextSpecific | ASN1Class::Private => false,
-    }
-}
-
-// Whether it is of class context-specific with this one.
-fn is_context_specific(entry: &Entry, number: u8) -> bool
-    ensures { result ≡ (is_context_class entry.now.class && entry.now.tag == number) }
-{
-    match entry.class {
-        ASN1Class::ContextSpecific => entry.tag == u64::from(number),
-        ASN1Class::Universal | ASN1Class::Application | ASN1Class::Private => false,
-    }
-}
-
 impl<'h, 'd> Node<'h, 'd> {
     // The first encoding.
-    pub fn first(headers: &'h Headers<'d>) -> Node<'h, 'd>
-        ensures headers { result.headers.now ≡ headers.now }
-        ensures index { result.index ≡ 0 }
-    {
+    pub fn first(headers: &'h Headers<'d>) -> Node<'h, 'd> {
         Node { headers, index: 0 }
     }
 
     // Its entry.
-    pub fn entry(&self) -> Entry
-        ensures entry { result ≡ entry_at (entries_around self.now) self.now.index }
-        ensures few { length (entries_around self.now) < 2 ^ 64 }
-    {
+    pub fn entry(&self) -> Entry {
         match self.headers.entries().get(self.index) {
             Some(entry) => *entry,
             None => NO_ENTRY,
@@ -101,19 +68,14 @@ impl<'h, 'd> Node<'h, 'd> {
     }
 
     // Whether it has the tag.
-    pub fn is(&self, tag: Tag) -> bool
-        ensures { (offset : ℕ) (header : PlacedHeader) (items rest : Shapes)
-            → IsAt self.now offset header items rest
-            → result ≡ is_of (element_type tag) header items }
-    {
-        let entry = self.entry();
+    pub fn is(&self, tag: Tag) -> bool {
         match tag {
-            Tag::Universal(number) => is_universal(&entry, number),
-            Tag::Context(number) => is_context_specific(&entry, number),
-            Tag::Time => {
-                is_universal(&entry, tags::UTC_TIME as u8)
-                    || is_universal(&entry, tags::GENERALIZED_TIME as u8)
-            }
+            Tag::Universal(number) => self.universal_tag() == Some(u64::from(number)),
+            Tag::Context(number) => self.context_tag() == Some(u64::from(number)),
+            Tag::Time => matches!(
+                self.universal_tag(),
+                Some(tags::UTC_TIME | tags::GENERALIZED_TIME)
+            ),
         }
     }
 
@@ -182,10 +144,7 @@ pub struct Items<'h, 'd> {
 
 impl<'h, 'd> Items<'h, 'd> {
     // The items inside an encoding.
-    pub fn of(node: &Node<'h, 'd>) -> Items<'h, 'd>
-        ensures { (offset : ℕ) (header : PlacedHeader) (items rest : Shapes)
-            → IsAt node.now offset header items rest → AreLeft result items }
-    {
+    pub fn of(node: &Node<'h, 'd>) -> Items<'h, 'd> {
         Items {
             headers: node.headers,
             next: node.index.saturating_add(1),
@@ -194,12 +153,7 @@ impl<'h, 'd> Items<'h, 'd> {
     }
 
     // The first of those that are left.
-    pub fn first(&self) -> Node<'h, 'd>
-        ensures headers { result.headers.now ≡ self.now.headers.now }
-        ensures index { result.index ≡ self.now.next }
-        ensures first { (offset : ℕ) (header : PlacedHeader) (items rest : Shapes)
-            → AreLeft self.now (more_shapes offset header items rest) → IsAt result offset header items rest }
-    {
+    pub fn first(&self) -> Node<'h, 'd> {
         Node {
             headers: self.headers,
             index: self.next,
@@ -207,10 +161,7 @@ impl<'h, 'd> Items<'h, 'd> {
     }
 
     // Takes the next one, if it has the tag.
-    pub fn take(&mut self, tag: Tag) -> Option<Node<'h, 'd>>
-        ensures { (shapes : Shapes) → AreLeft self.old shapes
-            → HasTaken (element_type tag) shapes (is_some result) self.new }
-    {
+    pub fn take(&mut self, tag: Tag) -> Option<Node<'h, 'd>> {
         let first = self.first();
         if self.left == 0 || !first.is(tag) {
             return None;
@@ -233,19 +184,13 @@ impl<'h, 'd> Items<'h, 'd> {
     }
 
     // Goes on behind the next one.
-    fn skip(&mut self)
-        requires { 0 < self.old.left }
-        ensures { (offset : ℕ) (header : PlacedHeader) (items rest : Shapes)
-            → AreLeft self.old (more_shapes offset header items rest) → AreLeft self.new rest }
-    {
+    fn skip(&mut self) {
         self.next = self.first().entry().next;
-        self.left -= 1;
+        self.left = self.left.saturating_sub(1);
     }
 
     // Whether none is left.
-    pub fn is_at_end(&self) -> bool
-        ensures { (shapes : Shapes) → AreLeft self.now shapes → result ≡ are_of no_more shapes }
-    {
+    pub fn is_at_end(&self) -> bool {
         self.left == 0
     }
 }

@@ -1,6 +1,6 @@
 // Numbers, times, algorithms and keys, in a few words.
 use crate::name::{identifier_text, string_text};
-use crate::node::{GENERALIZED_TIME, IDENTIFIER, INTEGER, Items, Node, Tag, UTC_TIME};
+use crate::node::{GENERALIZED_TIME, IDENTIFIER, INTEGER, Node, UTC_TIME};
 use asn1_leaves::contents::{generalized_time, utc_time};
 use asn1_outline::headers::Headers;
 use der_names::Names;
@@ -163,48 +163,39 @@ fn modulus_bits(alloc: Global, key: &[u8], before: usize) -> Result<Option<usize
 pub fn public_key_text(
     alloc: Global,
     names: &Names,
-    key: &Node<'_, '_>,
+    algorithm: &Node<'_, '_>,
+    bits: &Node<'_, '_>,
 ) -> Result<String, AllocError> {
-    let mut fields = Items::of(key);
-    let algorithm = fields.take_next();
-    let key = match fields.take_next().contents() {
+    let key = match bits.contents() {
         [0, key @ ..] => key,
         _ => &[],
     };
-    key_text(alloc, names, &algorithm, key, 0)
+    key_text(alloc, names, algorithm, key, 0)
 }
 
 // The kind and size of a OneAsymmetricKey (RFC 5958, section 2).
 pub fn private_key_text(
     alloc: Global,
     names: &Names,
+    algorithm: &Node<'_, '_>,
     key: &Node<'_, '_>,
 ) -> Result<String, AllocError> {
-    let mut fields = Items::of(key);
-    // the version
-    fields.take_next();
-    let algorithm = fields.take_next();
-    let octets = fields.take_next();
-    key_text(alloc, names, &algorithm, octets.contents(), 1)
+    key_text(alloc, names, algorithm, key.contents(), 1)
 }
 
-// How many bits the modulus of an RSAPrivateKey has (RFC 8017, appendix A.1.2), behind its version.
-pub fn rsa_key_text(alloc: Global, key: &Node<'_, '_>) -> Result<String, AllocError> {
-    let mut fields = Items::of(key);
-    fields.take_next();
-    let bits = bit_count(fields.take_next().contents());
+// How many bits the modulus of an RSAPrivateKey has (RFC 8017, appendix A.1.2).
+pub fn rsa_key_text(alloc: Global, modulus: &Node<'_, '_>) -> Result<String, AllocError> {
+    let bits = bit_count(modulus.contents());
     format!(in alloc; "RSA, {bits} bits")
 }
 
-// The curve of an ECPrivateKey (RFC 5915, section 3), behind its version and its key.
-pub fn ec_key_text(alloc: Global, names: &Names, key: &Node<'_, '_>) -> Result<String, AllocError> {
-    let mut fields = Items::of(key);
-    fields.take_next();
-    fields.take_next();
-    let Some(parameters) = fields.take(Tag::Context(0)) else {
-        return String::from_str(alloc, "EC");
-    };
-    match parameters.inner() {
+// The curve of an ECPrivateKey (RFC 5915, section 3), by its parameters.
+pub fn curve_text(
+    alloc: Global,
+    names: &Names,
+    parameters: Option<&Node<'_, '_>>,
+) -> Result<String, AllocError> {
+    match parameters.and_then(|parameters| parameters.inner()) {
         Some(curve) if curve.is(IDENTIFIER) => {
             let curve = identifier_text(alloc, names, &curve)?;
             format!(in alloc; "EC, {curve}")

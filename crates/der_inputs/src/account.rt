@@ -13,6 +13,7 @@ use der_account::{account_of, joined};
 use der_io::{StreamFault, write_part};
 use der_lines::{Verdict, push_refusal};
 use der_rows::{Look, Printer};
+use der_shapes::DocumentType;
 use std::alloc::AllocError;
 use std::io::Write;
 
@@ -28,7 +29,7 @@ impl Show {
             (W.contents printer.old.out) (W.contents printer.new.out)) }
     {
         match &document.octets {
-            Ok(octets) => self.write_account(octets, &mut printer.out),
+            Ok(octets) => self.write_account(self.type_of(document), octets, &mut printer.out),
             Err(why) => {
                 printer.look = Look::Plain;
                 push_refusal(why, printer)
@@ -37,11 +38,16 @@ impl Show {
     }
 
     // Writes the account of octets. They are rejected if they are of no known kind, and strictly if they are not DER.
-    fn write_account<W: Write>(&self, octets: &[u8], out: &mut W) -> Result<Verdict, StreamFault>
+    fn write_account<W: Write>(
+        &self,
+        known: Option<DocumentType>,
+        octets: &[u8],
+        out: &mut W,
+    ) -> Result<Verdict, StreamFault>
         ensures { IfOk result (λ verdict. IsWritten (IsAccount self.now.is_strict (Some octets.now) verdict)
             (W.contents out.old) (W.contents out.new)) }
     {
-        let account = account_of(self.alloc, &self.names, octets, self.time)?;
+        let account = account_of(self.alloc, &self.names, known, octets, self.time)?;
         let text = joined(self.alloc, &account.lines)?;
         write_part(out, text.as_bytes())?;
         let verdict = self.verdict_of(account.is_known, octets)?;

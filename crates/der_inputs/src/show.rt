@@ -17,7 +17,7 @@ use der_lines::{Style, Verdict, push_document, push_label, push_refusal, push_st
 use der_names::{Names, OwnNames};
 use der_options::{Color, Options, Task};
 use der_rows::{Look, Printer};
-use der_shapes::Shapes;
+use der_shapes::{DocumentType, Shapes};
 use jiff::civil::DateTime;
 use std::alloc::{AllocError, Global};
 use std::io::Write;
@@ -45,6 +45,8 @@ pub struct Show {
     // lines are colored
     pub is_colored: bool,
     pub style: Style,
+    // the type that all documents are of, where one is named
+    pub named_type: Option<DocumentType>,
     // the time at which it is shown, in UTC
     pub time: Option<DateTime>,
 }
@@ -61,8 +63,8 @@ impl Show {
         ensures { IfOk result (λ show. wanted_of show ≡ wanted_by options.now count) }
     {
         let names = Names::with(alloc, own)?.with_fields(shapes_for(alloc, options)?);
-        let shape = match options.type_name {
-            Some(name) => names.shapes.named(name),
+        let named_type = match options.type_name {
+            Some(name) => names.shapes.named_type(name),
             None => None,
         };
         Ok(Show {
@@ -78,8 +80,9 @@ impl Show {
                 is_flat: options.is_flat,
                 most_depth: options.most_depth,
                 is_plain: options.is_plain,
-                shape,
+                shape: None,
             },
+            named_type,
             time,
         })
     }
@@ -203,20 +206,25 @@ impl Show {
         }
     }
 
-    // How a document is shown: its shape is that of its label, where none is wanted.
+    // How a document is shown.
     pub fn style_of(&self, document: &Document) -> Style
         ensures { result.most_depth ≡ self.now.style.most_depth }
     {
         Style {
-            shape: self.style.shape.or_else(|| self.shape_of_label(document)),
+            shape: self.type_of(document).map(|known| known.shape),
             ..self.style
         }
     }
 
-    // The shape that the label of a document says.
-    fn shape_of_label(&self, document: &Document) -> Option<u16> {
+    // The type that a document is known to be of: the one that is named, or else the one that its label says.
+    pub fn type_of(&self, document: &Document) -> Option<DocumentType> {
+        self.named_type.or_else(|| self.type_of_label(document))
+    }
+
+    // The type that the label of a document says.
+    fn type_of_label(&self, document: &Document) -> Option<DocumentType> {
         let label = document.label.as_deref()?;
-        self.names.shapes.labelled(str::from_utf8(label).ok()?)
+        self.names.shapes.labelled_type(str::from_utf8(label).ok()?)
     }
 
     // Prints the line of a name above dumps, on a page or not: JSON has it in each line.
@@ -356,10 +364,10 @@ pub fn both_verdicts(a: Verdict, b: Verdict) -> Verdict
     }
 }
 
-// The shapes by which fields are named. An account, octets and values name none.
+// The shapes by which fields are named, and by which an account knows what a document is. Octets and values need none.
 fn shapes_for(alloc: Global, options: &Options<'_>) -> Result<Shapes, AllocError> {
     match options.task {
-        Task::Dump | Task::At(_) if !options.is_plain && !options.is_text => Shapes::new(alloc),
+        Task::Dump | Task::At(_) if options.is_text || !options.is_plain => Shapes::new(alloc),
         _ => Ok(Shapes::none(alloc)),
     }
 }
