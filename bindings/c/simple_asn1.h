@@ -110,8 +110,8 @@ enum { /* what is wrong, and the clauses that say the rule: of X.690, unless X.6
     SIMPLE_ASN1_RULE_INDEFINITE_LENGTH = 3,  /* indefinite length: 10.1 */
     SIMPLE_ASN1_RULE_LONG_LENGTH = 4,        /* length not in the fewest bytes: 10.1 */
     SIMPLE_ASN1_RULE_RESERVED_TAG = 5,       /* reserved tag: X.680 8.4 */
-    SIMPLE_ASN1_RULE_NOT_CONSTRUCTED = 6,    /* primitive, but the type is constructed: 8.9.1, 8.11.1, 8.17,
-                                              * 8.18, 8.24 */
+    SIMPLE_ASN1_RULE_NOT_CONSTRUCTED = 6,    /* primitive, but the type is constructed: 8.9.1, 8.11.1, 8.17, 8.18,
+                                              * 8.24 */
     SIMPLE_ASN1_RULE_NOT_PRIMITIVE = 7,      /* constructed, but the type is primitive: 8.2.1, 8.3.1, 8.5.1, 8.8.1,
                                               * 8.19.1, 8.20.1, 8.21, 8.22, 8.26 */
     SIMPLE_ASN1_RULE_CONSTRUCTED_STRING = 8, /* string in pieces: 10.2 */

@@ -82,6 +82,8 @@ SECONDS = [
     Check("calling", "lib/calling.py",
           "the pages of CALLING are what the source says; --write writes them, --links mends links"),
     Check("trust", "lib/trust.py", "TRUST names each file of definitions, with its lines; --print prints them"),
+    Check("codes", "lib/codes.py",
+          "statuses and rules are those of bindings/codes.txt in each language; --write writes them"),
     Check("lint", "lib/lint.py", "shellcheck and flake8 find nothing in the scripts", uses="shellcheck flake8"),
 ]
 
