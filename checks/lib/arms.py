@@ -26,7 +26,7 @@ from switched import allowed, built, switch_library, wrong_copy
 TOP = pathlib.Path(__file__).resolve().parent.parent.parent
 DATA = TOP / "checks" / "data" / "arms"
 CRATES = ["der_values", "der_names", "der_rows", "der_elements", "der_contents", "der_pieces", "der_lines", "der_json",
-          "der_html", "der_color", "der_forms", "der_digits", "der_options", "der_inputs", "der_shapes", "der_account"]
+          "der_forms", "der_digits", "der_options", "der_inputs", "der_shapes", "der_account"]
 
 # rows that take more seconds are left out
 SLOW = 5

@@ -1,7 +1,7 @@
 -- Blocks by their offsets, and what they hold, for `documents`.
 use Rattle.std.proofs.Common.{ℕ, List, ◌++◌, length, refl, sym, ◌∙◌, append_assoc, inr}
 use Rattle.std.specs.Prelude.{MatchOption, None, Option, Some}
-use Rattle.der_inputs.specs.Findings.{IsBlockAt, IsValueAt}
+use Rattle.der_inputs.specs.Blocks.{IsBlockAt, IsValueAt}
 use Rattle.der_elements.specs.Elements.{HasNoContents, IsElement, of_definite_form, of_definite_length, of_indefinite_form, of_indefinite_length}
 use Rattle.der_elements.specs.Headers.{StandsBehindHeader}
 use Rattle.der_elements.specs.StringOctets.{HoldsNoOctets, HoldsOctets}

@@ -1,6 +1,5 @@
 mod Blocks
-mod Findings
 mod Growing
-mod Lower
+mod Printed
 mod Readers
 mod Texts

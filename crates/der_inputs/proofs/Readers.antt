@@ -6,11 +6,9 @@ use Rattle.std.proofs.lemmas.Grind.{take-set_at}
 use Rattle.std.proofs.Math.Seq.{drop-cons}
 use Rattle.der_io.specs.Output.{IsWritten}
 use Rattle.der_inputs.proofs.Texts.{IsWritten-append_next}
-use Rattle.der_inputs.specs.Inputs.{AreReadToEnds, Input, IsReadToEnd}
-use Rattle.der_inputs.specs.Parts.{IsBegunText, IsNextText}
+use Rattle.der_inputs.specs.Inputs.{AreReadToEnds, IsFramed, IsReadToEnd}
 use Rattle.der_inputs.specs.Texts.{AreTexts}
 use Rattle.der_inputs.specs.declared.outcome.Outcome.{Outcome}
-use Rattle.der_inputs.specs.declared.show.OutputFormat.{OutputFormat}
 
 -- readers that were read to their ends, and one more, are all read to their ends
 AreReadToEnds-append_last :
@@ -48,19 +46,17 @@ module _ {S T E : Type 0} (i : ℕ) (all now : List S) (l : i < length all) (n :
   pub drop-set_next : (y : S) → drop (i + 1) (set now i y) ≡ drop (i + 1) all
   drop-set_next y = drop-set-lt (i + 1) now i y (omega arith) ∙ (let both = cons-get_or_drop y in cc)
 
-  -- where the texts of the sources before the place were written so far, and then the next one or nothing, those of all
-  -- up to it were
+  -- where the texts of the sources before the place were written, and then the next one, those of all up to it were
   pub IsWritten-next_source :
-      (Is : Input → Outcome → List ℕ → Type 0) (input : S → Input) (d : S) (begun later : Bool)
-      (format : OutputFormat) (a b c : Option (List ℕ)) →
-      IsWritten (IsBegunText begun format (AreTexts Is (map input (take i all)) were)) a b →
-      IsWritten (IsNextText begun later format (Is (input (get_or now i d)) last)) b c →
-      IsWritten (IsBegunText later format (AreTexts Is (map input (take (i + 1) all)) are)) a c
-  IsWritten-next_source Is input d begun later format a b c earlier one =
+      {A : Type 0} (Is : A → Outcome → List ℕ → Type 0) (input : S → A) (d : S) (page : Bool)
+      (a b c : Option (List ℕ)) →
+      IsWritten (IsFramed page (AreTexts Is (map input (take i all)) were)) a b →
+      IsWritten (IsFramed page (Is (input (get_or now i d)) last)) b c →
+      IsWritten (IsFramed page (AreTexts Is (map input (take (i + 1) all)) are)) a c
+  IsWritten-next_source Is input d page a b c earlier one =
       let more = map-append input (take i all) (get_or all i d ∷ []) in
       rw (take_more all i d l, more, ← get_or-not_come_to d, append-pushed r were are last e p)
-      (IsWritten-append_next Is begun later format (map input (take i all)) were (input (get_or now i d)) last a b c
-      earlier one)
+      (IsWritten-append_next Is page (map input (take i all)) were (input (get_or now i d)) last a b c earlier one)
 
   -- where the readers before the place were read to their ends, and the next one was, all up to it were
   pub AreReadToEnds-next_source :

@@ -1,8 +1,5 @@
-pub mod Findings
+pub mod Blocks
 pub mod Texts
-pub mod Json
-pub mod Formats
 pub mod Outcomes
 pub mod Inputs
 pub mod Growing
-pub mod Parts

@@ -1,10 +1,8 @@
 // Accounts of documents.
-ghost use Rattle.std.specs.Prelude.{◌≡◌, IfOk, true};
-ghost use Rattle.asn1_der.specs.Der.{IsDer};
-ghost use Rattle.der_inputs.specs.Formats.{IsAccount};
-ghost use Rattle.der_inputs.specs.Parts.{finding_in};
-ghost use Rattle.der_io.specs.Output.{IsWritten};
-ghost use Rattle.der_lines.specs.declared.document.Verdict.TheVariants.{AllRead};
+ghost use Rattle.std.specs.Prelude.{◌≡◌, IfOk, None, OnOk};
+ghost use Rattle.der_inputs.specs.Blocks.{octets_in};
+ghost use Rattle.der_inputs.specs.Growing.{Grows};
+ghost use Rattle.der_lines.specs.declared.document.Verdict.TheVariants.{Refused};
 
 use crate::documents::Document;
 use crate::show::Show;
@@ -24,9 +22,8 @@ impl Show {
         document: &Document,
         printer: &mut Printer<W>,
     ) -> Result<Verdict, StreamFault>
-        ensures { IfOk result (λ verdict. IsWritten
-            (IsAccount self.now.is_strict (finding_in document.now).octets verdict)
-            (W.contents printer.old.out) (W.contents printer.new.out)) }
+        ensures refused { IfOk result (λ verdict. octets_in document.now.octets ≡ None → verdict ≡ Refused) }
+        ensures grown { OnOk result (Grows (W.contents printer.old.out) (W.contents printer.new.out)) }
     {
         match &document.octets {
             Ok(octets) => self.write_account(self.type_of(document), octets, &mut printer.out),
@@ -44,8 +41,7 @@ impl Show {
         octets: &[u8],
         out: &mut W,
     ) -> Result<Verdict, StreamFault>
-        ensures { IfOk result (λ verdict. IsWritten (IsAccount self.now.is_strict (Some octets.now) verdict)
-            (W.contents out.old) (W.contents out.new)) }
+        ensures { OnOk result (Grows (W.contents out.old) (W.contents out.new)) }
     {
         let account = account_of(self.alloc, &self.names, known, octets, self.time)?;
         let text = joined(self.alloc, &account.lines)?;
@@ -54,9 +50,7 @@ impl Show {
         Ok(verdict)
     }
 
-    fn verdict_of(&self, is_known: bool, octets: &[u8]) -> Result<Verdict, AllocError>
-        ensures { IfOk result (λ verdict. verdict ≡ AllRead → self.now.is_strict ≡ true → IsDer octets.now) }
-    {
+    fn verdict_of(&self, is_known: bool, octets: &[u8]) -> Result<Verdict, AllocError> {
         if !is_known {
             return Ok(Verdict::Refused);
         }

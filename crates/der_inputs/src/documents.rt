@@ -1,7 +1,6 @@
 // The documents of an input, and the block that begins at an offset.
-ghost use Rattle.std.specs.Prelude.{◌≡◌, ◌∷◌, [], IfOk, MatchOption, None, Some};
-ghost use Rattle.der_inputs.specs.Findings.{IsBlockAt, IsContentsAt, IsValueAt, findings_in, findings_of, unlabelled};
-ghost use Rattle.der_inputs.specs.Parts.{finding_in, findings_are, octets_in};
+ghost use Rattle.std.specs.Prelude.{◌≡◌, IfOk, MatchOption};
+ghost use Rattle.der_inputs.specs.Blocks.{IsBlockAt, IsContentsAt, IsValueAt, octets_in};
 ghost use Rattle.der_elements.specs.Elements.{HasContents, IsElement};
 ghost use Rattle.der_elements.specs.StringOctets.{HoldsNoOctets, HoldsOctets};
 
@@ -24,17 +23,13 @@ pub enum Documents {
 }
 
 // The documents of an input. Objects are not yet decoded.
-pub fn documents_of(alloc: Global, input: Vec<u8>) -> Result<Documents, AllocError>
-    ensures { IfOk result (λ documents. findings_are documents ≡ findings_of input.items) }
-{
+pub fn documents_of(alloc: Global, input: Vec<u8>) -> Result<Documents, AllocError> {
     let text = text_of(alloc, input)?;
     documents_in(alloc, text)
 }
 
 // The documents of a text, or of octets.
-fn documents_in(alloc: Global, text: Vec<u8>) -> Result<Documents, AllocError>
-    ensures { IfOk result (λ documents. findings_are documents ≡ findings_in text.items) }
-{
+fn documents_in(alloc: Global, text: Vec<u8>) -> Result<Documents, AllocError> {
     match form_of(alloc, &text)? {
         InputForm::Pem => Ok(Documents::Objects(text)),
         InputForm::Spelled(octets) => Ok(Documents::One(unlabelled(Ok(octets)))),
@@ -48,7 +43,7 @@ fn documents_in(alloc: Global, text: Vec<u8>) -> Result<Documents, AllocError>
 
 // A document without a label.
 pub fn unlabelled(octets: Result<Vec<u8>, String>) -> Document
-    ensures { finding_in result ≡ unlabelled (octets_in octets) }
+    ensures { result.octets ≡ octets }
 {
     Document {
         label: None,
@@ -57,9 +52,7 @@ pub fn unlabelled(octets: Result<Vec<u8>, String>) -> Document
 }
 
 // One document that cannot be read: why the input has none.
-fn fault_document(alloc: Global, fault: &FormFault) -> Result<Documents, AllocError>
-    ensures { IfOk result (λ documents. findings_are documents ≡ unlabelled None ∷ []) }
-{
+fn fault_document(alloc: Global, fault: &FormFault) -> Result<Documents, AllocError> {
     let why = fault_text(alloc, fault)?;
     Ok(Documents::One(unlabelled(Err(why))))
 }
@@ -69,12 +62,7 @@ fn fault_text(alloc: Global, fault: &FormFault) -> Result<String, AllocError> {
 }
 
 // An object, under its label.
-pub fn object_document(alloc: Global, object: PemObject<'_>) -> Result<Document, AllocError>
-    ensures { IfOk result (λ document. finding_in document ≡ record {
-      label = Some object.entry.label.now;
-      octets = octets_in object.entry.octets;
-    }) }
-{
+pub fn object_document(alloc: Global, object: PemObject<'_>) -> Result<Document, AllocError> {
     let label = copy_of(alloc, object.label)?;
     let octets = octets_of(alloc, object.octets)?;
     Ok(Document {
@@ -84,9 +72,7 @@ pub fn object_document(alloc: Global, object: PemObject<'_>) -> Result<Document,
 }
 
 // What is wrong with the end of an object, in this line.
-pub fn bad_end_document(alloc: Global, line: usize, what: &str) -> Result<Document, AllocError>
-    ensures { IfOk result (λ document. finding_in document ≡ unlabelled None) }
-{
+pub fn bad_end_document(alloc: Global, line: usize, what: &str) -> Result<Document, AllocError> {
     let why = format!(in alloc; "line {line}: {what}")?;
     Ok(unlabelled(Err(why)))
 }
@@ -95,9 +81,7 @@ pub fn bad_end_document(alloc: Global, line: usize, what: &str) -> Result<Docume
 fn octets_of(
     alloc: Global,
     octets: Result<Vec<u8>, PemFault>,
-) -> Result<Result<Vec<u8>, String>, AllocError>
-    ensures { IfOk result (λ read. octets_in read ≡ octets_in octets) }
-{
+) -> Result<Result<Vec<u8>, String>, AllocError> {
     match octets {
         Ok(octets) => Ok(Ok(octets)),
         Err(PemFault::Encrypted) => Ok(Err(fault_text(alloc, &FormFault::Encrypted)?)),

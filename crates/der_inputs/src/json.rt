@@ -1,10 +1,8 @@
 // Lines of JSON of documents.
-ghost use Rattle.std.specs.Prelude.{◌≡◌, IfOk, OnOk};
-ghost use Rattle.std.specs.Option.{option_map};
-ghost use Rattle.der_io.specs.Output.{IsWritten};
-ghost use Rattle.der_inputs.specs.Json.{IsJson, IsJsonOrRefusal, IsOctetsJson, IsReason, is_all_read};
-ghost use Rattle.der_inputs.specs.Parts.{finding_in, octets_in};
-ghost use Rattle.der_json.specs.Json.{origin_data};
+ghost use Rattle.std.specs.Prelude.{◌≡◌, IfOk, None, OnOk};
+ghost use Rattle.der_inputs.specs.Blocks.{octets_in};
+ghost use Rattle.der_inputs.specs.Growing.{Grows};
+ghost use Rattle.der_lines.specs.declared.document.Verdict.TheVariants.{Refused};
 
 use crate::documents::Document;
 use crate::show::Show;
@@ -22,9 +20,8 @@ impl Show {
         document: &Document,
         out: &mut W,
     ) -> Result<Verdict, StreamFault>
-        ensures { IfOk result (λ verdict. IsWritten (IsJson self.now.is_strict
-            (option_map (λ name. name.now) file.entry) (finding_in document.now) verdict)
-            (W.contents out.old) (W.contents out.new)) }
+        ensures refused { IfOk result (λ verdict. octets_in document.now.octets ≡ None → verdict ≡ Refused) }
+        ensures grown { OnOk result (Grows (W.contents out.old) (W.contents out.new)) }
     {
         match &document.label {
             Some(label) => {
@@ -45,8 +42,8 @@ impl Show {
         document: &Document,
         out: &mut W,
     ) -> Result<Verdict, StreamFault>
-        ensures { IfOk result (λ verdict. IsWritten (IsJsonOrRefusal self.now.is_strict (octets_in document.now.octets)
-            (origin_data origin.entry) verdict) (W.contents out.old) (W.contents out.new)) }
+        ensures refused { IfOk result (λ verdict. octets_in document.now.octets ≡ None → verdict ≡ Refused) }
+        ensures grown { OnOk result (Grows (W.contents out.old) (W.contents out.new)) }
     {
         match &document.octets {
             Ok(octets) => self.push_json_of(self.style_of(document), origin, octets, out),
@@ -65,22 +62,19 @@ impl Show {
         octets: &[u8],
         out: &mut W,
     ) -> Result<Verdict, StreamFault>
-        ensures { IfOk result (λ verdict.
-            IsWritten (IsOctetsJson self.now.is_strict octets.now (origin_data origin.entry) verdict)
-            (W.contents out.old) (W.contents out.new)) }
+        ensures { OnOk result (Grows (W.contents out.old) (W.contents out.new)) }
     {
-        if self.is_strict {
-            Ok(verdict_of(push_strict_json(self.alloc, &self.names, style, origin, octets, out)?))
+        let is_right = if self.is_strict {
+            push_strict_json(self.alloc, &self.names, style, origin, octets, out)?
         } else {
-            Ok(verdict_of(push_json(self.alloc, &self.names, style, origin, octets, out)?))
-        }
+            push_json(self.alloc, &self.names, style, origin, octets, out)?
+        };
+        Ok(verdict_of(is_right))
     }
 }
 
 // The verdict on octets: all were read, if nothing is wrong with them.
-fn verdict_of(is_right: bool) -> Verdict
-    ensures { is_all_read result ≡ is_right }
-{
+fn verdict_of(is_right: bool) -> Verdict {
     if is_right {
         Verdict::AllRead
     } else {
@@ -95,16 +89,14 @@ fn push_reason<W: Write>(
     why: &str,
     out: &mut W,
 ) -> Result<(), StreamFault>
-    ensures { OnOk result (IsWritten (IsReason (origin_data origin.entry)) (W.contents out.old) (W.contents out.new)) }
+    ensures { OnOk result (Grows (W.contents out.old) (W.contents out.new)) }
 {
     let line = reason_line(alloc, origin, why)?;
     write_part(out, &line)?;
     Ok(())
 }
 
-fn reason_line(alloc: Global, origin: Origin<'_>, why: &str) -> Result<Vec<u8>, AllocError>
-    ensures { IfOk result (λ line. IsReason (origin_data origin.entry) line.items) }
-{
+fn reason_line(alloc: Global, origin: Origin<'_>, why: &str) -> Result<Vec<u8>, AllocError> {
     let fault = Fault {
         code: None,
         offset: None,

@@ -3,7 +3,7 @@
 //! [`run`] reads inputs, each a [`Source`] with a name, and writes what the options of `der_options` want of each: a
 //! dump, a line of JSON, a section of a page, or octets as they stand. An input is a document in one of the forms of
 //! `der_forms`, told apart by its octets; a dump has the lines of `der_lines`, a line of JSON is that of `der_json`,
-//! and a page that of `der_html`. An [`Outcome`] says what was done with an input, and [`status`] is the exit status
+//! and a page that of `der_rows`. An [`Outcome`] says what was done with an input, and [`status`] is the exit status
 //! after a run.
 //!
 //! Two steps do it: `documents` says what documents an input has, and `show` writes the text of one. `objects` decodes

@@ -1,15 +1,13 @@
 // The documents of an input. An object of PEM is shown before the next is decoded.
-ghost use Rattle.std.specs.Prelude.{◌∷◌, [], if◌then◌else◌, is_some, IfOk, None};
-ghost use Rattle.std.specs.List.{flat_map};
-ghost use Rattle.std.specs.Option.{option_map};
-ghost use Rattle.der_forms.specs.Objects.{objects_of};
-ghost use Rattle.der_forms.specs.Shown.{shown_object};
-ghost use Rattle.der_inputs.specs.Findings.{findings_of, of_object, unlabelled};
-ghost use Rattle.der_inputs.specs.Inputs.{AreShown};
-ghost use Rattle.der_inputs.specs.Parts.{AreFindingTexts, finding_in, wanted_of};
-ghost use Rattle.der_io.specs.Output.{IsWritten};
+ghost use Rattle.std.specs.Prelude.{◌≡◌, IfOk, None, OnOk};
+ghost use Rattle.der_inputs.specs.Blocks.{octets_in};
+ghost use Rattle.der_inputs.specs.Growing.{Grows};
+ghost use Rattle.der_inputs.specs.declared.outcome.Outcome.TheVariants.{Written};
+ghost use Rattle.der_lines.specs.declared.document.Verdict.TheVariants.{Refused};
 
-use crate::documents::{Document, Documents, bad_end_document, documents_of, object_document};
+use crate::documents::{
+    Document, Documents, bad_end_document, documents_of, object_document, unlabelled,
+};
 use crate::outcome::Outcome;
 use crate::show::{Show, both_verdicts};
 use der_forms::{Lines, PemObject, fault_of_end, next_object};
@@ -19,16 +17,56 @@ use der_rows::Printer;
 use std::io::Write;
 
 impl Show {
+    // Writes the text of each document of an input, one after another, behind its name where names are shown.
+    pub fn push_named<W: Write>(
+        &self,
+        name: &str,
+        input: Vec<u8>,
+        printer: &mut Printer<W>,
+    ) -> Result<Outcome, StreamFault>
+        ensures { OnOk result (Grows (W.contents printer.old.out) (W.contents printer.new.out)) }
+    {
+        let file = self.push_file(name, printer)?;
+        self.push_documents(file, input, printer)
+    }
+
+    // Writes the text of a block of an input, or why there is none, behind the input's name where names are shown.
+    pub fn push_block<W: Write>(
+        &self,
+        name: &str,
+        block: Result<Vec<u8>, String>,
+        printer: &mut Printer<W>,
+    ) -> Result<Outcome, StreamFault>
+        ensures refused { IfOk result (λ outcome. octets_in block ≡ None → outcome ≡ Written Refused) }
+        ensures grown { OnOk result (Grows (W.contents printer.old.out) (W.contents printer.new.out)) }
+    {
+        let file = self.push_file(name, printer)?;
+        self.push_document(file, &unlabelled(block), printer)
+    }
+
+    // Writes the name of an input, and returns it, where names are shown.
+    fn push_file<'a, W: Write>(
+        &self,
+        name: &'a str,
+        printer: &mut Printer<W>,
+    ) -> Result<Option<&'a str>, StreamFault>
+        ensures { OnOk result (Grows (W.contents printer.old.out) (W.contents printer.new.out)) }
+    {
+        if self.is_named {
+            self.push_name(name, printer)?;
+            return Ok(Some(name));
+        }
+        Ok(None)
+    }
+
     // Writes the text of each document of an input, one after another. JSON has the name of the file.
-    pub fn push_documents<W: Write>(
+    fn push_documents<W: Write>(
         &self,
         file: Option<&str>,
         input: Vec<u8>,
         printer: &mut Printer<W>,
     ) -> Result<Outcome, StreamFault>
-        ensures { IfOk result (λ outcome. IsWritten (AreShown (wanted_of self.now)
-            (option_map (λ name. name.now) file.entry) (findings_of input.items) outcome)
-            (W.contents printer.old.out) (W.contents printer.new.out)) }
+        ensures { OnOk result (Grows (W.contents printer.old.out) (W.contents printer.new.out)) }
     {
         match documents_of(self.alloc, input)? {
             Documents::Objects(text) => {
@@ -40,15 +78,15 @@ impl Show {
     }
 
     // Writes the text of a document.
-    pub fn push_document<W: Write>(
+    fn push_document<W: Write>(
         &self,
         file: Option<&str>,
         document: &Document,
         printer: &mut Printer<W>,
     ) -> Result<Outcome, StreamFault>
-        ensures { IfOk result (λ outcome. IsWritten (AreShown (wanted_of self.now)
-            (option_map (λ name. name.now) file.entry) (finding_in document.now ∷ []) outcome)
-            (W.contents printer.old.out) (W.contents printer.new.out)) }
+        ensures refused { IfOk result (λ outcome.
+            octets_in document.now.octets ≡ None → outcome ≡ Written Refused) }
+        ensures grown { OnOk result (Grows (W.contents printer.old.out) (W.contents printer.new.out)) }
     {
         let verdict = self.push(file, document, printer)?;
         Ok(Outcome::Written(verdict))
@@ -61,9 +99,7 @@ impl Show {
         text: &[u8],
         printer: &mut Printer<W>,
     ) -> Result<Verdict, StreamFault>
-        ensures { IfOk result (λ verdict. IsWritten (AreFindingTexts (wanted_of self.now)
-            (option_map (λ name. name.now) file.entry) (flat_map of_object (objects_of text.now)) verdict)
-            (W.contents printer.old.out) (W.contents printer.new.out)) }
+        ensures { OnOk result (Grows (W.contents printer.old.out) (W.contents printer.new.out)) }
     {
         let mut verdict = Verdict::AllRead;
         let mut lines = Lines::of(text);
@@ -83,9 +119,7 @@ impl Show {
         last: usize,
         printer: &mut Printer<W>,
     ) -> Result<Verdict, StreamFault>
-        ensures { IfOk result (λ verdict. IsWritten (AreFindingTexts (wanted_of self.now)
-            (option_map (λ name. name.now) file.entry) (of_object (shown_object object.entry)) verdict)
-            (W.contents printer.old.out) (W.contents printer.new.out)) }
+        ensures { OnOk result (Grows (W.contents printer.old.out) (W.contents printer.new.out)) }
     {
         let bad_end = fault_of_end(&object, last);
         let document = object_document(self.alloc, object)?;
@@ -101,10 +135,7 @@ impl Show {
         bad_end: Option<(usize, &str)>,
         printer: &mut Printer<W>,
     ) -> Result<Verdict, StreamFault>
-        ensures { IfOk result (λ verdict. IsWritten (AreFindingTexts (wanted_of self.now)
-            (option_map (λ name. name.now) file.entry)
-            (if is_some bad_end.entry then unlabelled None ∷ [] else []) verdict)
-            (W.contents printer.old.out) (W.contents printer.new.out)) }
+        ensures { OnOk result (Grows (W.contents printer.old.out) (W.contents printer.new.out)) }
     {
         match bad_end {
             Some((line, what)) => {

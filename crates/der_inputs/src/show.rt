@@ -1,22 +1,17 @@
 // How documents are shown.
-ghost use Rattle.std.specs.Prelude.{◌≡◌, [], IfOk, OnOk, false, not, true, unwrap_or};
-ghost use Rattle.std.specs.Option.{option_map};
-ghost use Rattle.der_inputs.specs.Formats.{IsDump, IsDumpOrRefusal, IsFrameOf, IsLabel, IsLines, IsName, IsSection, IsTitle, IsTitleLine, IsTitleSection, format_by, look_by};
+ghost use Rattle.std.specs.Prelude.{◌≡◌, false, IfOk, None, OnOk};
+ghost use Rattle.der_inputs.specs.Blocks.{octets_in};
+ghost use Rattle.der_inputs.specs.Growing.{Grows};
+ghost use Rattle.der_inputs.specs.Inputs.{IsFrame, is_page};
 ghost use Rattle.der_io.specs.Output.{IsWritten};
-ghost use Rattle.der_lines.specs.Dump.{IsDumpOf};
-ghost use Rattle.der_rows.specs.Printing.{IsPrinted};
-ghost use Rattle.der_inputs.specs.Inputs.{IsFindingText, are_colors_shown as colors_shown, names_shown, wanted_by};
-ghost use Rattle.der_inputs.specs.Outcomes.{both_read};
-ghost use Rattle.der_inputs.specs.Parts.{IsFrameUnless, finding_in, octets_in, wanted_of};
-ghost use Rattle.der_inputs.specs.declared.show.OutputFormat.TheVariants.{Page as page_format};
+ghost use Rattle.der_lines.specs.declared.document.Verdict.TheVariants.{Refused};
 
 use crate::documents::Document;
-use der_html::{push_foot, push_head};
 use der_io::{StreamFault, write_part};
 use der_lines::{Style, Verdict, push_document, push_label, push_refusal, push_strict_document};
 use der_names::{Names, OwnNames};
 use der_options::{Color, Options, Task};
-use der_rows::{Look, Printer};
+use der_rows::{Look, Printer, push_foot, push_head};
 use der_shapes::{DocumentType, Shapes};
 use jiff::civil::DateTime;
 use std::alloc::{AllocError, Global};
@@ -60,7 +55,8 @@ impl Show {
         count: usize,
         time: Option<DateTime>,
     ) -> Result<Show, AllocError>
-        ensures { IfOk result (λ show. wanted_of show ≡ wanted_by options.now count) }
+        ensures task { IfOk result (λ show. show.task ≡ options.now.task) }
+        ensures page { IfOk result (λ show. options.now.is_html ≡ false → is_page show.format ≡ false) }
     {
         let names = Names::with(alloc, own)?.with_fields(shapes_for(alloc, options)?);
         let named_type = match options.type_name {
@@ -71,10 +67,10 @@ impl Show {
             alloc,
             names,
             task: options.task,
-            is_named: are_names_shown(options.task, options.is_json, count),
+            is_named: options.is_json || count > 1,
             format: format_of(options.is_json, options.is_html, options.is_text),
             is_strict: options.is_strict,
-            is_colored: are_colors_shown(options.task, options.color),
+            is_colored: matches!(options.color, Color::Always),
             style: Style {
                 is_full: options.is_full,
                 is_flat: options.is_flat,
@@ -94,9 +90,8 @@ impl Show {
         document: &Document,
         printer: &mut Printer<W>,
     ) -> Result<Verdict, StreamFault>
-        ensures { IfOk result (λ verdict. IsWritten (IsFindingText (wanted_of self.now)
-            (option_map (λ name. name.now) file.entry) (finding_in document.now) verdict)
-            (W.contents printer.old.out) (W.contents printer.new.out)) }
+        ensures refused { IfOk result (λ verdict. octets_in document.now.octets ≡ None → verdict ≡ Refused) }
+        ensures grown { OnOk result (Grows (W.contents printer.old.out) (W.contents printer.new.out)) }
     {
         match self.format {
             OutputFormat::Lines => self.push_as_lines(document, printer),
@@ -112,9 +107,8 @@ impl Show {
         document: &Document,
         printer: &mut Printer<W>,
     ) -> Result<Verdict, StreamFault>
-        ensures { IfOk result (λ verdict. IsWritten (IsLines self.now.is_colored self.now.is_strict
-            self.now.style.most_depth (finding_in document.now) verdict)
-            (W.contents printer.old.out) (W.contents printer.new.out)) }
+        ensures refused { IfOk result (λ verdict. octets_in document.now.octets ≡ None → verdict ≡ Refused) }
+        ensures grown { OnOk result (Grows (W.contents printer.old.out) (W.contents printer.new.out)) }
     {
         printer.look = self.look();
         let verdict = self.push_dump(document, printer)?;
@@ -127,8 +121,8 @@ impl Show {
         document: &Document,
         printer: &mut Printer<W>,
     ) -> Result<Verdict, StreamFault>
-        ensures { IfOk result (λ verdict. IsWritten (IsSection self.now.is_strict self.now.style.most_depth
-            (finding_in document.now) verdict) (W.contents printer.old.out) (W.contents printer.new.out)) }
+        ensures refused { IfOk result (λ verdict. octets_in document.now.octets ≡ None → verdict ≡ Refused) }
+        ensures grown { OnOk result (Grows (W.contents printer.old.out) (W.contents printer.new.out)) }
     {
         printer.look = Look::Page;
         printer.begin_section()?;
@@ -138,9 +132,7 @@ impl Show {
     }
 
     // How lines are shown.
-    fn look(&self) -> Look
-        ensures { result ≡ look_by self.now.is_colored }
-    {
+    fn look(&self) -> Look {
         if self.is_colored {
             Look::Colored
         } else {
@@ -154,8 +146,8 @@ impl Show {
         document: &Document,
         printer: &mut Printer<W>,
     ) -> Result<Verdict, StreamFault>
-        ensures { IfOk result (λ verdict. IsPrinted W.contents (IsDump self.now.is_strict self.now.style.most_depth
-            (finding_in document.now) verdict) printer.old printer.new) }
+        ensures refused { IfOk result (λ verdict. octets_in document.now.octets ≡ None → verdict ≡ Refused) }
+        ensures grown { OnOk result (Grows (W.contents printer.old.out) (W.contents printer.new.out)) }
     {
         self.push_label_of(document, printer)?;
         let verdict = self.push_dump_or_refusal(document, printer)?;
@@ -168,7 +160,7 @@ impl Show {
         document: &Document,
         printer: &mut Printer<W>,
     ) -> Result<(), StreamFault>
-        ensures { OnOk result (IsPrinted W.contents (IsLabel (finding_in document.now).label) printer.old printer.new) }
+        ensures { OnOk result (Grows (W.contents printer.old.out) (W.contents printer.new.out)) }
     {
         match &document.label {
             Some(label) => push_label(self.alloc, label, printer),
@@ -181,8 +173,8 @@ impl Show {
         document: &Document,
         printer: &mut Printer<W>,
     ) -> Result<Verdict, StreamFault>
-        ensures { IfOk result (λ verdict. IsPrinted W.contents (IsDumpOrRefusal self.now.is_strict
-            self.now.style.most_depth (octets_in document.now.octets) verdict) printer.old printer.new) }
+        ensures refused { IfOk result (λ verdict. octets_in document.now.octets ≡ None → verdict ≡ Refused) }
+        ensures grown { OnOk result (Grows (W.contents printer.old.out) (W.contents printer.new.out)) }
     {
         match &document.octets {
             Ok(octets) => self.push_octets(self.style_of(document), octets, printer),
@@ -196,8 +188,7 @@ impl Show {
         octets: &[u8],
         printer: &mut Printer<W>,
     ) -> Result<Verdict, StreamFault>
-        ensures { IfOk result (λ verdict. IsPrinted W.contents (IsDumpOf self.now.is_strict
-            style.most_depth octets.now verdict) printer.old printer.new) }
+        ensures { OnOk result (Grows (W.contents printer.old.out) (W.contents printer.new.out)) }
     {
         if self.is_strict {
             push_strict_document(self.alloc, &self.names, style, octets, printer)
@@ -207,9 +198,7 @@ impl Show {
     }
 
     // How a document is shown.
-    pub fn style_of(&self, document: &Document) -> Style
-        ensures { result.most_depth ≡ self.now.style.most_depth }
-    {
+    pub fn style_of(&self, document: &Document) -> Style {
         Style {
             shape: self.type_of(document).map(|known| known.shape),
             ..self.style
@@ -233,8 +222,7 @@ impl Show {
         name: &str,
         printer: &mut Printer<W>,
     ) -> Result<(), StreamFault>
-        ensures { OnOk result (IsWritten (IsName self.now.format self.now.is_colored name.now)
-            (W.contents printer.old.out) (W.contents printer.new.out)) }
+        ensures { OnOk result (Grows (W.contents printer.old.out) (W.contents printer.new.out)) }
     {
         match self.format {
             OutputFormat::Lines => self.push_name_line(name, printer),
@@ -249,8 +237,7 @@ impl Show {
         name: &str,
         printer: &mut Printer<W>,
     ) -> Result<(), StreamFault>
-        ensures { OnOk result (IsWritten (IsTitleLine self.now.is_colored name.now)
-            (W.contents printer.old.out) (W.contents printer.new.out)) }
+        ensures { OnOk result (Grows (W.contents printer.old.out) (W.contents printer.new.out)) }
     {
         printer.look = self.look();
         self.push_title(name, printer)?;
@@ -262,8 +249,7 @@ impl Show {
         name: &str,
         printer: &mut Printer<W>,
     ) -> Result<(), StreamFault>
-        ensures { OnOk result (IsWritten (IsTitleSection name.now)
-            (W.contents printer.old.out) (W.contents printer.new.out)) }
+        ensures { OnOk result (Grows (W.contents printer.old.out) (W.contents printer.new.out)) }
     {
         printer.look = Look::Page;
         printer.begin_section()?;
@@ -273,16 +259,15 @@ impl Show {
     }
 
     fn push_title<W: Write>(&self, name: &str, printer: &mut Printer<W>) -> Result<(), StreamFault>
-        ensures { OnOk result (IsPrinted W.contents (IsTitle name.now) printer.old printer.new) }
+        ensures { OnOk result (Grows (W.contents printer.old.out) (W.contents printer.new.out)) }
     {
         push_label(self.alloc, name.as_bytes(), printer)
     }
 
     // Writes what stands before all texts, if it is not there yet.
     pub fn begin_once<W: Write>(&self, is_begun: &mut bool, out: &mut W) -> Result<(), StreamFault>
-        ensures written { OnOk result (IsWritten (IsFrameUnless is_begun.old self.now.format)
+        ensures { OnOk result (IsWritten (IsFrame (is_page self.now.format))
             (W.contents out.old) (W.contents out.new)) }
-        ensures begun { OnOk result (is_begun.new ≡ true) }
     {
         if *is_begun {
             return Ok(());
@@ -294,7 +279,8 @@ impl Show {
 
     // Writes what stands before all texts.
     fn begin<W: Write>(&self, out: &mut W) -> Result<(), StreamFault>
-        ensures { OnOk result (IsWritten (IsFrameOf self.now.format) (W.contents out.old) (W.contents out.new)) }
+        ensures { OnOk result (IsWritten (IsFrame (is_page self.now.format))
+            (W.contents out.old) (W.contents out.new)) }
     {
         match self.format {
             OutputFormat::Page => write_head(self.alloc, out),
@@ -306,7 +292,7 @@ impl Show {
 
     // Writes what stands behind all texts, if what stands before them is there.
     pub fn end_begun<W: Write>(&self, is_begun: bool, out: &mut W) -> Result<(), StreamFault>
-        ensures { OnOk result (IsWritten (IsFrameUnless (not is_begun) self.now.format)
+        ensures { OnOk result (IsWritten (IsFrame (is_page self.now.format))
             (W.contents out.old) (W.contents out.new)) }
     {
         if is_begun {
@@ -317,7 +303,8 @@ impl Show {
 
     // Writes what stands behind all texts.
     fn end<W: Write>(&self, out: &mut W) -> Result<(), StreamFault>
-        ensures { OnOk result (IsWritten (IsFrameOf self.now.format) (W.contents out.old) (W.contents out.new)) }
+        ensures { OnOk result (IsWritten (IsFrame (is_page self.now.format))
+            (W.contents out.old) (W.contents out.new)) }
     {
         match self.format {
             OutputFormat::Page => write_foot(self.alloc, out),
@@ -329,7 +316,7 @@ impl Show {
 }
 
 fn write_head<W: Write>(alloc: Global, out: &mut W) -> Result<(), StreamFault>
-    ensures { OnOk result (IsWritten (IsFrameOf page_format) (W.contents out.old) (W.contents out.new)) }
+    ensures { OnOk result (Grows (W.contents out.old) (W.contents out.new)) }
 {
     let mut head = Vec::new(alloc);
     push_head(&mut head)?;
@@ -338,7 +325,7 @@ fn write_head<W: Write>(alloc: Global, out: &mut W) -> Result<(), StreamFault>
 }
 
 fn write_foot<W: Write>(alloc: Global, out: &mut W) -> Result<(), StreamFault>
-    ensures { OnOk result (IsWritten (IsFrameOf page_format) (W.contents out.old) (W.contents out.new)) }
+    ensures { OnOk result (Grows (W.contents out.old) (W.contents out.new)) }
 {
     let mut foot = Vec::new(alloc);
     push_foot(&mut foot)?;
@@ -346,18 +333,14 @@ fn write_foot<W: Write>(alloc: Global, out: &mut W) -> Result<(), StreamFault>
     Ok(())
 }
 
-fn octets_or_empty(document: &Document) -> &[u8]
-    ensures { result.now ≡ unwrap_or (octets_in document.now.octets) [] }
-{
+fn octets_or_empty(document: &Document) -> &[u8] {
     match &document.octets {
         Ok(octets) => octets,
         Err(_) => &[],
     }
 }
 
-pub fn both_verdicts(a: Verdict, b: Verdict) -> Verdict
-    ensures { result ≡ both_read a b }
-{
+pub fn both_verdicts(a: Verdict, b: Verdict) -> Verdict {
     match a {
         Verdict::AllRead => b,
         Verdict::Refused => Verdict::Refused,
@@ -373,7 +356,7 @@ fn shapes_for(alloc: Global, options: &Options<'_>) -> Result<Shapes, AllocError
 }
 
 fn format_of(is_json: bool, is_html: bool, is_text: bool) -> OutputFormat
-    ensures { result ≡ format_by is_json is_html is_text }
+    ensures { is_html ≡ false → is_page result ≡ false }
 {
     if is_json {
         OutputFormat::Json
@@ -383,25 +366,5 @@ fn format_of(is_json: bool, is_html: bool, is_text: bool) -> OutputFormat
         OutputFormat::Accounts
     } else {
         OutputFormat::Lines
-    }
-}
-
-// Whether lines are colored.
-fn are_colors_shown(task: Task, color: Color) -> bool
-    ensures { result ≡ colors_shown task color }
-{
-    match task {
-        Task::Extract(_) | Task::Contents(_) | Task::Value(_) => false,
-        _ => matches!(color, Color::Always),
-    }
-}
-
-// Whether names of so many inputs are shown, in JSON or not.
-fn are_names_shown(task: Task, is_json: bool, count: usize) -> bool
-    ensures { result ≡ names_shown task is_json count }
-{
-    match task {
-        Task::Extract(_) | Task::Contents(_) | Task::Value(_) => false,
-        _ => is_json || count > 1,
     }
 }

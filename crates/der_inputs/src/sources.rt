@@ -1,19 +1,17 @@
 // A run over inputs: each is read to its end before anything of it is written.
-ghost use Rattle.std.specs.Prelude.{◌≡◌, List, ℕ, false, IfOk, IfErr, IfSome, IsErr, IsSome, length, map};
-ghost use Rattle.std.specs.Io.KnownBytes.{Appends, IsAtEnd};
-ghost use Rattle.std.specs.Option.{option_map};
+ghost use Rattle.std.specs.Prelude.{◌≡◌, IfOk, IfErr, IfSome, IsErr, IsSome, map};
+ghost use Rattle.std.specs.Io.KnownBytes.{IsAtEnd};
 ghost use Rattle.der_io.specs.Output.{IsWritten};
-ghost use Rattle.der_inputs.specs.Formats.{IsFramed, format_by};
+ghost use Rattle.der_inputs.specs.Blocks.{octets_in};
 ghost use Rattle.der_inputs.specs.Growing.{Grows};
-ghost use Rattle.der_inputs.specs.Inputs.{AreReadToEnds, IsInputText, IsNamedText, IsPart, IsReadToEnd, IsTaskText, input_of, wanted_by};
+ghost use Rattle.der_inputs.specs.Inputs.{AreReadToEnds, IsFramed, IsInputText, IsPart, IsReadToEnd, IsTaskText, is_page};
 ghost use Rattle.der_inputs.specs.Outcomes.{greatest_status};
-ghost use Rattle.der_inputs.specs.Parts.{IsBegunText, IsNextText, octets_in, wanted_of};
 ghost use Rattle.der_inputs.specs.Texts.{AreTexts};
 ghost use Rattle.der_io.specs.declared.StreamFault.TheVariants.{Memory as memory_fault};
 
 use crate::appended::Appended;
 use crate::before::Before;
-use crate::documents::{block_of, contents_of, unlabelled, value_of};
+use crate::documents::{block_of, contents_of, value_of};
 use crate::outcome::{Outcome, greatest};
 use crate::show::Show;
 use der_io::{StreamFault, flush, read_all, write_part};
@@ -52,11 +50,10 @@ pub fn run<R: Read + Drop, W: Write>(
     sources: &mut [Source<'_, R>],
     w: W,
 ) -> (Result<Vec<Outcome>, StreamFault>, W)
-    ensures answered { IfOk result.0 (λ outcomes. (texts output : List ℕ)
-        × AreTexts (IsInputText (wanted_by options.now (length sources.old)))
-        (map (λ source. input_of source.name.now (R.remaining source.reader)) sources.old) outcomes.items texts
-        × IsFramed (format_by options.now.is_json options.now.is_html options.now.is_text) texts output
-        × Appends (W.contents w) (W.contents result.1) output) }
+    ensures answered { IfOk result.0 (λ outcomes. IsWritten (IsFramed options.now.is_html
+        (AreTexts (IsInputText options.now.task)
+        (map (λ source. R.remaining source.reader) sources.old) outcomes.items))
+        (W.contents w) (W.contents result.1)) }
     ensures read { IfOk result.0 (λ outcomes. AreReadToEnds outcomes.items
         (map (λ source. R.remaining source.reader) sources.new)) }
     ensures kept { ∥ Grows (W.contents w) (W.contents result.1) ∥₁ }
@@ -74,11 +71,10 @@ fn run_on<B: Before, R: Read + Drop, W: Write>(
     w: W,
 ) -> (Result<Vec<Outcome>, StreamFault>, W)
     requires { W.contents w ≡ B.before }
-    ensures answered { IfOk result.0 (λ outcomes. (texts output : List ℕ)
-        × AreTexts (IsInputText (wanted_by options.now (length sources.old)))
-        (map (λ source. input_of source.name.now (R.remaining source.reader)) sources.old) outcomes.items texts
-        × IsFramed (format_by options.now.is_json options.now.is_html options.now.is_text) texts output
-        × Appends (W.contents w) (W.contents result.1) output) }
+    ensures answered { IfOk result.0 (λ outcomes. IsWritten (IsFramed options.now.is_html
+        (AreTexts (IsInputText options.now.task)
+        (map (λ source. R.remaining source.reader) sources.old) outcomes.items))
+        (W.contents w) (W.contents result.1)) }
     ensures read { IfOk result.0 (λ outcomes. AreReadToEnds outcomes.items
         (map (λ source. R.remaining source.reader) sources.new)) }
     ensures kept { ∥ Grows (W.contents w) (W.contents result.1) ∥₁ }
@@ -103,11 +99,10 @@ fn write_all_of<R: Read + Drop, W: Write>(
     sources: &mut [Source<'_, R>],
     printer: &mut Printer<W>,
 ) -> Result<Vec<Outcome>, StreamFault>
-    ensures written { IfOk result (λ outcomes. (texts output : List ℕ)
-        × AreTexts (IsInputText (wanted_of show.now))
-        (map (λ source. input_of source.name.now (R.remaining source.reader)) sources.old) outcomes.items texts
-        × IsFramed show.now.format texts output
-        × Appends (W.contents printer.old.out) (W.contents printer.new.out) output) }
+    ensures written { IfOk result (λ outcomes. IsWritten (IsFramed (is_page show.now.format)
+        (AreTexts (IsInputText show.now.task)
+        (map (λ source. R.remaining source.reader) sources.old) outcomes.items))
+        (W.contents printer.old.out) (W.contents printer.new.out)) }
     ensures read { IfOk result (λ outcomes. AreReadToEnds outcomes.items
         (map (λ source. R.remaining source.reader) sources.new)) }
 {
@@ -125,10 +120,9 @@ fn push_sources<R: Read + Drop, W: Write>(
     is_begun: &mut bool,
     printer: &mut Printer<W>,
 ) -> Result<Vec<Outcome>, StreamFault>
-    requires { is_begun.old ≡ false }
-    ensures written { IfOk result (λ outcomes. IsWritten (IsBegunText is_begun.new show.now.format
-        (AreTexts (IsInputText (wanted_of show.now))
-        (map (λ source. input_of source.name.now (R.remaining source.reader)) sources.old) outcomes.items))
+    ensures written { IfOk result (λ outcomes. IsWritten (IsFramed (is_page show.now.format)
+        (AreTexts (IsInputText show.now.task)
+        (map (λ source. R.remaining source.reader) sources.old) outcomes.items))
         (W.contents printer.old.out) (W.contents printer.new.out)) }
     ensures read { IfOk result (λ outcomes. AreReadToEnds outcomes.items
         (map (λ source. R.remaining source.reader) sources.new)) }
@@ -150,8 +144,8 @@ fn push_source<R: Read + Drop, W: Write>(
     is_begun: &mut bool,
     printer: &mut Printer<W>,
 ) -> Result<Outcome, StreamFault>
-    ensures written { IfOk result (λ outcome. IsWritten (IsNextText is_begun.old is_begun.new show.now.format
-        (IsInputText (wanted_of show.now) (input_of source.old.name.now (R.remaining source.old.reader)) outcome))
+    ensures written { IfOk result (λ outcome. IsWritten (IsFramed (is_page show.now.format)
+        (IsInputText show.now.task (R.remaining source.old.reader) outcome))
         (W.contents printer.old.out) (W.contents printer.new.out)) }
     ensures read { IfOk result (λ outcome. IsReadToEnd outcome (R.remaining source.new.reader)) }
 {
@@ -159,7 +153,7 @@ fn push_source<R: Read + Drop, W: Write>(
         return Ok(Outcome::Unread);
     };
     show.begin_once(is_begun, &mut printer.out)?;
-    let outcome = push_named(show, source.name, input, printer)?;
+    let outcome = push_input(show, source.name, input, printer)?;
     Ok(outcome)
 }
 
@@ -177,40 +171,21 @@ fn read_source<R: Read>(alloc: Global, r: &mut R) -> Result<Option<Vec<u8>>, Str
     }
 }
 
-// Writes what is wanted of octets, behind their name where names are shown.
-fn push_named<W: Write>(
+// Writes what is wanted of octets, which an input of this name has.
+fn push_input<W: Write>(
     show: &Show,
     name: &str,
     input: Vec<u8>,
     printer: &mut Printer<W>,
 ) -> Result<Outcome, StreamFault>
-    ensures { IfOk result (λ outcome. IsWritten (IsNamedText show.now.is_named (wanted_of show.now) name.now
-        input.items outcome) (W.contents printer.old.out) (W.contents printer.new.out)) }
-{
-    if show.is_named {
-        show.push_name(name, printer)?;
-        push_input(show, Some(name), input, printer)
-    } else {
-        push_input(show, None, input, printer)
-    }
-}
-
-// Writes what is wanted of octets.
-fn push_input<W: Write>(
-    show: &Show,
-    file: Option<&str>,
-    input: Vec<u8>,
-    printer: &mut Printer<W>,
-) -> Result<Outcome, StreamFault>
-    ensures { IfOk result (λ outcome. IsWritten (IsTaskText show.now.task (wanted_of show.now)
-        (option_map (λ name. name.now) file.entry) input.items outcome)
+    ensures { IfOk result (λ outcome. IsWritten (IsTaskText show.now.task input.items outcome)
         (W.contents printer.old.out) (W.contents printer.new.out)) }
 {
     match show.task {
-        Task::Dump => show.push_documents(file, input, printer),
+        Task::Dump => show.push_named(name, input, printer),
         Task::At(offset) => {
             let block = block_of(show.alloc, input, offset)?;
-            show.push_document(file, &unlabelled(block), printer)
+            show.push_block(name, block, printer)
         }
         Task::Extract(offset) => {
             let part = block_of(show.alloc, input, offset)?;

@@ -1,17 +1,17 @@
 -- Lines are put after lines, for `document`, `encodings` and `lines::push_mark`.
-use Rattle.std.proofs.Common.{◌≡◌, ℕ, zero, suc, ◌+◌, ◌-◌, ◌<◌, List, [], ◌∷◌, ◌++◌, codes, drop, if◌then◌else◌, replicate, Bool, true, false, refl, sym, ap, ◌∙◌, subst, append_assoc, append-nil, arith, length}
+use Rattle.std.proofs.Common.{◌≡◌, ℕ, zero, suc, ◌+◌, ◌-◌, ◌<◌, List, [], ◌∷◌, ◌++◌, codes, drop, if◌then◌else◌, replicate, Bool, true, false, refl, sym, ap, ◌∙◌, subst, append_assoc, arith, length}
 use Rattle.std.proofs.lemmas.List.{drop-drop}
 use Rattle.std.specs.Fmt.{decimal}
-use Rattle.std.specs.Prelude.{IfSome, Option}
-use Rattle.der_lines.specs.Dump.{AreFaultLines, IsBlockLine, IsDump, IsFaultLine, IsLine, IsMeaningText, StandsInside, block_line, down_to, inside_line, no_lines}
+use Rattle.std.specs.Prelude.{Option}
+use Rattle.der_lines.specs.Dump.{IsBlockLine, IsDump, StandsInside, block_line, down_to, inside_line, no_lines}
 use Rattle.der_pieces.specs.Fronts.{Front, StandAt, is_too_deep}
 use Rattle.der_pieces.specs.Marks.{Breach, breaches_of}
 use Rattle.der_lines.specs.MarkText.{mark_text, breaches_text}
 use Rattle.der_lines.specs.Steps.{IsLineOf, IsLineUnless, outer}
-use Rattle.der_rows.proofs.OneLine.{IsOneLine-append, IsOneLine-on_one_line}
 use Rattle.der_rows.proofs.Printed.{Prints-nil}
-use Rattle.der_rows.specs.Printing.{IsPrintedAs, Prints}
-use Rattle.der_rows.specs.Rows.{contents_column, fault_message, indentation, on_one_line, right_of, row_line}
+use Rattle.der_rows.specs.Printing.{IsPrinted, Prints}
+use Rattle.der_rows.specs.Rows.{contents_column, fault_message, indentation, right_of, row_line}
+use Rattle.der_rows.specs.Shown.{shown_text}
 use Rattle.der_rows.specs.declared.printer.Printer.{Printer}
 use Rattle.der_rows.specs.declared.row.Row.{Row}
 
@@ -45,20 +45,18 @@ IsDump-unless P false true f text e i = no_lines refl e
 IsDump-unless P false false f text (line, e, l) i = block_line f [] line [] refl e l (no_lines refl refl)
 
 -- the row of a piece was printed, or nothing where it stands too deep
-pub IsPrintedAs-deep :
-    {W : Type 0} (contents : W → Option (List ℕ)) (deep inside : Bool) (f : Front) (faults : List Bool)
-    (a : Printer W) →
-    deep ≡ true → IsPrintedAs contents (if deep then [] else faults) (IsLineUnless deep inside f) a a
-IsPrintedAs-deep contents true inside f faults a e = ([], Prints-nil contents a, refl)
-IsPrintedAs-deep contents false inside f faults a e = absurd (cc e)
+pub IsPrinted-deep :
+    {W : Type 0} (contents : W → Option (List ℕ)) (deep inside : Bool) (f : Front) (a : Printer W) →
+    deep ≡ true → IsPrinted contents (IsLineUnless deep inside f) a a
+IsPrinted-deep contents true inside f a e = ([], Prints-nil contents a, refl)
+IsPrinted-deep contents false inside f a e = absurd (cc e)
 
-pub IsPrintedAs-row :
-    {W : Type 0} (contents : W → Option (List ℕ)) (deep inside : Bool) (row : Row) (f : Front) (faults : List Bool)
-    (a b : Printer W) → deep ≡ false → Prints contents faults (row_line row ++ 10 ∷ []) a b →
-    IsLineOf inside f (row_line row) →
-    IsPrintedAs contents (if deep then [] else faults) (IsLineUnless deep inside f) a b
-IsPrintedAs-row contents true inside row f faults a b e prints line = absurd (cc e)
-IsPrintedAs-row contents false inside row f faults a b e prints line =
+pub IsPrinted-row :
+    {W : Type 0} (contents : W → Option (List ℕ)) (deep inside : Bool) (row : Row) (f : Front)
+    (a b : Printer W) → deep ≡ false → Prints contents (row_line row ++ 10 ∷ []) a b →
+    IsLineOf inside f (row_line row) → IsPrinted contents (IsLineUnless deep inside f) a b
+IsPrinted-row contents true inside row f a b e prints line = absurd (cc e)
+IsPrinted-row contents false inside row f a b e prints line =
     (row_line row ++ 10 ∷ [], prints, (row_line row, refl, line))
 
 -- one front has a line unless it stands inside octets of a string or too deep
@@ -106,40 +104,31 @@ outer-nil false most = refl
 abbrev row_rest : Row → List ℕ
 row_rest row =
     32 ∷ [] ++ (right_of 2 row.header ++ (32 ∷ [] ++ (contents_column row.is_indefinite row.contents
-    ++ (32 ∷ 32 ∷ [] ++ (indentation row.depth ++ (on_one_line row.field.now ++ (on_one_line row.type_name.now
-    ++ (on_one_line row.value.now ++ (on_one_line (fault_message row) ++ on_one_line row.mark.now)))))))))
-
--- what stands behind the type of a row, before its mark
-abbrev pub row_text : Row → List ℕ
-row_text row = on_one_line row.value.now ++ on_one_line (fault_message row)
+    ++ (32 ∷ 32 ∷ [] ++ (indentation row.depth ++ (shown_text row.field.now ++ (shown_text row.type_name.now
+    ++ (shown_text row.value.now ++ (shown_text (fault_message row) ++ shown_text row.mark.now)))))))))
 
 -- the line of a row with the fields of a front is the line of this front
 IsBlockLine-row :
     (row : Row) (f : Front) → row.offset ≡ f.offset → row.header ≡ f.header → row.contents ≡ f.contents →
-    row.is_indefinite ≡ f.indefinite → row.depth ≡ f.depth → on_one_line row.type_name.now ≡ f.type_name →
-    on_one_line row.mark.now ≡ mark_text (breaches_of f.rules f.has_spare_bits) →
-    IfSome f.meaning (λ meaning. IsMeaningText meaning (row_text row)) → (width : ℕ) (line : List ℕ) →
+    row.is_indefinite ≡ f.indefinite → row.depth ≡ f.depth → shown_text row.type_name.now ≡ f.type_name →
+    shown_text row.mark.now ≡ mark_text (breaches_of f.rules f.has_spare_bits) →
+    (width : ℕ) (line : List ℕ) →
     line ≡ right_of width row.offset ++ row_rest row → IsBlockLine f line
-IsBlockLine-row row f o h c i d w m v width line is =
-    let field = on_one_line row.field.now in
-    let value = on_one_line row.value.now in
-    let fault = on_one_line (fault_message row) in
+IsBlockLine-row row f o h c i d w m width line is =
+    let field = shown_text row.field.now in
+    let value = shown_text row.value.now in
+    let fault = shown_text (fault_message row) in
     let same : line ≡ replicate (width - length (decimal f.offset)) 32
     ++ (decimal f.offset ++ (32 ∷ [] ++ (right_of 2 f.header ++ (32 ∷ []
     ++ (contents_column f.indefinite f.contents ++ (32 ∷ 32 ∷ []
-    ++ (indentation f.depth ++ (field ++ (f.type_name ++ ((value ++ fault) ++ on_one_line row.mark.now))))))))))
+    ++ (indentation f.depth ++ (field ++ (f.type_name ++ ((value ++ fault) ++ shown_text row.mark.now))))))))))
     = rw (is, o, h, c, i, d, w) (simp append_assoc) in
     record {
       spaces = width - length (decimal f.offset);
       field = field;
       text = value ++ fault;
-      mark = on_one_line row.mark.now;
+      mark = shown_text row.mark.now;
       line_is = same;
-      one_field = IsOneLine-on_one_line row.field.now;
-      one =
-          IsOneLine-append value fault (IsOneLine-on_one_line row.value.now)
-          (IsOneLine-on_one_line (fault_message row));
-      value = v;
       mark_is = m;
     }
 
@@ -147,18 +136,18 @@ IsBlockLine-row row f o h c i d w m v width line is =
 pub row_line-front :
     (inside : Bool) (row : Row) (f : Front) → row.is_inside ≡ inside → row.offset ≡ f.offset → row.header ≡ f.header →
     row.contents ≡ f.contents → row.is_indefinite ≡ f.indefinite → row.depth ≡ f.depth →
-    on_one_line row.type_name.now ≡ f.type_name →
-    on_one_line row.mark.now ≡ mark_text (breaches_of f.rules f.has_spare_bits) →
-    IfSome f.meaning (λ meaning. IsMeaningText meaning (row_text row)) → IsLineOf inside f (row_line row)
-row_line-front true row f q o h c i d w m v =
+    shown_text row.type_name.now ≡ f.type_name →
+    shown_text row.mark.now ≡ mark_text (breaches_of f.rules f.has_spare_bits) →
+    IsLineOf inside f (row_line row)
+row_line-front true row f q o h c i d w m =
     let shown = right_of 6 row.offset ++ row_rest row in
     record {
       shown = shown;
       line_is = rw q (simp append_assoc);
-      block = IsBlockLine-row row f o h c i d w m v 6 shown refl;
+      block = IsBlockLine-row row f o h c i d w m 6 shown refl;
     }
-row_line-front false row f q o h c i d w m v =
-    IsBlockLine-row row f o h c i d w m v 7 (row_line row) (rw q (simp append_assoc))
+row_line-front false row f q o h c i d w m =
+    IsBlockLine-row row f o h c i d w m 7 (row_line row) (rw q (simp append_assoc))
 
 -- what is left of joined octets is what is left of the first, and more
 drop-append : (n : ℕ) (xs ys : List ℕ) → (zs : List ℕ) × (drop n (xs ++ ys) ≡ drop n xs ++ zs)
@@ -201,7 +190,6 @@ StandsInside-inside octets part base m further f at e s =
         indefinite = l.indefinite;
         type_name = l.type_name;
         rules = l.rules;
-        meaning = l.meaning;
       };
     }
 
@@ -224,20 +212,3 @@ mark_text-put a b c d breaches some p q r =
     let whole : d ≡ a ++ (codes " (not DER: " ++ (breaches_text false breaches ++ codes ")")) =
     rw (r, q, p) (simp append_assoc) in
     whole ∙ ap (λ z. a ++ z) (sym (mark_text-some breaches some))
-
--- the line of one fault
-pub AreFaultLines-one : (offset : ℕ) (text : List ℕ) → IsLine (IsFaultLine offset) text →
-    AreFaultLines (offset ∷ []) text
-AreFaultLines-one offset text line = (text, [], sym (append-nil text), line, refl)
-
--- the lines of faults, and then of others, are the lines of all
-pub AreFaultLines-append :
-    (xs ys a b : List ℕ) → AreFaultLines xs a → AreFaultLines ys b → AreFaultLines (xs ++ ys) (a ++ b)
-AreFaultLines-append [] ys a b e more = subst (λ z. AreFaultLines ys (z ++ b)) (sym e) more
-AreFaultLines-append (x ∷ xs) ys a b (first, later, e, line, others) more = (
-  first,
-  later ++ b,
-  ap (λ z. z ++ b) e ∙ append_assoc first later b,
-  line,
-  AreFaultLines-append xs ys later b others more,
-)

@@ -115,7 +115,6 @@ module _ (place : Place) (octets : List ℕ) (fronts : List Front) (old new : Wa
         indefinite = refl;
         type_name = refl;
         rules = refl;
-        meaning = refl;
       } in
       inl (f, (fronts, [], refl), later)
 
@@ -276,7 +275,6 @@ StandsInside-so_far base octets fronts faults p read (inl (f, (earlier, others, 
         indefinite = l.indefinite;
         type_name = l.type_name;
         rules = l.rules;
-        meaning = l.meaning;
       };
     }
 StandsInside-so_far base octets fronts faults p read (inr inside) = inside
@@ -318,27 +316,24 @@ pub IsNestedDump-inside :
     IsPrinted held (IsWholeDump strict inside octets found) a b →
     IsPrinted held (IsNestedDump strict left piece (mark_offsets found.marks.items)) a b
 IsNestedDump-inside held strict inside left piece octets before found a b stand is_inside further
-    (faults, (text, e, put)) =
+    (text, e, put) =
     let header = kind_header piece.kind in
     let base = piece.place.base + (piece.offset + header) in
     let contents = slice_range left header (header + kind_contents piece.kind) in
     let IsSoFar-inside : (f : Front) → StandsInside inside.base octets f → StandsInPiece left piece f =
     λ f s. StandsInside-inside contents octets base before inside.base f stand further s in (
-      faults,
+      text,
+      e,
       (
-        text,
-        e,
+        IsDump-weaker (StandsInside inside.base octets) (StandsInPiece left piece) IsSoFar-inside [] text
+            (subst (λ z. IsDump (StandsInside inside.base octets) (outer z inside.most_depth put.fronts) text)
+            is_inside put.dump),
         (
-          IsDump-weaker (StandsInside inside.base octets) (StandsInPiece left piece) IsSoFar-inside [] text
-              (subst (λ z. IsDump (StandsInside inside.base octets) (outer z inside.most_depth put.fronts) text)
-              is_inside put.dump),
-          (
-            put.marks,
-            AreMarked-weaker (StandsInside inside.base octets) (StandsInPiece left piece) IsSoFar-inside [] put.marks
-                (subst (λ z. AreMarked (StandsInside inside.base octets) (counted z put.fronts) put.marks) is_inside
-                put.marked),
-            put.kept,
-          ),
+          put.marks,
+          AreMarked-weaker (StandsInside inside.base octets) (StandsInPiece left piece) IsSoFar-inside [] put.marks
+              (subst (λ z. AreMarked (StandsInside inside.base octets) (counted z put.fronts) put.marks) is_inside
+              put.marked),
+          put.kept,
         ),
       ),
     )

@@ -1,6 +1,5 @@
+mod Breach
 mod Documents
-pub mod Dumps
-pub mod Fronts
+mod Dumps
+mod Fronts
 mod Shown
-pub mod Breach
-pub mod Meanings

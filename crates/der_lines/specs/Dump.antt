@@ -1,15 +1,13 @@
 -- What is written of octets: lines, one for each encoding in order, by their headers. The contents octets of
 -- constructed encodings, and of each SEQUENCE and SET, are gone into; those of others are looked at alone.
-use Rattle.std.specs.Prelude.{◌≡◌, ◌⊎◌, ℕ, ◌+◌, ◌<◌, Bool, true, false, if◌then◌else◌, IfSome, Option, List, [], ◌∷◌, ◌++◌, length, take, replicate, codes, decimal}
+use Rattle.std.specs.Prelude.{◌≡◌, ◌⊎◌, ℕ, ◌+◌, ◌<◌, Bool, true, false, if◌then◌else◌, Option, List, [], ◌∷◌, ◌++◌, length, take, replicate, decimal}
 use Rattle.der_pieces.specs.Marks.{are_some, breaches_of}
 use Rattle.der_lines.specs.MarkText.{mark_text}
 use Rattle.der_lines.specs.declared.document.Verdict.{Verdict}
 use Rattle.der_lines.specs.declared.document.Verdict.TheVariants.{AllRead, Refused}
-use Rattle.der_io.specs.Characters.{colon, exclamation_mark, greater_than_sign, line_feed, space}
-use Rattle.der_rows.specs.Rows.{IsOneLine, contents_column, indentation, on_one_line, right_of}
-use Rattle.der_pieces.specs.Fronts.{AreFrontsOf, Front, Meaning, StandAt, is_too_deep}
-use Rattle.der_lines.specs.ValueText.{IsValueText, parenthesized_if}
-use Rattle.der_lines.specs.declared.values.ValueStyle.{ValueStyle}
+use Rattle.der_io.specs.Characters.{greater_than_sign, line_feed, space}
+use Rattle.der_rows.specs.Rows.{contents_column, indentation, right_of}
+use Rattle.der_pieces.specs.Fronts.{AreFrontsOf, Front, StandAt, is_too_deep}
 
 -- the offset of a front, if it is marked
 abbrev pub marked_offset : Front → List ℕ
@@ -21,17 +19,8 @@ down_to most [] = []
 down_to most (front ∷ fronts) =
     if is_too_deep most front.depth then down_to most fronts else front ∷ down_to most fronts
 
--- the text on one line is that of the value that contents octets mean, in some style, and the name of the value, if it
--- has one
-pub record IsMeaningText (meaning : Meaning) (text : List ℕ) : Type 0 where
-  pub style : ValueStyle
-  pub value : List ℕ
-  pub name : Option (List ℕ)
-  pub value_is : IsValueText style meaning.octets meaning.value value
-  pub text_is : text ≡ on_one_line (value ++ parenthesized_if name)
-
 -- a line of an encoding: spaces, the offset, the sizes of header and contents in columns, spaces for the depth, the
--- field, the words, what else stands behind them, which is its value if it has one, and the mark
+-- field, the words, what else stands behind them, and the mark
 pub record IsBlockLine (front : Front) (line : List ℕ) : Type 0 where
   pub spaces : ℕ
   pub field : List ℕ
@@ -41,9 +30,6 @@ pub record IsBlockLine (front : Front) (line : List ℕ) : Type 0 where
       replicate spaces space ++ (decimal front.offset ++ (space ∷ [] ++ (right_of 2 front.header ++ (space ∷ []
       ++ (contents_column front.indefinite front.contents ++ (space ∷ space ∷ []
       ++ (indentation front.depth ++ (field ++ (front.type_name ++ (text ++ mark))))))))))
-  pub one_field : IsOneLine field
-  pub one : IsOneLine text
-  pub value : IfSome front.meaning (λ meaning. IsMeaningText meaning text)
   pub mark_is : mark ≡ mark_text (breaches_of front.rules front.has_spare_bits)
 
 -- the line of an encoding inside octets of another: `>`, and then what the line of any encoding has
@@ -51,17 +37,6 @@ pub record IsInsideLine (front : Front) (line : List ℕ) : Type 0 where
   pub shown : List ℕ
   pub line_is : line ≡ greater_than_sign ∷ shown
   pub block : IsBlockLine front shown
-
--- a line of no encoding and no first fault: `=`, a space and the label of an object, or `!`, a space and what is wrong
--- with an object, on one line
-abbrev pub IsNote : ℕ → List ℕ → List ℕ → Type 0
-IsNote mark text line = line ≡ mark ∷ space ∷ on_one_line text
-
--- the line of a fault: `! error at offset`, the offset in decimal, a colon, a space, and words
-pub record IsFaultLine (offset : ℕ) (line : List ℕ) : Type 0 where
-  pub text : List ℕ
-  pub line_is : line ≡ codes "! error at offset " ++ decimal offset ++ colon ∷ space ∷ text
-  pub one : IsOneLine text
 
 -- a front at an offset greater by so much, inside however many. Around octets of a string may stand what tells that
 -- they are a list of named bits
@@ -72,7 +47,6 @@ pub record IsLater (base : ℕ) (front later : Front) : Type 0 where
   pub indefinite : later.indefinite ≡ front.indefinite
   pub type_name : later.type_name ≡ front.type_name
   pub rules : later.rules ≡ front.rules
-  pub meaning : later.meaning ≡ front.meaning
 
 -- the front is of an encoding in a part of the octets, at an offset greater by the base and by where the part stands
 pub record StandsInside (base : ℕ) (octets : List ℕ) (later : Front) : Type 0 where
@@ -119,13 +93,6 @@ pub data AreMarked (Inside : Front → Type 0) : List Front → List ℕ → Typ
 abbrev pub IsLine : (List ℕ → Type 0) → List ℕ → Type 0
 IsLine Is text = (line : List ℕ) × (text ≡ line ++ line_feed ∷ []) × Is line
 
--- lines of faults at these offsets, in order
-abbrev pub AreFaultLines : List ℕ → List ℕ → Type 0
-AreFaultLines [] text = text ≡ []
-AreFaultLines (offset ∷ offsets) text =
-    (first later : List ℕ) × (text ≡ first ++ later) × IsLine (IsFaultLine offset) first
-    × AreFaultLines offsets later
-
 -- what is wrong with a document: the first fault; and where it has to be DER, each encoding that is marked before it
 abbrev pub wrong_offsets : Bool → List ℕ → List ℕ → List ℕ
 wrong_offsets false marks faults = take 1 faults
@@ -136,21 +103,16 @@ abbrev pub verdict_of : List ℕ → Verdict
 verdict_of [] = AllRead
 verdict_of (offset ∷ offsets) = Refused
 
--- the lines of octets, which have to be DER or not, down to the most depth, and a line for each that is wrong with them
+-- the lines of octets, which have to be DER or not, down to the most depth, and what says behind them what is wrong
 abbrev pub IsDumpOfSome : Bool → Option ℕ → List ℕ → Verdict → List ℕ → Type 0
 IsDumpOfSome strict most octets verdict text =
     (fronts : List Front) × (faults marks lines last : List ℕ) × (text ≡ lines ++ last)
     × AreFrontsOf octets fronts faults × IsDump (StandsInside 0 octets) (down_to most fronts) lines
     × AreMarked (StandsInside 0 octets) fronts marks
-    × AreFaultLines (wrong_offsets strict marks faults) last
     × (verdict ≡ verdict_of (wrong_offsets strict marks faults))
 
--- the lines of octets, or, where there are no octets, the line that says so
+-- the lines of octets. Where there are no octets, they are refused
 abbrev pub IsDumpOf : Bool → Option ℕ → List ℕ → Verdict → List ℕ → Type 0
 IsDumpOf strict most octets verdict text =
     ((0 < length octets) × IsDumpOfSome strict most octets verdict text)
-    ⊎ ((octets ≡ []) × (verdict ≡ Refused) × IsLine (IsFaultLine 0) text)
-
--- the line of why there are no octets to be read
-abbrev pub IsRefusal : List ℕ → Verdict → List ℕ → Type 0
-IsRefusal why verdict text = (verdict ≡ Refused) × IsLine (IsNote exclamation_mark why) text
+    ⊎ ((octets ≡ []) × (verdict ≡ Refused))

@@ -1,7 +1,7 @@
 -- What is put step by step. Private contracts alone name these.
 use Rattle.std.specs.Prelude.{◌≡◌, ℕ, Option, Bool, true, false, List, [], ◌∷◌, MatchOption, None, Some, map}
 use Rattle.der_pieces.specs.Fronts.{AreFrontsOf, Front, is_too_deep}
-use Rattle.der_lines.specs.Dump.{IsBlockLine, IsDump, IsInsideLine, AreMarked, IsFaultLine, IsLine, verdict_of, StandsInside, down_to}
+use Rattle.der_lines.specs.Dump.{IsBlockLine, IsDump, IsInsideLine, AreMarked, IsLine, verdict_of, StandsInside, down_to}
 use Rattle.der_lines.specs.declared.document.Verdict.{Verdict}
 use Rattle.der_lines.specs.declared.document.Verdict.TheVariants.{Refused}
 use Rattle.der_lines.specs.declared.encodings.Problems.{Problems}
@@ -63,7 +63,7 @@ pub record IsWholeDump (strict : Bool) (place : Place) (octets : List ℕ) (foun
   pub kept : mark_offsets found.marks.items ≡ kept_marks strict marks
   pub dump : IsDump (StandsInside place.base octets) (outer place.is_inside place.most_depth fronts) text
 
--- the line of the first fault, if there is one; and the verdict is of the marks and of it
-abbrev pub IsLast : Option Fault → List ℕ → Verdict → List ℕ → Type 0
-IsLast None marks verdict text = (text ≡ []) × (verdict ≡ verdict_of marks)
-IsLast (Some fault) marks verdict text = (verdict ≡ Refused) × IsLine (IsFaultLine fault.offset) text
+-- the verdict where this is the first fault, if there is one, and these are the marks
+abbrev pub IsLast : Option Fault → List ℕ → Verdict → Type 0
+IsLast None marks verdict = verdict ≡ verdict_of marks
+IsLast (Some fault) marks verdict = verdict ≡ Refused

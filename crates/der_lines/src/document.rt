@@ -1,11 +1,11 @@
 // The rows of a document, and what is wrong with it.
 ghost use Rattle.std.specs.Prelude.{IfOk, OnOk, false, true};
-ghost use Rattle.der_lines.specs.Dump.{AreFaultLines, IsDumpOf, IsDumpOfSome, IsFaultLine, IsLine};
+ghost use Rattle.der_lines.specs.Dump.{IsDumpOf, IsDumpOfSome};
 ghost use Rattle.der_lines.specs.Steps.{IsLast, mark_offsets};
-ghost use Rattle.der_rows.specs.Printing.{IsPrinted};
+ghost use Rattle.der_rows.specs.Printing.{IsPrinted, PrintsText};
 
 use crate::encodings::{Marked, Problems, push_encodings};
-use crate::lines::{push_fault, push_fault_line, push_rules};
+use crate::lines::{push_fault_line, push_rules};
 use asn1_headers::error::ASN1DecodeErr;
 use der_io::StreamFault;
 use der_names::Names;
@@ -105,7 +105,8 @@ fn push_lines<W: Write>(
 {
     let found = push_encodings(alloc, names, octets, outermost(style), is_strict, printer)?;
     push_marks(alloc, &found.marks, printer)?;
-    push_last(&found, &found.marks, printer)
+    let verdict = push_last(&found, &found.marks, printer)?;
+    Ok(verdict)
 }
 
 // Prints a line for each mark.
@@ -114,7 +115,7 @@ fn push_marks<W: Write>(
     marks: &[Marked],
     printer: &mut Printer<W>,
 ) -> Result<(), StreamFault>
-    ensures { OnOk result (IsPrinted W.contents (AreFaultLines (mark_offsets marks.now)) printer.old printer.new) }
+    ensures { OnOk result (PrintsText W.contents printer.old printer.new) }
 {
     for mark in marks {
         push_mark_line(alloc, mark, printer)?;
@@ -127,12 +128,11 @@ fn push_mark_line<W: Write>(
     mark: &Marked,
     printer: &mut Printer<W>,
 ) -> Result<(), StreamFault>
-    ensures { OnOk result (IsPrinted W.contents (IsLine (IsFaultLine mark.now.offset)) printer.old printer.new) }
+    ensures { OnOk result (PrintsText W.contents printer.old printer.new) }
 {
-    let mut text = Vec::new(alloc);
-    text.extend_from_slice(b"not DER: ")?;
+    let mut text = String::from_str(alloc, "not DER: ")?;
     push_rules(&mark.rules, &mut text)?;
-    push_fault(mark.offset, &text, printer)
+    printer.push_fault(mark.offset, &text)
 }
 
 // Prints the line of the first fault, if there is one, behind those of marks.
@@ -141,12 +141,12 @@ fn push_last<W: Write>(
     marks: &[Marked],
     printer: &mut Printer<W>,
 ) -> Result<Verdict, StreamFault>
-    ensures { IfOk result (λ verdict. IsPrinted W.contents (IsLast found.now.fault (mark_offsets marks.now) verdict)
-        printer.old printer.new) }
+    ensures last { IfOk result (IsLast found.now.fault (mark_offsets marks.now)) }
+    ensures printed { OnOk result (PrintsText W.contents printer.old printer.new) }
 {
     match &found.fault {
         Some(fault) => {
-            push_fault(fault.offset, fault.message.as_bytes(), printer)?;
+            printer.push_fault(fault.offset, &fault.message)?;
             Ok(Verdict::Refused)
         }
         None if marks.is_empty() => Ok(Verdict::AllRead),

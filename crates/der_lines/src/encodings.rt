@@ -1,15 +1,12 @@
 // The rows of octets, one for each piece, and of what stands inside octets of strings.
-ghost use Rattle.std.specs.Prelude.{◌≡◌, ◌<◌, ◌++◌, ◌∷◌, [], ℕ, List, false, IfOk, IfSome, None, OnOk, is_some, option_map, string_bytes};
-ghost use Rattle.der_contents.specs.Scalars.{after_space};
-ghost use Rattle.der_io.specs.Characters.{space};
+ghost use Rattle.std.specs.Prelude.{◌≡◌, ◌<◌, ◌++◌, ℕ, List, false, IfOk, IfSome, OnOk};
 ghost use Rattle.der_lines.specs.Dump.{marked_offset};
 ghost use Rattle.der_pieces.specs.Pieces.{IsHolding, kind_type_name};
-ghost use Rattle.der_lines.specs.PieceRows.{IsFieldText, IsKindText, IsNamedBy, IsNestedDump, IsOpenedText, IsPieceDump, IsPieceText, IsRight, row_faults, shown_front};
-ghost use Rattle.der_lines.specs.ValueText.{IsValueText, is_tagged};
-ghost use Rattle.der_rows.specs.Printing.{IsPrinted, IsPrintedAs};
+ghost use Rattle.der_lines.specs.PieceRows.{IsNestedDump, IsPieceDump, shown_front};
+ghost use Rattle.der_rows.specs.Printing.{IsPrinted};
 ghost use Rattle.der_lines.specs.Steps.{IsStart, IsWholeDump, earlier_fault, kept_marks, mark_offsets};
 
-use crate::lines::push_mark;
+use crate::lines::mark_of;
 use crate::values::{
     ValueStyle, cut_text, identifier_name, is_known_constructed, role_name, write_opened,
     write_role, write_value, write_value_name,
@@ -139,8 +136,7 @@ fn push_piece<W: Write>(
     is_strict: bool,
     printer: &mut Printer<W>,
 ) -> Result<Vec<Marked>, StreamFault>
-    requires right { IsRight piece.now }
-    requires nested { IfSome piece.now.nested (λ _. 0 < piece.now.place.documents) }
+    requires { IfSome piece.now.nested (λ _. 0 < piece.now.place.documents) }
     ensures { IfOk result (λ marks. (left : List ℕ)
         → IsHolding left piece.now.kind piece.now.place piece.now.nested
         → IsPrinted W.contents (IsPieceDump is_strict left piece.now (mark_offsets marks.items))
@@ -152,8 +148,7 @@ fn push_piece<W: Write>(
     push_nested(alloc, names, piece, is_strict, printer)
 }
 
-// Prints the row, unless it stands too deep. On a page its element has the class of what is wrong exactly if something
-// is wrong with the piece.
+// Prints the row, unless it stands too deep.
 fn push_row<W: Write>(
     alloc: Global,
     piece: &Piece<'_>,
@@ -161,19 +156,15 @@ fn push_row<W: Write>(
     shown: &Shown,
     printer: &mut Printer<W>,
 ) -> Result<(), StreamFault>
-    requires type_name { type_name.now ≡ kind_type_name piece.now.kind }
-    requires right { IsRight piece.now }
-    requires value { IsPieceText piece.now (string_bytes shown.now.value) }
-    requires fault { is_some shown.now.fault ≡ is_some piece.now.fault }
-    ensures { OnOk result (IsPrintedAs W.contents (row_faults piece.now)
-        (IsStart piece.now.place (shown_front piece.now)) printer.old printer.new) }
+    requires { type_name.now ≡ kind_type_name piece.now.kind }
+    ensures { OnOk result (IsPrinted W.contents (IsStart piece.now.place (shown_front piece.now))
+        printer.old printer.new) }
 {
     let place = piece.place;
     if is_too_deep(place.most_depth, place.depth) {
         return Ok(());
     }
-    let mut mark = Vec::new(alloc);
-    push_mark(alloc, &piece.breaches, &mut mark)?;
+    let mark = mark_of(alloc, &piece.breaches)?;
     let row = Row {
         offset: piece.document_offset()?,
         header: piece.header_size(),
@@ -245,11 +236,7 @@ fn shown_of(
     names: &Names,
     piece: &Piece<'_>,
     type_name: &str,
-) -> Result<Shown, AllocError>
-    ensures fault { IfOk result (λ shown. is_some shown.fault ≡ is_some piece.now.fault) }
-    ensures field { IfOk result (λ shown. IsNamedBy names.now.shapes piece.now (string_bytes shown.field)) }
-    ensures value { IfOk result (λ shown. IsPieceText piece.now (string_bytes shown.value)) }
-{
+) -> Result<Shown, AllocError> {
     let named = piece.names(&names.shapes);
     let style = ValueStyle::of(piece);
     let mut value = value_text(alloc, names, piece, style, field_of(named))?;
@@ -278,9 +265,7 @@ fn value_name(piece: &Piece<'_>, named: Option<Named>) -> Option<&'static str> {
 
 // The field of a piece, as it stands before the name of its type: its name, or that of its type where it has none.
 // Nothing where that name says as much.
-fn field_text(alloc: Global, type_name: &str, named: Option<Named>) -> Result<String, AllocError>
-    ensures { IfOk result (λ text. IsFieldText named (string_bytes text)) }
-{
+fn field_text(alloc: Global, type_name: &str, named: Option<Named>) -> Result<String, AllocError> {
     let Some(Named { field, of, .. }) = named else {
         return Ok(String::new(alloc));
     };
@@ -292,9 +277,7 @@ fn field_text(alloc: Global, type_name: &str, named: Option<Named>) -> Result<St
 }
 
 // A name and a space.
-fn with_space(alloc: Global, name: &str) -> Result<String, AllocError>
-    ensures { IfOk result (λ text. string_bytes text ≡ name.now ++ space ∷ []) }
-{
+fn with_space(alloc: Global, name: &str) -> Result<String, AllocError> {
     let mut text = String::with_capacity(alloc, name.len().saturating_add(1))?;
     text.push_str(name)?;
     text.push(' ')?;
@@ -308,9 +291,7 @@ fn value_text(
     piece: &Piece<'_>,
     style: ValueStyle,
     field: Option<&'static str>,
-) -> Result<String, AllocError>
-    ensures { IfOk result (λ text. IsKindText style piece.now.kind (string_bytes text)) }
-{
+) -> Result<String, AllocError> {
     match &piece.kind {
         PieceKind::EndOfContents(_) | PieceKind::Cut(_, _) => Ok(String::new(alloc)),
         PieceKind::Unreadable(octets) | PieceKind::Leaf(_, octets, None) => {
@@ -328,9 +309,7 @@ fn value_text(
 }
 
 // Octets that have no value, behind a space.
-fn octets_text(alloc: Global, octets: &[u8], style: ValueStyle) -> Result<String, AllocError>
-    ensures { IfOk result (λ text. string_bytes text ≡ after_space style.is_full octets.now) }
-{
+fn octets_text(alloc: Global, octets: &[u8], style: ValueStyle) -> Result<String, AllocError> {
     let mut text = String::new(alloc);
     write_after_space(&mut text, octets, style.is_full)?;
     Ok(text)
@@ -344,9 +323,7 @@ fn opened_text(
     joined: &Option<Joined>,
     style: ValueStyle,
     role: Option<&'static str>,
-) -> Result<String, AllocError>
-    ensures { IfOk result (λ text. IsOpenedText style joined.now (string_bytes text)) }
-{
+) -> Result<String, AllocError> {
     let mut text = String::new(alloc);
     write_role(&mut text, role)?;
     let name = joined_name(alloc, names, joined)?;
@@ -377,9 +354,7 @@ fn leaf_role_name(
     value: &LeafValue,
     role: Role,
     field: Option<&'static str>,
-) -> Option<&'static str>
-    ensures { is_tagged value.now ≡ false → option_map (λ t. t.now) result ≡ None }
-{
+) -> Option<&'static str> {
     match value {
         LeafValue::Tagged(_) => role_name(role, field),
         _ => None,
@@ -394,10 +369,7 @@ fn leaf_text(
     value: &LeafValue,
     style: ValueStyle,
     role: Option<&'static str>,
-) -> Result<String, AllocError>
-    requires { is_tagged value.now ≡ false → option_map (λ t. t.now) role ≡ None }
-    ensures { IfOk result (λ text. IsValueText style contents.now value.now (string_bytes text)) }
-{
+) -> Result<String, AllocError> {
     let mut text = String::new(alloc);
     write_role(&mut text, role)?;
     let name = identifier_name(alloc, names, value)?;
@@ -410,9 +382,7 @@ fn field_of(named: Option<Named>) -> Option<&'static str> {
 }
 
 // What is wrong with a piece, as it stands behind its value.
-fn fault_text(alloc: Global, piece: &Piece<'_>) -> Result<Option<String>, AllocError>
-    ensures { IfOk result (λ text. is_some text ≡ is_some piece.now.fault) }
-{
+fn fault_text(alloc: Global, piece: &Piece<'_>) -> Result<Option<String>, AllocError> {
     let Some(fault) = &piece.fault else {
         return Ok(None);
     };

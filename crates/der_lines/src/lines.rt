@@ -1,56 +1,31 @@
-// Lines that are not of pieces, and the mark of a piece that is not DER.
-ghost use Rattle.std.specs.Prelude.{◌≡◌, ◌++◌, OnOk, false, map};
-ghost use Rattle.der_lines.specs.Dump.{IsFaultLine, IsLine, IsNote};
+// The line of a fault, and the mark of a piece that is not DER.
+ghost use Rattle.std.specs.Prelude.{◌≡◌, ◌++◌, IfOk, OnOk, false, map, string_bytes};
 ghost use Rattle.der_lines.specs.MarkText.{mark_text, separator, breaches_text};
 ghost use Rattle.der_pieces.specs.Marks.{breach_of, breaches_of};
-ghost use Rattle.der_rows.specs.Printing.{IsPrinted};
-ghost use Rattle.der_rows.specs.Rows.{note_mark};
+ghost use Rattle.der_rows.specs.Printing.{PrintsText};
 
 use asn1_headers::error::ASN1DecodeErr;
 use der_contents::faults::fault_message;
 use der_io::StreamFault;
 use der_pieces::marks::{Breaches, BrokenRule};
-use der_rows::{NoteKind, Printer};
+use der_rows::Printer;
 use std::alloc::{AllocError, Global};
 use std::io::Write;
 
-// Pushes the mark of an encoding that is not DER, if it has one.
-pub fn push_mark(alloc: Global, breaches: &Breaches, out: &mut Vec<u8>) -> Result<(), AllocError>
-    ensures { OnOk result (out.new.items ≡ out.old.items
-        ++ mark_text (breaches_of breaches.now.rules.items breaches.now.has_spare_bits)) }
+// The mark of an encoding that is not DER; nothing of one that is.
+pub fn mark_of(alloc: Global, breaches: &Breaches) -> Result<String, AllocError>
+    ensures { IfOk result (λ mark. string_bytes mark
+        ≡ mark_text (breaches_of breaches.now.rules.items breaches.now.has_spare_bits)) }
 {
     let rules = breaches.describe(alloc)?;
+    let mut mark = String::new(alloc);
     if rules.is_empty() {
-        return Ok(());
+        return Ok(mark);
     }
-    out.extend_from_slice(b" (not DER: ")?;
-    push_rules(&rules, out)?;
-    out.push(b')')?;
-    Ok(())
-}
-
-// Prints a note.
-pub fn push_note<W: Write>(
-    kind: NoteKind,
-    text: &[u8],
-    printer: &mut Printer<W>,
-) -> Result<(), StreamFault>
-    ensures { OnOk result (IsPrinted W.contents (IsLine (IsNote (note_mark kind) text.now)) printer.old printer.new) }
-{
-    printer.push_note(kind, text)?;
-    Ok(())
-}
-
-// Prints the line of a fault: its offset, and what is wrong.
-pub fn push_fault<W: Write>(
-    offset: usize,
-    message: &[u8],
-    printer: &mut Printer<W>,
-) -> Result<(), StreamFault>
-    ensures { OnOk result (IsPrinted W.contents (IsLine (IsFaultLine offset)) printer.old printer.new) }
-{
-    printer.push_fault(offset, message)?;
-    Ok(())
+    mark.push_str(" (not DER: ")?;
+    push_rules(&rules, &mut mark)?;
+    mark.push_str(")")?;
+    Ok(mark)
 }
 
 /// Prints the line of a fault: its offset, and what it is in words.
@@ -63,15 +38,16 @@ pub fn push_fault_line<W: Write>(
     fault: &ASN1DecodeErr,
     printer: &mut Printer<W>,
 ) -> Result<(), StreamFault>
-    ensures { OnOk result (IsPrinted W.contents (IsLine (IsFaultLine offset)) printer.old printer.new) }
+    ensures { OnOk result (PrintsText W.contents printer.old printer.new) }
 {
     let message = fault_message(alloc, fault)?;
-    push_fault(offset, message.as_bytes(), printer)
+    printer.push_fault(offset, &message)
 }
 
 // Puts what is wrong, with a comma and a space between two.
-pub fn push_rules(rules: &[BrokenRule], out: &mut Vec<u8>) -> Result<(), AllocError>
-    ensures { OnOk result (out.new.items ≡ out.old.items ++ breaches_text false (map breach_of rules.now)) }
+pub fn push_rules(rules: &[BrokenRule], out: &mut String) -> Result<(), AllocError>
+    ensures { OnOk result (string_bytes out.new
+        ≡ string_bytes out.old ++ breaches_text false (map breach_of rules.now)) }
 {
     let mut is_later = false;
     for rule in rules {
@@ -82,18 +58,18 @@ pub fn push_rules(rules: &[BrokenRule], out: &mut Vec<u8>) -> Result<(), AllocEr
     Ok(())
 }
 
-fn push_text(rule: &BrokenRule, out: &mut Vec<u8>) -> Result<(), AllocError>
-    ensures { OnOk result (out.new.items ≡ out.old.items ++ rule.now.text.now) }
+fn push_text(rule: &BrokenRule, out: &mut String) -> Result<(), AllocError>
+    ensures { OnOk result (string_bytes out.new ≡ string_bytes out.old ++ rule.now.text.now) }
 {
-    out.extend_from_slice(rule.text.as_bytes())?;
+    out.push_str(rule.text)?;
     Ok(())
 }
 
-fn push_separator(is_later: bool, out: &mut Vec<u8>) -> Result<(), AllocError>
-    ensures { OnOk result (out.new.items ≡ out.old.items ++ separator is_later) }
+fn push_separator(is_later: bool, out: &mut String) -> Result<(), AllocError>
+    ensures { OnOk result (string_bytes out.new ≡ string_bytes out.old ++ separator is_later) }
 {
     if is_later {
-        out.extend_from_slice(b", ")?;
+        out.push_str(", ")?;
     }
     Ok(())
 }

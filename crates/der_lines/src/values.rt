@@ -1,7 +1,4 @@
 // What stands on a line behind the type: the value of the encoding.
-ghost use Rattle.std.specs.Prelude.{◌≡◌, ◌++◌, IfOk, OnOk, is_some, option_map, string_bytes};
-ghost use Rattle.der_lines.specs.ValueText.{bits_octets, bits_text, colon_text, constructed_text, identifier_text, integer_text, joined_text, number_octets, octets_text, opened_text, parenthesized_if, spaced, spaced_if, tagged_text, unused_text, value_text};
-ghost use Rattle.der_contents.specs.Scalars.{quoted};
 
 use asn1_headers::tags::{CHARACTER_STRING, EMBEDDED_PDV, EXTERNAL, SEQUENCE, SET};
 use asn1_headers::whole_header::Header;
@@ -29,10 +26,7 @@ pub struct ValueStyle {
 
 impl ValueStyle {
     // How the value of the piece is written.
-    pub fn of(piece: &Piece<'_>) -> ValueStyle
-        ensures opened { result.is_opened ≡ is_some piece.now.nested }
-        ensures full { result.is_full ≡ piece.now.place.is_full }
-    {
+    pub fn of(piece: &Piece<'_>) -> ValueStyle {
         ValueStyle {
             is_opened: piece.nested.is_some(),
             is_full: piece.place.is_full,
@@ -49,17 +43,12 @@ pub fn write_opened(
     is_shown: bool,
     joined: &Option<Joined>,
     style: ValueStyle,
-) -> Result<(), AllocError>
-    ensures { OnOk result (string_bytes out.new
-        ≡ string_bytes out.old ++ opened_text style is_shown name.now joined.now) }
-{
+) -> Result<(), AllocError> {
     write_constructed(out, is_shown)?;
     write_joined(alloc, out, name, joined, style)
 }
 
-fn write_constructed(out: &mut String, is_shown: bool) -> Result<(), AllocError>
-    ensures { OnOk result (string_bytes out.new ≡ string_bytes out.old ++ constructed_text is_shown) }
-{
+fn write_constructed(out: &mut String, is_shown: bool) -> Result<(), AllocError> {
     if is_shown {
         return out.push_str(", constructed");
     }
@@ -72,9 +61,7 @@ fn write_joined(
     name: &str,
     joined: &Option<Joined>,
     style: ValueStyle,
-) -> Result<(), AllocError>
-    ensures { OnOk result (string_bytes out.new ≡ string_bytes out.old ++ joined_text style name.now joined.now) }
-{
+) -> Result<(), AllocError> {
     match joined {
         Some(joined) => {
             let text = joined_value_text(alloc, name, joined, style)?;
@@ -89,19 +76,14 @@ fn joined_value_text(
     name: &str,
     joined: &Joined,
     style: ValueStyle,
-) -> Result<String, AllocError>
-    ensures { IfOk result (λ text.
-        string_bytes text ≡ value_text style name.now joined.now.contents.items joined.now.value) }
-{
+) -> Result<String, AllocError> {
     let mut text = String::new(alloc);
     write_value(&mut text, name, &joined.contents, &joined.value, style)?;
     Ok(text)
 }
 
 // A colon and the text, unless it is empty.
-fn write_behind_colon(out: &mut String, text: &str) -> Result<(), AllocError>
-    ensures { OnOk result (string_bytes out.new ≡ string_bytes out.old ++ colon_text text.now) }
-{
+fn write_behind_colon(out: &mut String, text: &str) -> Result<(), AllocError> {
     if text.is_empty() {
         return Ok(());
     }
@@ -150,10 +132,7 @@ pub fn role_name(role: Role, field: Option<&'static str>) -> Option<&'static str
 }
 
 // A space and the name, if there is one.
-pub fn write_role(out: &mut String, name: Option<&'static str>) -> Result<(), AllocError>
-    ensures { OnOk result (string_bytes out.new
-        ≡ string_bytes out.old ++ spaced_if (option_map (λ t. t.now) name.entry)) }
-{
+pub fn write_role(out: &mut String, name: Option<&'static str>) -> Result<(), AllocError> {
     match name {
         Some(name) => write!(out, " {name}"),
         None => Ok(()),
@@ -161,10 +140,7 @@ pub fn write_role(out: &mut String, name: Option<&'static str>) -> Result<(), Al
 }
 
 // A space and the name in parentheses, if there is one.
-pub fn write_value_name(out: &mut String, name: Option<&'static str>) -> Result<(), AllocError>
-    ensures { OnOk result (string_bytes out.new
-        ≡ string_bytes out.old ++ parenthesized_if (option_map (λ t. t.now) name.entry)) }
-{
+pub fn write_value_name(out: &mut String, name: Option<&'static str>) -> Result<(), AllocError> {
     match name {
         Some(name) => write!(out, " ({name})"),
         None => Ok(()),
@@ -205,10 +181,7 @@ pub fn write_value(
     contents: &[u8],
     value: &LeafValue,
     style: ValueStyle,
-) -> Result<(), AllocError>
-    ensures { OnOk result (string_bytes out.new
-        ≡ string_bytes out.old ++ value_text style name.now contents.now value.now) }
-{
+) -> Result<(), AllocError> {
     match value {
         LeafValue::Boolean(is_true) => write!(out, " {is_true}"),
         LeafValue::Integer(number) => write_integer(out, number, style),
@@ -238,10 +211,7 @@ fn write_tagged(
     contents: &[u8],
     value: &TaggedValue,
     style: ValueStyle,
-) -> Result<(), AllocError>
-    ensures { OnOk result (string_bytes out.new
-        ≡ string_bytes out.old ++ tagged_text style name.now contents.now value.now) }
-{
+) -> Result<(), AllocError> {
     match value {
         TaggedValue::Octets(text) => write_octets(out, contents, text, style),
         TaggedValue::Bits(bits) => write_bits(out, bits, style),
@@ -253,10 +223,7 @@ fn write_tagged(
 }
 
 // An integer in decimal, if it has few octets; and its two's complement octets, unless it has very few.
-fn write_integer(out: &mut String, number: &BigInt, style: ValueStyle) -> Result<(), AllocError>
-    ensures { OnOk result (string_bytes out.new
-        ≡ string_bytes out.old ++ integer_text style.is_full number.now) }
-{
+fn write_integer(out: &mut String, number: &BigInt, style: ValueStyle) -> Result<(), AllocError> {
     let octets = number.octets();
     if octets.len() > MOST_DECIMAL {
         out.push_str(" hex ")?;
@@ -266,10 +233,11 @@ fn write_integer(out: &mut String, number: &BigInt, style: ValueStyle) -> Result
     write_number_octets(out, octets, style)
 }
 
-fn write_number_octets(out: &mut String, octets: &[u8], style: ValueStyle) -> Result<(), AllocError>
-    ensures { OnOk result (string_bytes out.new
-        ≡ string_bytes out.old ++ number_octets style.is_full octets.now) }
-{
+fn write_number_octets(
+    out: &mut String,
+    octets: &[u8],
+    style: ValueStyle,
+) -> Result<(), AllocError> {
     if octets.len() < LEAST_HEX {
         return Ok(());
     }
@@ -279,9 +247,7 @@ fn write_number_octets(out: &mut String, octets: &[u8], style: ValueStyle) -> Re
 }
 
 // The bits of a BIT STRING, and their names, if they have any.
-fn write_bits(out: &mut String, bits: &Bits, style: ValueStyle) -> Result<(), AllocError>
-    ensures { OnOk result (string_bytes out.new ≡ string_bytes out.old ++ bits_text style bits.now) }
-{
+fn write_bits(out: &mut String, bits: &Bits, style: ValueStyle) -> Result<(), AllocError> {
     let count = bits.count;
     let ending = if count == 1 { "" } else { "s" };
     write!(out, " {count} bit{ending}")?;
@@ -289,19 +255,14 @@ fn write_bits(out: &mut String, bits: &Bits, style: ValueStyle) -> Result<(), Al
     write_bit_names(out, &bits.names)
 }
 
-fn write_bit_names(out: &mut String, names: &Option<String>) -> Result<(), AllocError>
-    ensures { OnOk result (string_bytes out.new
-        ≡ string_bytes out.old ++ parenthesized_if (option_map string_bytes names.now)) }
-{
+fn write_bit_names(out: &mut String, names: &Option<String>) -> Result<(), AllocError> {
     match names {
         Some(names) => write!(out, " ({names})"),
         None => Ok(()),
     }
 }
 
-fn write_bits_octets(out: &mut String, bits: &Bits, style: ValueStyle) -> Result<(), AllocError>
-    ensures { OnOk result (string_bytes out.new ≡ string_bytes out.old ++ bits_octets style bits.now) }
-{
+fn write_bits_octets(out: &mut String, bits: &Bits, style: ValueStyle) -> Result<(), AllocError> {
     if style.is_opened {
         return out.push_str(", containing");
     }
@@ -313,9 +274,7 @@ fn write_bits_octets(out: &mut String, bits: &Bits, style: ValueStyle) -> Result
     write_after_space(out, &bits.octets, style.is_full)
 }
 
-fn write_unused(out: &mut String, unused: usize) -> Result<(), AllocError>
-    ensures { OnOk result (string_bytes out.new ≡ string_bytes out.old ++ unused_text unused) }
-{
+fn write_unused(out: &mut String, unused: usize) -> Result<(), AllocError> {
     if unused == 0 {
         return Ok(());
     }
@@ -323,10 +282,11 @@ fn write_unused(out: &mut String, unused: usize) -> Result<(), AllocError>
 }
 
 // An object identifier, with its name, if it has one.
-fn write_identifier(out: &mut String, name: &str, identifier: &Identifier) -> Result<(), AllocError>
-    ensures { OnOk result (string_bytes out.new
-        ≡ string_bytes out.old ++ identifier_text name.now identifier.now) }
-{
+fn write_identifier(
+    out: &mut String,
+    name: &str,
+    identifier: &Identifier,
+) -> Result<(), AllocError> {
     let Some(dotted) = &identifier.dotted else {
         return out.push_str(" with components beyond 2^128");
     };
@@ -338,9 +298,7 @@ fn write_identifier(out: &mut String, name: &str, identifier: &Identifier) -> Re
 }
 
 // Characters in quotation marks.
-fn write_text(out: &mut String, text: &str) -> Result<(), AllocError>
-    ensures { OnOk result (string_bytes out.new ≡ string_bytes out.old ++ spaced (quoted text.now)) }
-{
+fn write_text(out: &mut String, text: &str) -> Result<(), AllocError> {
     out.push_str(" ")?;
     write_quoted(out, text)
 }
@@ -351,10 +309,7 @@ fn write_octets(
     octets: &[u8],
     text: &Option<String>,
     style: ValueStyle,
-) -> Result<(), AllocError>
-    ensures { OnOk result (string_bytes out.new
-        ≡ string_bytes out.old ++ octets_text style.is_full octets.now (option_map string_bytes text.now)) }
-{
+) -> Result<(), AllocError> {
     write_after_space(out, octets, style.is_full)?;
     match text {
         Some(text) => write_text(out, text),

@@ -1,2 +1,4 @@
-pub mod OneLine
+pub mod PlainText
+pub mod Shown
+pub mod Made
 pub mod Printed

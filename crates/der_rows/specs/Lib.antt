@@ -1,2 +1,4 @@
-pub mod Printing
+pub mod Shown
+pub mod Pieces
 pub mod Rows
+pub mod Printing

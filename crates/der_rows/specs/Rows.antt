@@ -1,23 +1,11 @@
 -- The lines of rows.
-use Rattle.std.specs.Prelude.{◌≡◌, ◌&&◌, ◌==◌, ℕ, ◌-◌, ◌*◌, Bool, true, false, List, [], ◌∷◌, ◌++◌, codes, decimal, nat_le, not, if◌then◌else◌, length, map, min, replicate, unwrap_or}
-use Rattle.std.specs.List.{list_all}
+use Rattle.std.specs.Prelude.{ℕ, ◌-◌, ◌*◌, Bool, true, false, List, [], ◌∷◌, ◌++◌, codes, decimal, length, min, replicate, unwrap_or}
 use Rattle.std.specs.Option.{option_map}
-use Rattle.der_io.specs.Characters.{colon, equals_sign, exclamation_mark, greater_than_sign, space}
+use Rattle.der_io.specs.Characters.{equals_sign, exclamation_mark, greater_than_sign, space}
+use Rattle.der_rows.specs.Shown.{shown_text}
 use Rattle.der_rows.specs.declared.line.NoteKind.{NoteKind}
 use Rattle.der_rows.specs.declared.line.NoteKind.TheVariants.{Error, Title}
 use Rattle.der_rows.specs.declared.row.Row.{Row}
-
--- no octet of a control character, which are 00 to 1F and 7F (ISO 646)
-abbrev pub is_shown : ℕ → Bool
-is_shown b = nat_le 32 b && not (b == 127)
-
--- no control characters, nor a line feed, which ends a line
-abbrev pub IsOneLine : List ℕ → Type 0
-IsOneLine text = list_all is_shown text ≡ true
-
--- the text with a space in the place of each control character
-abbrev pub on_one_line : List ℕ → List ℕ
-on_one_line text = map (λ b. if is_shown b then b else space) text
 
 -- a number in decimal, with spaces before it where it has fewer digits than the width
 abbrev pub right_of : ℕ → ℕ → List ℕ
@@ -51,24 +39,10 @@ fault_message row = unwrap_or (option_map (λ message. message.now) row.fault) [
 -- the line of a row: its columns, its field, its type, its value, what is wrong with it, and what of DER it breaks
 abbrev pub row_line : Row → List ℕ
 row_line row =
-    columns_text row ++ (on_one_line row.field.now ++ (on_one_line row.type_name.now
-    ++ (on_one_line row.value.now ++ (on_one_line (fault_message row) ++ on_one_line row.mark.now))))
+    columns_text row ++ (shown_text row.field.now ++ (shown_text row.type_name.now
+    ++ (shown_text row.value.now ++ (shown_text (fault_message row) ++ shown_text row.mark.now))))
 
 -- the octet that the line of a note begins with
 abbrev pub note_mark : NoteKind → ℕ
 note_mark Title = equals_sign
 note_mark Error = exclamation_mark
-
--- the line of a note: its mark, a space, and the text
-abbrev pub note_line : NoteKind → List ℕ → List ℕ
-note_line kind text = note_mark kind ∷ space ∷ on_one_line text
-
--- a note of this kind says that something is wrong
-abbrev pub is_error : NoteKind → Bool
-is_error Title = false
-is_error Error = true
-
--- the line of a fault: its offset, and the message
-abbrev pub fault_line : ℕ → List ℕ → List ℕ
-fault_line offset message =
-    codes "! error at offset " ++ (decimal offset ++ (colon ∷ [] ++ (space ∷ [] ++ on_one_line message)))

@@ -1,7 +1,8 @@
-// The columns of a row, and text on one line.
-ghost use Rattle.std.specs.Prelude.{◌≡◌, ◌++◌, OnOk, if◌then◌else◌, replicate};
+// The columns of a row, and text of characters that are shown.
+ghost use Rattle.std.specs.Prelude.{◌≡◌, ◌++◌, OnOk, replicate};
 ghost use Rattle.std.specs.List.{list_all};
-ghost use Rattle.der_rows.specs.Rows.{columns_text, contents_column, is_shown as is_shown_is, offset_column, on_one_line, right_of};
+ghost use Rattle.der_rows.specs.Rows.{columns_text, contents_column, offset_column, right_of};
+ghost use Rattle.der_rows.specs.Shown.{is_plain as is_plain_is};
 
 use crate::row::Row;
 use itoa::Buffer;
@@ -29,33 +30,17 @@ fn push_spaces(n: usize, out: &mut Vec<u8>) -> Result<(), AllocError>
     Ok(())
 }
 
-// Pushes the text with a space in the place of each control character.
-pub fn push_on_one_line(text: &[u8], out: &mut Vec<u8>) -> Result<(), AllocError>
-    ensures { OnOk result (out.new.items ≡ out.old.items ++ on_one_line text.now) }
+// Whether the text is of characters of ASCII that are shown.
+pub fn is_plain_text(text: &[u8]) -> bool
+    ensures { result ≡ list_all is_plain_is text.now }
 {
-    for b in text {
-        out.push(shown_or_space(*b))?;
-    }
-    Ok(())
+    text.iter().all(|b| is_plain(*b))
 }
 
-// Whether the text has no control characters.
-pub fn is_one_line(text: &[u8]) -> bool
-    ensures { result ≡ list_all is_shown_is text.now }
+fn is_plain(octet: u8) -> bool
+    ensures { result ≡ is_plain_is octet }
 {
-    text.iter().all(|b| is_shown(*b))
-}
-
-fn shown_or_space(b: u8) -> u8
-    ensures { result ≡ (if is_shown_is b then b else 32) }
-{
-    if is_shown(b) { b } else { b' ' }
-}
-
-fn is_shown(octet: u8) -> bool
-    ensures { result ≡ is_shown_is octet }
-{
-    octet >= b' ' && octet != 127
+    octet >= b' ' && octet < 127
 }
 
 // Pushes a number, with spaces before it where it has fewer digits than the width.

@@ -14,18 +14,23 @@
 //!
 //! The line of a row has its offset, the sizes of its header and of its contents octets, its field, its type, its
 //! value, what is wrong with it, and what of DER it breaks. [`Printer::push_note`] prints a line about documents: `=`
-//! and a title, or `!` and what is wrong. No line has a control character, by [`law_one_line`].
+//! and a title, or `!` and what is wrong. No line has a control character or one that is invisible: `\u{..}` stands in
+//! its place.
+//!
+//! A page begins by [`push_head`] and ends by [`push_foot`]. Nothing of a document stands on it but escaped, or in
+//! digits.
 //!
 //! The errors are that memory ran out, and that a write failed. What was written before stays.
 #![tactic(auto)]
 
+mod color;
 mod columns;
-mod laws;
 mod line;
+mod page;
 mod printer;
 mod row;
 
-pub use laws::law_one_line;
 pub use line::NoteKind;
+pub use page::frame::{push_foot, push_head};
 pub use printer::{Look, Printer};
 pub use row::Row;

@@ -1,14 +1,16 @@
 // Lines of rows and of notes, in a look.
-ghost use Rattle.std.specs.Prelude.{◌≡◌, ◌∷◌, ◌++◌, [], OnOk};
+ghost use Rattle.std.specs.Prelude.{◌≡◌, ◌∷◌, [], IfOk, OnOk, string_bytes};
 ghost use Rattle.der_rows.specs.Printing.{Pushes};
-ghost use Rattle.der_rows.specs.Rows.{columns_text, fault_line, fault_message, is_error as is_error_is, note_line, note_mark, on_one_line, row_line};
+ghost use Rattle.der_rows.specs.Rows.{columns_text, fault_message, note_mark, row_line};
+ghost use Rattle.der_rows.specs.Shown.{IsShown, shown_text};
 
-use crate::columns::{is_one_line, push_columns, push_on_one_line};
+use crate::color::{Paint, push_painted};
+use crate::columns::{is_plain_text, push_columns};
+use crate::page::element::push_element_end;
+use crate::page::markup::push_text;
 use crate::printer::Look;
 use crate::row::Row;
-use der_color::{Paint, push_painted};
-use der_html::{push_element_end, push_text};
-use itoa::Buffer;
+use der_io::push_shown;
 use std::alloc::{AllocError, Global};
 
 /// What a line is that is not of a row.
@@ -27,14 +29,14 @@ pub fn push_row_line(
     row: &Row<'_>,
     out: &mut Vec<u8>,
 ) -> Result<(), AllocError>
-    ensures { OnOk result (Pushes look [] (row_line row.now) out.old.items out.new.items) }
+    ensures { OnOk result (Pushes look (row_line row.now) out.old.items out.new.items) }
 {
     push_columns_in(alloc, look, row, out)?;
-    push_part_on_one_line(alloc, look, Paint::Bold, row.field.as_bytes(), out)?;
-    push_part_on_one_line(alloc, look, Paint::Cyan, row.type_name.as_bytes(), out)?;
-    push_part_on_one_line(alloc, look, Paint::Plain, row.value.as_bytes(), out)?;
-    push_fault_message(alloc, look, row, out)?;
-    push_part_on_one_line(alloc, look, Paint::Red, row.mark, out)?;
+    push_part(alloc, look, Paint::Bold, row.field, out)?;
+    push_part(alloc, look, Paint::Cyan, row.type_name, out)?;
+    push_part(alloc, look, Paint::Default, row.value, out)?;
+    push_part(alloc, look, Paint::Red, message_of(row), out)?;
+    push_part(alloc, look, Paint::Red, row.mark, out)?;
     Ok(())
 }
 
@@ -44,54 +46,50 @@ fn push_columns_in(
     row: &Row<'_>,
     out: &mut Vec<u8>,
 ) -> Result<(), AllocError>
-    ensures { OnOk result (Pushes look [] (columns_text row.now) out.old.items out.new.items) }
+    ensures { OnOk result (Pushes look (columns_text row.now) out.old.items out.new.items) }
 {
     match look {
         Look::Plain => push_columns(row, out),
         Look::Colored | Look::Page => {
             let mut columns = Vec::new(alloc);
             push_columns(row, &mut columns)?;
-            push_part(look, Paint::Dim, &columns, out)
+            push_in(look, Paint::Dim, &columns, out)
         }
     }
 }
 
-// Pushes what is wrong, if anything is.
-fn push_fault_message(
-    alloc: Global,
-    look: Look,
-    row: &Row<'_>,
-    out: &mut Vec<u8>,
-) -> Result<(), AllocError>
-    ensures { OnOk result (Pushes look [] (on_one_line (fault_message row.now)) out.old.items out.new.items) }
+// What is wrong with a row, if anything is.
+fn message_of<'a>(row: &Row<'a>) -> &'a str
+    ensures { result.now ≡ fault_message row.now }
 {
     match row.fault {
-        Some(message) => push_part_on_one_line(alloc, look, Paint::Red, message.as_bytes(), out),
-        None => push_part(look, Paint::Red, b"", out),
+        Some(message) => message,
+        None => "",
     }
 }
 
-// Pushes text with a space in the place of each control character.
-fn push_part_on_one_line(
+// Pushes text with each character escaped that is not shown.
+pub fn push_part(
     alloc: Global,
     look: Look,
     paint: Paint,
-    text: &[u8],
+    text: &str,
     out: &mut Vec<u8>,
 ) -> Result<(), AllocError>
-    ensures { OnOk result (Pushes look [] (on_one_line text.now) out.old.items out.new.items) }
+    ensures { OnOk result (Pushes look (shown_text text.now) out.old.items out.new.items) }
 {
-    if is_one_line(text) {
-        return push_part(look, paint, text, out);
+    if is_plain_text(text.as_bytes()) {
+        return push_in(look, paint, text.as_bytes(), out);
     }
-    let mut line = Vec::new(alloc);
-    push_on_one_line(text, &mut line)?;
-    push_part(look, paint, &line, out)
+    let mut shown = String::new(alloc);
+    push_shown(text, &mut shown)?;
+    push_in(look, paint, shown.as_bytes(), out)
 }
 
-// Pushes text in a look, in a color if it has colors.
-pub fn push_part(look: Look, paint: Paint, text: &[u8], out: &mut Vec<u8>) -> Result<(), AllocError>
-    ensures { OnOk result (Pushes look [] text.now out.old.items out.new.items) }
+// Pushes text that is shown in a look, in a color if it has colors.
+fn push_in(look: Look, paint: Paint, text: &[u8], out: &mut Vec<u8>) -> Result<(), AllocError>
+    requires { IsShown text.now }
+    ensures { OnOk result (Pushes look text.now out.old.items out.new.items) }
 {
     match look {
         Look::Plain => out.extend_from_slice(text),
@@ -102,51 +100,39 @@ pub fn push_part(look: Look, paint: Paint, text: &[u8], out: &mut Vec<u8>) -> Re
 
 // Pushes the end of a line, or of what an element of a page shows.
 pub fn push_end(look: Look, is_fold: bool, out: &mut Vec<u8>) -> Result<(), AllocError>
-    ensures { OnOk result (Pushes look [] (10 ∷ []) out.old.items out.new.items) }
+    ensures { OnOk result (Pushes look (10 ∷ []) out.old.items out.new.items) }
 {
     match look {
         Look::Plain => out.extend_from_slice(b"\n"),
-        Look::Colored => push_painted(Paint::Plain, b"\n", out),
+        Look::Colored => out.extend_from_slice(b"\n"),
         Look::Page => push_element_end(is_fold, out),
     }
 }
 
-// Pushes the line of a note, without its end.
-pub fn push_note_line(kind: NoteKind, text: &[u8], out: &mut Vec<u8>) -> Result<(), AllocError>
-    ensures { OnOk result (out.new.items ≡ out.old.items ++ note_line kind text.now) }
+// The line of a note, without its end.
+pub fn note_line(alloc: Global, kind: NoteKind, text: &str) -> Result<String, AllocError>
+    ensures { IfOk result (λ line. string_bytes line ≡ note_mark kind ∷ 32 ∷ text.now) }
 {
-    out.push(mark_octet(kind))?;
-    out.push(b' ')?;
-    push_on_one_line(text, out)?;
-    Ok(())
+    let mark = mark_of(kind);
+    format!(in alloc; "{mark} {text}")
 }
 
-// Pushes the line of a fault, without its end.
-pub fn push_fault_line(offset: usize, message: &[u8], out: &mut Vec<u8>) -> Result<(), AllocError>
-    ensures { OnOk result (out.new.items ≡ out.old.items ++ fault_line offset message.now) }
-{
-    let mut digits = Buffer::new();
-    out.extend_from_slice(b"! error at offset ")?;
-    out.extend_from_slice(digits.format(offset).as_bytes())?;
-    out.push(b':')?;
-    out.push(b' ')?;
-    push_on_one_line(message, out)?;
-    Ok(())
+// The line of a fault, without its end.
+pub fn fault_line(alloc: Global, offset: usize, message: &str) -> Result<String, AllocError> {
+    format!(in alloc; "! error at offset {offset}: {message}")
 }
 
-fn mark_octet(kind: NoteKind) -> u8
-    ensures { result ≡ note_mark kind }
+fn mark_of(kind: NoteKind) -> &'static str
+    ensures { result.now ≡ note_mark kind ∷ [] }
 {
     match kind {
-        NoteKind::Title => b'=',
-        NoteKind::Error => b'!',
+        NoteKind::Title => "=",
+        NoteKind::Error => "!",
     }
 }
 
 // Whether a note says that something is wrong.
-pub fn is_error(kind: NoteKind) -> bool
-    ensures { result ≡ is_error_is kind }
-{
+pub fn is_error(kind: NoteKind) -> bool {
     match kind {
         NoteKind::Title => false,
         NoteKind::Error => true,

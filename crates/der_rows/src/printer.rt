@@ -1,20 +1,18 @@
 // A printer, which writes rows and notes one behind another.
-ghost use Rattle.std.specs.Prelude.{◌≡◌, ◌∷◌, ◌++◌, [], is_some, true, OnOk};
+ghost use Rattle.std.specs.Prelude.{◌≡◌, ◌∷◌, ◌++◌, [], OnOk};
 ghost use Rattle.std.specs.Io.KnownBytes.{Appends};
-ghost use Rattle.der_html.specs.Page.{Shows};
-ghost use Rattle.der_rows.specs.Printing.{Prints, PrintsOctets, Pushes};
-ghost use Rattle.der_rows.specs.Rows.{fault_line, is_error as is_error_is, note_line, row_line};
+ghost use Rattle.der_rows.specs.Printing.{Adds, Prints, PrintsPage, PrintsText, Pushes};
+ghost use Rattle.der_rows.specs.Rows.{row_line};
+ghost use Rattle.der_rows.specs.declared.printer.Look.TheVariants.{Page};
 
 use crate::columns::MOST_LEVELS;
 use crate::line::{
-    NoteKind, is_error, paint_of, push_end, push_fault_line, push_note_line, push_part,
-    push_row_line,
+    NoteKind, fault_line, is_error, note_line, paint_of, push_end, push_part, push_row_line,
 };
+use crate::page::element::{Columns, Element, push_element_start, push_fold_end};
+use crate::page::markup::push_octets;
+use crate::page::section::{push_octets_start, push_section_end, push_section_start};
 use crate::row::Row;
-use der_html::{
-    Columns, Element, push_element_start, push_fold_end, push_octets, push_octets_start,
-    push_section_end, push_section_start,
-};
 use der_io::{StreamFault, write_part};
 use std::alloc::{AllocError, Global};
 use std::io::Write;
@@ -67,8 +65,7 @@ impl<W: Write> Printer<W> {
     /// # Errors
     /// `Memory`, after which nothing of it was written; `Write`, after which nothing is known of what was.
     pub fn push(&mut self, row: &Row<'_>) -> Result<(), StreamFault>
-        ensures { OnOk result (Prints W.contents (is_some row.now.fault ∷ []) (row_line row.now ++ 10 ∷ [])
-            self.old self.new) }
+        ensures { OnOk result (Prints W.contents (row_line row.now ++ 10 ∷ []) self.old self.new) }
     {
         let is_fold = row.has_rows_inside && row.depth < MOST_LEVELS;
         self.begin(row.depth.min(MOST_LEVELS), element_of(row, is_fold))?;
@@ -78,38 +75,32 @@ impl<W: Write> Printer<W> {
         Ok(())
     }
 
-    /// Prints a line of another kind, on which a space stands in the place of each control character. On a page its
-    /// element has the class `fault` exactly if it says that something is wrong.
+    /// Prints a line of another kind, on which each character is escaped that is not shown. On a page its element has
+    /// the class `fault` exactly if it says that something is wrong.
     ///
     /// # Errors
     /// Those of [`Printer::push`].
-    pub fn push_note(&mut self, kind: NoteKind, text: &[u8]) -> Result<(), StreamFault>
-        ensures { OnOk result (Prints W.contents (is_error_is kind ∷ []) (note_line kind text.now ++ 10 ∷ [])
-            self.old self.new) }
+    pub fn push_note(&mut self, kind: NoteKind, text: &str) -> Result<(), StreamFault>
+        ensures { OnOk result (PrintsText W.contents self.old self.new) }
     {
-        let mut line = Vec::new(self.alloc);
-        push_note_line(kind, text, &mut line)?;
-        self.push_noted(kind, &line)?;
-        Ok(())
+        let line = note_line(self.alloc, kind, text)?;
+        self.push_noted(kind, &line)
     }
 
     /// Prints the line of a fault: its offset, and the message.
     ///
     /// # Errors
     /// Those of [`Printer::push`].
-    pub fn push_fault(&mut self, offset: usize, message: &[u8]) -> Result<(), StreamFault>
-        ensures { OnOk result (Prints W.contents (true ∷ []) (fault_line offset message.now ++ 10 ∷ [])
-            self.old self.new) }
+    pub fn push_fault(&mut self, offset: usize, message: &str) -> Result<(), StreamFault>
+        ensures { OnOk result (PrintsText W.contents self.old self.new) }
     {
-        let mut line = Vec::new(self.alloc);
-        push_fault_line(offset, message, &mut line)?;
-        self.push_noted(NoteKind::Error, &line)?;
-        Ok(())
+        let line = fault_line(self.alloc, offset, message)?;
+        self.push_noted(NoteKind::Error, &line)
     }
 
     // Prints the line of a note.
-    fn push_noted(&mut self, kind: NoteKind, line: &[u8]) -> Result<(), StreamFault>
-        ensures { OnOk result (Prints W.contents (is_error_is kind ∷ []) (line.now ++ 10 ∷ []) self.old self.new) }
+    fn push_noted(&mut self, kind: NoteKind, line: &str) -> Result<(), StreamFault>
+        ensures { OnOk result (PrintsText W.contents self.old self.new) }
     {
         let element = Element {
             is_fold: false,
@@ -117,7 +108,7 @@ impl<W: Write> Printer<W> {
             columns: None,
         };
         self.begin(0, element)?;
-        push_part(self.look, paint_of(kind), line, &mut self.line)?;
+        push_part(self.alloc, self.look, paint_of(kind), line, &mut self.line)?;
         push_end(self.look, false, &mut self.line)?;
         self.write_made()?;
         Ok(())
@@ -128,7 +119,7 @@ impl<W: Write> Printer<W> {
     /// # Errors
     /// Those of [`Printer::push`].
     pub fn end_folds(&mut self) -> Result<(), StreamFault>
-        ensures { OnOk result (Prints W.contents [] [] self.old self.new) }
+        ensures { OnOk result (Prints W.contents [] self.old self.new) }
     {
         self.line.clear();
         close_folds(self.look, 0, &mut self.folds, &mut self.line)?;
@@ -141,7 +132,7 @@ impl<W: Write> Printer<W> {
     /// # Errors
     /// Those of [`Printer::push`].
     pub fn begin_section(&mut self) -> Result<(), StreamFault>
-        ensures { OnOk result (PrintsOctets W.contents [] self.old self.new) }
+        ensures { OnOk result (PrintsPage W.contents self.old self.new) }
     {
         self.line.clear();
         push_section_start(&mut self.line)?;
@@ -154,7 +145,7 @@ impl<W: Write> Printer<W> {
     /// # Errors
     /// Those of [`Printer::push`].
     pub fn end_section(&mut self, octets: &[u8]) -> Result<(), StreamFault>
-        ensures { OnOk result (PrintsOctets W.contents octets.now self.old self.new) }
+        ensures { OnOk result (PrintsPage W.contents self.old self.new) }
     {
         self.begin_octets()?;
         self.push_octets(octets)?;
@@ -163,7 +154,7 @@ impl<W: Write> Printer<W> {
     }
 
     fn begin_octets(&mut self) -> Result<(), StreamFault>
-        ensures { OnOk result (PrintsOctets W.contents [] self.old self.new) }
+        ensures { OnOk result (PrintsPage W.contents self.old self.new) }
     {
         self.line.clear();
         push_octets_start(&mut self.line)?;
@@ -172,7 +163,7 @@ impl<W: Write> Printer<W> {
     }
 
     fn end_octets(&mut self) -> Result<(), StreamFault>
-        ensures { OnOk result (PrintsOctets W.contents [] self.old self.new) }
+        ensures { OnOk result (PrintsPage W.contents self.old self.new) }
     {
         self.line.clear();
         push_section_end(&mut self.line)?;
@@ -182,7 +173,7 @@ impl<W: Write> Printer<W> {
 
     // Prints octets, in parts.
     fn push_octets(&mut self, octets: &[u8]) -> Result<(), StreamFault>
-        ensures { OnOk result (PrintsOctets W.contents octets.now self.old self.new) }
+        ensures { OnOk result (PrintsPage W.contents self.old self.new) }
     {
         let mut rest = octets;
         while !rest.is_empty() {
@@ -194,7 +185,7 @@ impl<W: Write> Printer<W> {
     }
 
     fn push_octets_part(&mut self, octets: &[u8]) -> Result<(), StreamFault>
-        ensures { OnOk result (PrintsOctets W.contents octets.now self.old self.new) }
+        ensures { OnOk result (PrintsPage W.contents self.old self.new) }
     {
         self.line.clear();
         push_octets(octets, &mut self.line)?;
@@ -224,7 +215,7 @@ impl<W: Write> Printer<W> {
     fn begin(&mut self, level: usize, element: Element) -> Result<(), AllocError>
         ensures look { OnOk result (self.new.look ≡ self.old.look) }
         ensures out { OnOk result (self.new.out ≡ self.old.out) }
-        ensures line { OnOk result (Pushes self.old.look (element.is_fault ∷ []) [] [] self.new.line.items) }
+        ensures line { OnOk result (Pushes self.old.look [] [] self.new.line.items) }
     {
         self.line.clear();
         close_folds(self.look, level, &mut self.folds, &mut self.line)?;
@@ -241,7 +232,7 @@ fn close_folds(
     folds: &mut Vec<usize>,
     out: &mut Vec<u8>,
 ) -> Result<(), AllocError>
-    ensures { OnOk result (Pushes look [] [] out.old.items out.new.items) }
+    ensures { OnOk result (Pushes look [] out.old.items out.new.items) }
 {
     match look {
         Look::Plain => Ok(()),
@@ -251,7 +242,7 @@ fn close_folds(
 }
 
 fn end_folds(level: usize, folds: &mut Vec<usize>, out: &mut Vec<u8>) -> Result<(), AllocError>
-    ensures { OnOk result (Shows [] [] [] out.old.items out.new.items) }
+    ensures { OnOk result (Adds Page out.old.items out.new.items) }
 {
     while let Some(last) = folds.last().copied() {
         if last < level {
@@ -273,7 +264,7 @@ fn open_fold(is_fold: bool, level: usize, folds: &mut Vec<usize>) -> Result<(), 
 
 // Pushes the beginning of an element. Lines have none.
 fn begin_element(look: Look, element: Element, out: &mut Vec<u8>) -> Result<(), AllocError>
-    ensures { OnOk result (Pushes look (element.is_fault ∷ []) [] out.old.items out.new.items) }
+    ensures { OnOk result (Pushes look [] out.old.items out.new.items) }
 {
     match look {
         Look::Plain => Ok(()),
@@ -283,9 +274,7 @@ fn begin_element(look: Look, element: Element, out: &mut Vec<u8>) -> Result<(), 
 }
 
 // The element of a row.
-fn element_of(row: &Row<'_>, is_fold: bool) -> Element
-    ensures { result.is_fault ≡ is_some row.now.fault }
-{
+fn element_of(row: &Row<'_>, is_fold: bool) -> Element {
     let contents = if row.is_indefinite {
         None
     } else {

@@ -27,5 +27,5 @@ pub struct Row<'a> {
     /// What is wrong with it, as it stands behind the value.
     pub fault: Option<&'a str>,
     /// What of DER it breaks, as it stands at the end; nothing if it breaks nothing.
-    pub mark: &'a [u8],
+    pub mark: &'a str,
 }

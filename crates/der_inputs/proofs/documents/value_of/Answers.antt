@@ -1,8 +1,7 @@
 -- For `documents::value_of`: what it returns is right.
 use Rattle.std.proofs.lemmas.Result.{IfOk-weaker}
 use Rattle.std.specs.Prelude.{IfOk, MatchOption, Some}
-use Rattle.der_inputs.specs.Findings.{IsBlockAt}
-use Rattle.der_inputs.specs.Parts.{octets_in}
+use Rattle.der_inputs.specs.Blocks.{IsBlockAt, octets_in}
 use Rattle.der_inputs.proofs.Blocks.{IsValueAt-block}
 use Rattle.der_elements.specs.StringOctets.{HoldsNoOctets, HoldsOctets}
 use Rattle.der_inputs.proofs.documents.value_of.Goals as goal

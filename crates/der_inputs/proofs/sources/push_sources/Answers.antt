@@ -1,9 +1,8 @@
--- For `sources::push_sources`: its loop keeps its invariant, and what it returns is right.
+-- For `sources::push_sources`: its loop begins with its invariant and keeps it, and what it returns is right.
 use Rattle.std.proofs.Common.{◌≡◌, arith, map, subst, sym, take, ◌∙◌}
 use Rattle.std.proofs.lemmas.List.{take_all}
 use Rattle.der_io.specs.Output.{IsWritten}
-use Rattle.der_inputs.specs.Inputs.{IsInputText, input_of}
-use Rattle.der_inputs.specs.Parts.{IsBegunText, wanted_of}
+use Rattle.der_inputs.specs.Inputs.{IsFramed, IsInputText, is_page}
 use Rattle.der_inputs.specs.Texts.{AreTexts}
 use Rattle.der_inputs.proofs.Readers.{AreReadToEnds-next_source, IsWritten-next_source, drop-set_next}
 use Rattle.der_inputs.proofs.sources.push_sources.Goals as goal
@@ -24,9 +23,8 @@ loop-source-preserved g c =
     record {
       written =
           IsWritten-next_source i all now l n left c.push.result were are last e p
-          (IsInputText (wanted_of c.args.show.now))
-          (λ source. input_of source.name.now (g.R.Read.remaining source.reader)) c.source-item.result
-          c.loop-source.is_begun c.push_source.new.is_begun c.args.show.now.format
+          (IsInputText c.args.show.now.task) (λ source. g.R.Read.remaining source.reader) c.source-item.result
+          (is_page c.args.show.now.format)
           (g.W.Write.contents c.args.printer.now.out) (g.W.Write.contents c.loop-source.printer.out)
           (g.W.Write.contents c.push_source.new.printer.out) c.loop-source.invariant.written
           c.in_ok-outcome.ensures.written;
@@ -44,8 +42,7 @@ returns-clause-written g c =
     let whole : take i all ≡ all =
     let same = c.loop-source.auto.sources in
     let passed = c.loop-source-test.false in take_all i all (omega (arith, same, passed)) in
-    subst (λ z. IsWritten (IsBegunText c.loop-source.is_begun c.args.show.now.format
-    (AreTexts (IsInputText (wanted_of c.args.show.now))
-    (map (λ source. input_of source.name.now (g.R.Read.remaining source.reader)) z) c.loop-source.outcomes.items))
+    subst (λ z. IsWritten (IsFramed (is_page c.args.show.now.format) (AreTexts (IsInputText c.args.show.now.task)
+    (map (λ source. g.R.Read.remaining source.reader) z) c.loop-source.outcomes.items))
     (g.W.Write.contents c.args.printer.now.out) (g.W.Write.contents c.loop-source.printer.out)) whole
     c.loop-source.invariant.written

@@ -9,8 +9,8 @@ use Rattle.der_lines.proofs.document.push_dump.Goals as goal
 pub returns-then-is_empty : goal.returns-then-is_empty
 returns-then-is_empty g c =
     let none : length c.args.octets.now ≡ 0 = grind (arith, common_steps) in
-    IsPrinted-weaker g.W.Write.contents _ _ c.args.printer.now c.push_fault_line.new.printer
-    (λ text line. inr (nil_from_length c.args.octets.now none, refl, line)) c.in_ok-push_fault_line.ensures
+    let (text, prints) = c.in_ok-push_fault_line.ensures in
+    (text, prints, inr (nil_from_length c.args.octets.now none, refl))
 
 pub returns : goal.returns
 returns g c =

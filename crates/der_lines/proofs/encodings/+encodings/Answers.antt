@@ -3,7 +3,7 @@ use Rattle.std.proofs.Common.{◌≡◌, ◌∙◌, ◌+◌, [], ap, arith, refl
 use Rattle.std.specs.Prelude.{None}
 use Rattle.der_lines.specs.Dump.{no_lines, no_more}
 use Rattle.std.proofs.lemmas.Result.{IfOk-weaker}
-use Rattle.der_lines.specs.PieceRows.{IsPieceDump, row_faults}
+use Rattle.der_lines.specs.PieceRows.{IsPieceDump}
 use Rattle.der_pieces.specs.Pieces.{Passes, kind_header}
 use Rattle.der_pieces.specs.Steps.{IsAhead}
 use Rattle.der_lines.specs.Steps.{earlier_fault, mark_offsets}
@@ -80,4 +80,4 @@ push_piece-returns g t c =
     c.args.printer.now c.push_row.new.printer c.push_nested.new.printer
     (λ first rest line more. record
     { first = first; rest = rest; text_is = refl; line = line; inside = more.0; marked = more.1 })
-    (row_faults piece, c.in_ok-push_row.ensures) (inside left holding)) c.push_nested.ensures
+    c.in_ok-push_row.ensures (inside left holding)) c.push_nested.ensures

@@ -1,5 +1,6 @@
 -- For `lines::push_rules`: what each turn of its loop keeps.
 use Rattle.std.proofs.Common.{◌≡◌, ◌++◌, false, map, take}
+use Rattle.std.specs.Prelude.{string_bytes}
 use Rattle.der_pieces.specs.Marks.{are_some, breach_of}
 use Rattle.der_lines.specs.MarkText.{breaches_text}
 use Rattle.der_lines.proofs.lines.push_rules.Given as goal
@@ -8,5 +9,5 @@ use Rattle.der_lines.proofs.lines.push_rules.Given as goal
 abbrev pub invariant-loop-rule : goal.invariant-loop-rule
 invariant-loop-rule l = record {
   some : l.is_later ≡ are_some (map breach_of (take l.rule-index l.rules));
-  put : l.out.items ≡ l.fn.out.items ++ breaches_text false (map breach_of (take l.rule-index l.rules));
+  put : string_bytes l.out ≡ string_bytes l.fn.out ++ breaches_text false (map breach_of (take l.rule-index l.rules));
 }

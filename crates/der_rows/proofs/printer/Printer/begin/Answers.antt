@@ -1,5 +1,5 @@
 -- For `printer::Printer::begin`: what it returns is right.
-use Rattle.std.proofs.Common.{[], ◌∷◌, refl, subst}
+use Rattle.std.proofs.Common.{[], refl, subst}
 use Rattle.der_rows.specs.Printing.{Pushes}
 use Rattle.der_rows.proofs.Printed.{Pushes-append}
 use Rattle.der_rows.proofs.printer.Printer.begin.Goals as goal
@@ -7,12 +7,11 @@ use Rattle.der_rows.proofs.printer.Printer.begin.Goals as goal
 pub returns : goal.returns
 returns g c =
     let look = c.args.self.now.look in
-    let faults = c.args.element.is_fault ∷ [] in
     record {
       look = refl;
       out = refl;
-      line = Pushes-append look [] faults [] [] [] _ _
-          (subst (λ z. Pushes look [] [] z c.close_folds.new.out.items) c.clear.ensures.items
+      line = Pushes-append look [] [] [] _ _
+          (subst (λ z. Pushes look [] z c.close_folds.new.out.items) c.clear.ensures.items
           c.in_ok-close_folds.ensures)
           c.in_ok-begin_element.ensures;
     }

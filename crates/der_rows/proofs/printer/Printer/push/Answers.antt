@@ -1,7 +1,6 @@
 -- For `printer::Printer::push`: what it returns is right.
-use Rattle.std.proofs.Common.{[], ◌∷◌, ap, subst, ◌∙◌}
+use Rattle.std.proofs.Common.{[], subst, ◌∙◌}
 use Rattle.std.specs.Io.KnownBytes.{Appends}
-use Rattle.std.specs.Option.{is_some}
 use Rattle.der_rows.specs.Rows.{row_line}
 use Rattle.der_rows.proofs.Printed.{Pushes-line}
 use Rattle.der_rows.proofs.printer.Printer.push.Goals as goal
@@ -9,9 +8,8 @@ use Rattle.der_rows.proofs.printer.Printer.push.Goals as goal
 pub returns : goal.returns
 returns g c =
     let begun = c.in_ok-begin.ensures in
-    let made = Pushes-line c.args.self.now.look c.begin.new.self.look (is_some c.args.row.now.fault ∷ []) _
-    (row_line c.args.row.now) [] _ _ _ begun.look
-    (ap (λ z. z ∷ []) c.element_of.ensures) begun.line c.in_ok-push_row_line.ensures c.in_ok-push_end.ensures in (
+    let made = Pushes-line c.args.self.now.look c.begin.new.self.look (row_line c.args.row.now) [] _ _ _ begun.look
+    begun.line c.in_ok-push_row_line.ensures c.in_ok-push_end.ensures in (
       c.in_ok-write_made.ensures.look ∙ begun.look,
       (
         c.push_end.new.out.items,

@@ -1,21 +1,24 @@
 -- For `printer::Printer::push_noted`: what it returns is right.
-use Rattle.std.proofs.Common.{[], ◌∷◌, ap, subst, ◌∙◌}
+use Rattle.std.proofs.Common.{[], ◌∷◌, ◌++◌, subst, ◌∙◌}
 use Rattle.std.specs.Io.KnownBytes.{Appends}
-use Rattle.der_rows.specs.Rows.{is_error}
+use Rattle.der_rows.specs.Shown.{shown_text}
 use Rattle.der_rows.proofs.Printed.{Pushes-line}
 use Rattle.der_rows.proofs.printer.Printer.push_noted.Goals as goal
 
 pub returns : goal.returns
 returns g c =
     let begun = c.in_ok-begin.ensures in
-    let made = Pushes-line c.args.self.now.look c.begin.new.self.look (is_error c.args.kind ∷ []) _ (c.args.line.now) []
-    _ _ _ begun.look
-    (ap (λ z. z ∷ []) c.is_error.ensures) begun.line c.in_ok-push_part.ensures c.in_ok-push_end.ensures in (
-      c.in_ok-write_made.ensures.look ∙ begun.look,
+    let text = shown_text c.args.line.now in
+    let made = Pushes-line c.args.self.now.look c.begin.new.self.look text [] _ _ _ begun.look
+    begun.line c.in_ok-push_part.ensures c.in_ok-push_end.ensures in (
+      text ++ 10 ∷ [],
       (
-        c.push_end.new.out.items,
-        made,
-        subst (λ z. Appends (g.W.Write.contents z) (g.W.Write.contents c.write_made.new.self.out)
-            c.push_end.new.out.items) begun.out c.in_ok-write_made.ensures.written,
+        c.in_ok-write_made.ensures.look ∙ begun.look,
+        (
+          c.push_end.new.out.items,
+          made,
+          subst (λ z. Appends (g.W.Write.contents z) (g.W.Write.contents c.write_made.new.self.out)
+              c.push_end.new.out.items) begun.out c.in_ok-write_made.ensures.written,
+        ),
       ),
     )

@@ -1,13 +1,11 @@
 -- For `printer::Printer::push_octets`: what each turn of its loop keeps and what grows less, so that it ends.
-use Rattle.std.proofs.Common.{◌≡◌, ◌++◌, List, ℕ, length}
-use Rattle.der_rows.specs.Printing.{PrintsOctets}
+use Rattle.std.proofs.Common.{length}
+use Rattle.der_rows.specs.Printing.{PrintsPage}
 use Rattle.der_rows.proofs.printer.Printer.push_octets.Given as goal
 
 -- the octets before the rest were printed
 abbrev pub invariant-loop-rest : goal.invariant-loop-rest
-invariant-loop-rest g l =
-    (printed : List ℕ) × (l.fn.octets ≡ printed ++ l.rest)
-    × PrintsOctets g.W.Write.contents printed l.fn.self l.self
+invariant-loop-rest g l = PrintsPage g.W.Write.contents l.fn.self l.self
 
 abbrev pub decreases-loop-rest : goal.decreases-loop-rest
 decreases-loop-rest g l = length l.rest
