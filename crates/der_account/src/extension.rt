@@ -3,11 +3,12 @@ use crate::lines::Lines;
 use crate::name::{identifier_text, name_text};
 use crate::node::{BIT_STRING, BOOLEAN, IDENTIFIER, INTEGER, Node, OCTET_STRING};
 use asn1_headers::error::ASN1DecodeErr;
+use asn1_headers::tags;
 use asn1_leaves::contents::bit_string;
+use asn1_numbers::number::big_int::signed_value;
 use asn1_outline::headers::Headers;
-use der_values::{NamedBits, address_text, bit_names};
+use der_values::{NamedBits, address_text, bit_names, text_beside};
 use std::alloc::AllocError;
-use std::str;
 
 // Pushes the lines of the extensions that a SEQUENCE of them has.
 pub fn push_extensions(lines: &mut Lines<'_>, extensions: &Node<'_, '_>) -> Result<(), AllocError> {
@@ -79,15 +80,18 @@ fn push_constraints(lines: &mut Lines<'_>, value: &Node<'_, '_>) -> Result<(), A
         return lines.line("authority", "no");
     }
     match parts.get(1) {
-        Some(most) if most.is(INTEGER) => match most.contents() {
-            [count] => {
-                let text = format!(in lines.alloc; "yes, with {count} below it at most")?;
-                lines.line("authority", &text)
-            }
-            _ => lines.line("authority", "yes"),
-        },
+        Some(most) if most.is(INTEGER) => push_most(lines, most),
         _ => lines.line("authority", "yes"),
     }
+}
+
+// An authority below which so many others may stand: an INTEGER.
+fn push_most(lines: &mut Lines<'_>, most: &Node<'_, '_>) -> Result<(), AllocError> {
+    let Some(count) = signed_value(most.contents()) else {
+        return lines.line("authority", "yes");
+    };
+    let text = format!(in lines.alloc; "yes, with {count} below it at most")?;
+    lines.line("authority", &text)
 }
 
 // cRLNumber: the number of a list, in hex digits.
@@ -113,7 +117,7 @@ fn push_comma(text: &mut String) -> Result<(), AllocError> {
     text.push_str(", ")
 }
 
-// Pushes a GeneralName (RFC 5280, section 4.2.1.6).
+// Pushes a GeneralName (RFC 5280, section 4.2.1.6), of which three are characters of an IA5String.
 fn push_name(lines: &Lines<'_>, name: &Node<'_, '_>, text: &mut String) -> Result<(), AllocError> {
     match name.context_tag() {
         Some(1) => push_text(lines, "email:", name, text),
@@ -136,12 +140,12 @@ fn push_text(
     name: &Node<'_, '_>,
     text: &mut String,
 ) -> Result<(), AllocError> {
-    match str::from_utf8(name.contents()) {
-        Ok(characters) => {
+    match text_beside(tags::IA5_STRING, name.contents()) {
+        Some(characters) => {
             text.push_str(kind)?;
             text.push_str(characters)
         }
-        Err(_) => push_octets(lines, kind, name, text),
+        None => push_octets(lines, kind, name, text),
     }
 }
 

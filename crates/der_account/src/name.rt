@@ -134,7 +134,8 @@ pub fn identifier_text(
 pub fn string_text(alloc: Global, value: &Node<'_, '_>) -> Result<Option<String>, AllocError> {
     let contents = value.contents();
     match value.universal_tag() {
-        Some(UTF8_STRING | PRINTABLE_STRING | IA5_STRING) => utf8_text(alloc, contents),
+        Some(UTF8_STRING | PRINTABLE_STRING) => utf8_text(alloc, contents),
+        Some(IA5_STRING) => text_in_form(alloc, Characters::Latin1, contents),
         Some(TELETEX_STRING) => match utf8_text(alloc, contents)? {
             Some(text) => Ok(Some(text)),
             None => text_in_form(alloc, Characters::Latin1, contents),

@@ -29,10 +29,6 @@ pub const IDENTIFIER: Tag = Tag::Universal(tags::OBJECT_IDENTIFIER as u8);
 
 pub const SEQUENCE: Tag = Tag::Universal(tags::SEQUENCE as u8);
 
-pub const UTC_TIME: Tag = Tag::Universal(tags::UTC_TIME as u8);
-
-pub const GENERALIZED_TIME: Tag = Tag::Universal(tags::GENERALIZED_TIME as u8);
-
 // An encoding among those that headers list, by its index.
 #[derive(Clone, Copy)]
 pub struct Node<'h, 'd> {

@@ -1,10 +1,9 @@
 // Numbers, times, algorithms and keys, in a few words.
-use crate::name::{identifier_text, string_text};
-use crate::node::{GENERALIZED_TIME, IDENTIFIER, INTEGER, Node, UTC_TIME};
-use asn1_leaves::contents::{generalized_time, utc_time};
+use crate::name::identifier_text;
+use crate::node::{IDENTIFIER, INTEGER, Node};
 use asn1_outline::headers::Headers;
 use der_names::Names;
-use der_values::moment_text;
+use der_values::{Time, time_of};
 use jiff::civil::DateTime;
 use std::alloc::{AllocError, Global};
 
@@ -19,9 +18,11 @@ const RSA_ENCRYPTION: &[u8] = &[0x2A, 0x86, 0x48, 0x86, 0xF7, 0x0D, 1, 1, 1];
 const EC_PUBLIC_KEY: &[u8] = &[0x2A, 0x86, 0x48, 0xCE, 0x3D, 2, 1];
 
 // An INTEGER in hex digits, behind a minus sign where it is negative, without zeros in front, two digits an octet.
+// Without octets it is 0.
 pub fn serial_text(alloc: Global, number: &Node<'_, '_>) -> Result<String, AllocError> {
     let octets = number.contents();
     match octets {
+        [] => String::from_str(alloc, "00"),
         [first, ..] if *first >= 0x80 => negative_text(alloc, octets),
         _ => hex::encode_upper(alloc, without_zeros(octets)),
     }
@@ -60,25 +61,19 @@ fn bit_count(octets: &[u8]) -> usize {
     }
 }
 
-// The moment of a time in the form of DER.
-pub fn moment_of(time: &Node<'_, '_>) -> Option<DateTime> {
-    if time.is(UTC_TIME) {
-        utc_time::moment(time.contents())
-    } else if time.is(GENERALIZED_TIME) {
-        generalized_time::moment(time.contents())
-    } else {
-        None
+// The value of a time.
+fn time_in(alloc: Global, time: &Node<'_, '_>) -> Result<Option<Time>, AllocError> {
+    match time.universal_tag() {
+        Some(tag) => time_of(alloc, tag, time.contents()),
+        None => Ok(None),
     }
 }
 
-// A time, or what stands in its place.
+// A time, or its contents octets in hex digits where they have no value.
 pub fn time_text(alloc: Global, time: &Node<'_, '_>) -> Result<String, AllocError> {
-    match moment_of(time) {
-        Some(moment) => moment_text(alloc, &moment, ""),
-        None => match string_text(alloc, time)? {
-            Some(text) => Ok(text),
-            None => format!(in alloc; "{}", hex::encode(alloc, time.contents())?),
-        },
+    match time_in(alloc, time)? {
+        Some(Time { text, .. }) => Ok(text),
+        None => hex::encode(alloc, time.contents()),
     }
 }
 
@@ -93,15 +88,27 @@ pub fn end_text(
         text.push_str(" (no end)")?;
         return Ok(text);
     }
-    if let (Some(end), Some(now)) = (moment_of(time), now) {
-        let days = now.duration_until(end).as_secs() / SECONDS_OF_DAY;
-        if end < now {
-            write!(text, " (ended {} days ago)", days.unsigned_abs())?;
-        } else {
-            write!(text, " ({days} days left)")?;
-        }
+    if let (Some(end), Some(now)) = (time_in(alloc, time)?, now) {
+        push_days(&end, now, &mut text)?;
     }
     Ok(text)
+}
+
+// Pushes how many days are left until a time, or how many it is past. A local time may be in any zone.
+fn push_days(end: &Time, now: DateTime, text: &mut String) -> Result<(), AllocError> {
+    let Some(ahead) = end.ahead else {
+        return Ok(());
+    };
+    let left = now
+        .duration_until(end.moment)
+        .as_secs()
+        .saturating_sub(ahead);
+    let days = left / SECONDS_OF_DAY;
+    if left < 0 {
+        write!(text, " (ended {} days ago)", days.unsigned_abs())
+    } else {
+        write!(text, " ({days} days left)")
+    }
 }
 
 // The name of an AlgorithmIdentifier's algorithm.

@@ -85,8 +85,8 @@ IsValue class tag contents (WideText form characters) = is_wide class tag ≡ tr
 IsValue class tag contents (OtherText characters) =
     IsNoLeaf class tag true × (is_string tag contents ≡ true) × (string_bytes characters ≡ contents)
 IsValue class tag contents (Notation shown) = IsNoLeaf class tag true × (has_notation tag ≡ true)
-IsValue class tag contents (OfMoment words) = IsMomentOf class tag contents (string_bytes words)
-IsValue class tag contents (BerTime shown) = IsBerTime class tag contents
+IsValue class tag contents (OfMoment time) = IsMomentOf class tag contents (string_bytes time.text)
+IsValue class tag contents (BerTime time) = IsBerTime class tag contents
 IsValue class tag contents (Other shown) = IsNoLeaf class tag false × ((tag == ENUMERATED) ≡ false)
 IsValue class tag contents (Tagged value) = class ≢ Universal
 IsValue class tag contents (NoText shown) =

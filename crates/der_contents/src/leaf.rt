@@ -26,7 +26,7 @@ use asn1_leaves::oid;
 use asn1_numbers::number::big_int::BigInt;
 use der_elements::element_header::{has_tag, universal_tag};
 use der_values::{
-    Characters, Role, fraction_digits, has_text, moment_text, string_of, text_in_form, time_text,
+    Characters, Role, Time, ber_time, fraction_digits, has_text, string_of, text_in_form, time_at,
     value_text,
 };
 use std::alloc::{AllocError, Global};
@@ -58,8 +58,8 @@ pub fn read_contents(
         Ok(value) => return Ok(right(value)),
         Err(error) => error,
     };
-    if let Some(text) = time_of(alloc, header, contents)? {
-        return Ok(right(LeafValue::BerTime(text)));
+    if let Some(time) = time_of(alloc, header, contents)? {
+        return Ok(right(LeafValue::BerTime(time)));
     }
     let universal = universal_tag(header).map(u64::from);
     let fault = leaf_fault(alloc, offset, universal, contents, &error)?;
@@ -203,8 +203,8 @@ fn utc_value(alloc: Global, contents: &[u8]) -> Result<LeafValue, ASN1DecodeErr>
     ensures refused { IfErr result (OutOfMemoryOr (LeafFault UTC_TIME contents.now)) }
 {
     let moment = utc_time::read(alloc, contents)?;
-    let text = moment_text(alloc, &moment, "")?;
-    Ok(LeafValue::Moment(text))
+    let time = time_at(alloc, moment, "")?;
+    Ok(LeafValue::Moment(time))
 }
 
 // A GeneralizedTime has each digit of its fraction, where a moment has nine at most.
@@ -214,8 +214,8 @@ fn generalized_value(alloc: Global, contents: &[u8]) -> Result<LeafValue, ASN1De
 {
     let moment = generalized_time::read(alloc, contents)?;
     let digits = fraction_digits(contents);
-    let text = moment_text(alloc, &moment, digits)?;
-    Ok(LeafValue::Moment(text))
+    let time = time_at(alloc, moment, digits)?;
+    Ok(LeafValue::Moment(time))
 }
 
 // Octets of a UniversalString that the library takes for UTF-8 are no characters of it, unless there are none.
@@ -318,12 +318,12 @@ fn is_read(alloc: Global, header: &Header, contents: &[u8]) -> Result<bool, Allo
     }
 }
 
-// The text of a time of BER that is none of DER.
-fn time_of(alloc: Global, header: &Header, contents: &[u8]) -> Result<Option<String>, AllocError>
+// The value of a time of BER that is none of DER.
+fn time_of(alloc: Global, header: &Header, contents: &[u8]) -> Result<Option<Time>, AllocError>
     ensures { IfOk result (λ found. IfSome found (λ _. IsBerTime header.now.class header.now.tag contents.now)) }
 {
     match universal_tag(header) {
-        Some(tag) => time_text(alloc, u64::from(tag), contents),
+        Some(tag) => ber_time(alloc, u64::from(tag), contents),
         None => Ok(None),
     }
 }

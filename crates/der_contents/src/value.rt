@@ -12,7 +12,7 @@ use asn1_leaves::contents::bit_string;
 use asn1_leaves::oid;
 use asn1_leaves::oid::OID;
 use asn1_numbers::number::big_int::BigInt;
-use der_values::{Characters, Role, address_text, bit_names, long_identifier};
+use der_values::{Characters, Role, Time, address_text, bit_names, long_identifier};
 use std::alloc::{AllocError, Global};
 use std::str;
 
@@ -42,10 +42,10 @@ pub enum LeafValue {
     OtherText(String),
     // the value of a REAL and its like, as X.680 or ISO 8601 writes it
     Notation(String),
-    // the text of a UTCTime or a GeneralizedTime
-    Moment(String),
-    // the text of a time of BER that is none of DER
-    BerTime(String),
+    // of a UTCTime or a GeneralizedTime
+    Moment(Time),
+    // of one in a form of BER that is none of DER
+    BerTime(Time),
     // of another type of class Universal: these octets, and their text where they may be some
     Other(Option<String>),
     // of another class

@@ -191,12 +191,12 @@ AreShown-value offset class tag contents (OtherText characters) o ((u, none, has
     as_text u has (of_characters is (ap string same) refl) refl
 AreShown-value offset class tag contents (Notation shown) o ((u, none, has), is) =
     as_text u has (in_notation is (string_bytes shown) refl refl) refl
-AreShown-value offset class tag contents (Moment shown) o (inl (m, is, same)) =
-    AreShown-plain_leaf offset class tag contents (utc_time m) _ refl is (string_bytes shown, same, refl)
-AreShown-value offset class tag contents (Moment shown) o (inr (m, is, (digits, fraction, same))) =
+AreShown-value offset class tag contents (Moment time) o (inl (m, is, same)) =
+    AreShown-plain_leaf offset class tag contents (utc_time m) _ refl is (string_bytes time.text, same, refl)
+AreShown-value offset class tag contents (Moment time) o (inr (m, is, (digits, fraction, same))) =
     AreShown-plain_leaf offset class tag contents (generalized_time m) _ refl is
-    (digits, string_bytes shown, fraction, same, refl)
-AreShown-value offset class tag contents (BerTime shown) o time = as_time time (string_bytes shown) refl refl refl
+    (digits, string_bytes time.text, fraction, same, refl)
+AreShown-value offset class tag contents (BerTime time) o is = as_time is (string_bytes time.text) refl refl refl
 AreShown-value offset class tag contents (Other shown) o ((u, none, has), other) =
     AreShown-other offset class tag contents _ u none o has
     (of_block (enumerated_value-not_enumerated class tag contents u other) refl)

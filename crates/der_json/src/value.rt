@@ -110,9 +110,8 @@ pub fn leaf_value(alloc: Global, contents: &[u8], value: &LeafValue) -> Result<V
         LeafValue::Text(text)
         | LeafValue::WideText(_, text)
         | LeafValue::OtherText(text)
-        | LeafValue::Notation(text)
-        | LeafValue::Moment(text)
-        | LeafValue::BerTime(text) => text_value(alloc, text),
+        | LeafValue::Notation(text) => text_value(alloc, text),
+        LeafValue::Moment(time) | LeafValue::BerTime(time) => text_value(alloc, &time.text),
         LeafValue::Octets(_) | LeafValue::Other(_) | LeafValue::Tagged(_) => {
             octets_value(alloc, contents)
         }

@@ -197,9 +197,8 @@ pub fn write_value(
         LeafValue::OtherText(text) if text.is_empty() => Ok(()),
         LeafValue::OtherText(text) => write_text(out, text),
         LeafValue::Notation(text) if contents.is_empty() && text.is_empty() => Ok(()),
-        LeafValue::Notation(text) | LeafValue::Moment(text) | LeafValue::BerTime(text) => {
-            write!(out, " {text}")
-        }
+        LeafValue::Notation(text) => write!(out, " {text}"),
+        LeafValue::Moment(time) | LeafValue::BerTime(time) => write!(out, " {}", time.text),
         LeafValue::Tagged(value) => write_tagged(out, name, contents, value, style),
     }
 }

@@ -1,4 +1,4 @@
-// Text of moments, with each digit of their fraction.
+// Times as data, and the text of moments, with each digit of their fraction.
 ghost use Rattle.std.specs.Prelude.{◌≡◌, ◌++◌, IfOk, OnOk, string_bytes};
 ghost use Rattle.asn1_leaves.specs.Contents.Moment.{moment_of};
 ghost use Rattle.der_values.specs.Times.{AreFractionOf, IsMomentText, fraction_text, whole_second as whole_second_is};
@@ -10,12 +10,35 @@ use std::str;
 // How many octets of a GeneralizedTime are before its fraction: YYYYMMDDhhmmss.
 const TO_SECOND: usize = 14;
 
-/// The text of a moment with these digits of a fraction of its second: `2026-11-23T00:43:05.5Z`. A `DateTime` has nine
-/// digits at most; [`fraction_digits`] are all that there are.
+/// The value of a UTCTime or a GeneralizedTime.
+#[derive(Debug, Drop)]
+pub struct Time {
+    /// Its text as ISO 8601 writes it, with each digit of its fraction: `2026-11-23T00:43:05.5Z`.
+    pub text: String,
+    /// The date and the time of day, to the second. What is left out is 0.
+    pub moment: DateTime,
+    /// How many seconds the time of day is ahead of Coordinated Universal Time. `None` of local time.
+    pub ahead: Option<i64>,
+}
+
+/// The time at a moment of Coordinated Universal Time, with these digits of a fraction of its second. A `DateTime` has
+/// nine digits at most; [`fraction_digits`] are all that there are.
 ///
 /// # Errors
 /// Memory ran out.
-pub fn moment_text(alloc: Global, moment: &DateTime, digits: &str) -> Result<String, AllocError>
+pub fn time_at(alloc: Global, moment: DateTime, digits: &str) -> Result<Time, AllocError>
+    ensures { IfOk result (λ time. IsMomentText (moment_of moment) digits.now (string_bytes time.text)) }
+{
+    let text = moment_text(alloc, &moment, digits)?;
+    Ok(Time {
+        text,
+        moment,
+        ahead: Some(0),
+    })
+}
+
+// The text of a moment with these digits of a fraction of its second.
+fn moment_text(alloc: Global, moment: &DateTime, digits: &str) -> Result<String, AllocError>
     ensures { IfOk result (λ text. IsMomentText (moment_of moment.now) digits.now (string_bytes text)) }
 {
     let whole = whole_second(moment);

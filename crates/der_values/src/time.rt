@@ -1,11 +1,13 @@
-// Times of BER that are none of DER: UTCTime and GeneralizedTime as X.680 has them.
-ghost use Rattle.std.specs.Prelude.{[], ◌≡◌, ◌++◌, ◌-◌, ◌∷◌, ◌≤◌, IfOk, IfSome, IsTrue, length, replicate};
+// UTCTime and GeneralizedTime as X.680 has them: in the form of DER, and in the others that BER has.
+ghost use Rattle.std.specs.Prelude.{[], ◌≡◌, ◌++◌, ◌-◌, ◌∷◌, ◌≤◌, IfOk, IfSome, length, replicate};
 ghost use Rattle.std.specs.List.{list_all};
 ghost use Rattle.std.specs.Char.{is_ascii_digit};
 ghost use Rattle.der_values.specs.Times.{AreDateTime, IsTime, full_digits as full_digits_are, is_below as is_below_is, is_clock as is_clock_is, is_fraction as is_fraction_is, is_size as is_size_is, is_zone as is_zone_is};
 
+use crate::moment::{Time, fraction_digits, time_at};
 use asn1_headers::tags::{GENERALIZED_TIME, UTC_TIME};
-use asn1_leaves::contents::generalized_time;
+use asn1_leaves::contents::{generalized_time, utc_time};
+use jiff::civil::DateTime;
 use std::alloc::{AllocError, Global};
 
 // How many digits a date and a time have, to the second.
@@ -19,12 +21,29 @@ struct Parts<'a> {
     zone: &'a [u8],
 }
 
-/// The text of contents octets with the tag of UTCTime or GeneralizedTime, in one of the forms that BER has beside that
-/// of DER: `2024-02-29T12:00:30.5+01:00`, `2024-02-29T12:00Z`, in local time `2024-02-29T12`. `None` of others.
+/// The value of contents octets with the tag of UTCTime or GeneralizedTime, in any of its forms. `None` of others.
 ///
 /// # Errors
 /// Memory ran out.
-pub fn time_text(alloc: Global, tag: u64, contents: &[u8]) -> Result<Option<String>, AllocError>
+pub fn time_of(alloc: Global, tag: u64, contents: &[u8]) -> Result<Option<Time>, AllocError> {
+    let moment = match tag {
+        UTC_TIME => utc_time::moment(contents),
+        GENERALIZED_TIME => generalized_time::moment(contents),
+        _ => None,
+    };
+    match moment {
+        Some(moment) if tag == UTC_TIME => Ok(Some(time_at(alloc, moment, "")?)),
+        Some(moment) => Ok(Some(time_at(alloc, moment, fraction_digits(contents))?)),
+        None => ber_time(alloc, tag, contents),
+    }
+}
+
+/// The value of contents octets with the tag of UTCTime or GeneralizedTime, in one of the forms that BER has beside
+/// that of DER: `2024-02-29T12:00:30.5+01:00`, `2024-02-29T12:00Z`, in local time `2024-02-29T12`. `None` of others.
+///
+/// # Errors
+/// Memory ran out.
+pub fn ber_time(alloc: Global, tag: u64, contents: &[u8]) -> Result<Option<Time>, AllocError>
     ensures { IfOk result (λ found. IfSome found (λ _. IsTime tag contents.now)) }
 {
     if tag != UTC_TIME && tag != GENERALIZED_TIME {
@@ -34,10 +53,14 @@ pub fn time_text(alloc: Global, tag: u64, contents: &[u8]) -> Result<Option<Stri
     if !is_fraction(tag, parts.fraction) || !is_zone(tag, parts.zone) {
         return Ok(None);
     }
-    if !are_date_time(alloc, tag, parts.digits)? {
+    let Some(moment) = date_time(alloc, tag, parts.digits)? else {
         return Ok(None);
-    }
-    Ok(Some(written(alloc, tag, parts)?))
+    };
+    Ok(Some(Time {
+        text: written(alloc, tag, parts)?,
+        moment,
+        ahead: seconds_ahead(parts.zone),
+    }))
 }
 
 fn parts_of(contents: &[u8]) -> Parts<'_>
@@ -121,15 +144,44 @@ fn is_below(limit: u8, tens: u8, units: u8) -> bool
     10 * (tens - b'0') + (units - b'0') < limit
 }
 
-fn are_date_time(alloc: Global, tag: u64, digits: &[u8]) -> Result<bool, AllocError>
-    ensures { IfOk result (λ are. IsTrue are → AreDateTime tag digits.now) }
+// The date and the time of day that digits are.
+fn date_time(alloc: Global, tag: u64, digits: &[u8]) -> Result<Option<DateTime>, AllocError>
+    ensures { IfOk result (λ found. IfSome found (λ _. AreDateTime tag digits.now)) }
 {
     let full = full_digits(alloc, tag, digits)?;
     if !is_size(tag, full.len()) {
-        return Ok(false);
+        return Ok(None);
     }
     let whole = to_second(alloc, &full)?;
-    Ok(generalized_time::are_meant(&whole))
+    Ok(generalized_time::moment(&whole))
+}
+
+// How many seconds a time of day in the zone is ahead of Coordinated Universal Time. `None` in local time.
+fn seconds_ahead(zone: &[u8]) -> Option<i64> {
+    match zone {
+        [] => None,
+        [b'-', clock @ ..] => Some(0i64.saturating_sub(i64::from(seconds_of(clock)))),
+        [_, clock @ ..] => Some(i64::from(seconds_of(clock))),
+    }
+}
+
+// How many seconds a difference of hours and minutes is, or of hours alone.
+fn seconds_of(clock: &[u8]) -> u32 {
+    match clock {
+        [a, b, c, d] => {
+            let minutes = number_of(*a, *b)
+                .saturating_mul(60)
+                .saturating_add(number_of(*c, *d));
+            minutes.saturating_mul(60)
+        }
+        [a, b] => number_of(*a, *b).saturating_mul(3600),
+        _ => 0,
+    }
+}
+
+// The number of two digits.
+fn number_of(tens: u8, units: u8) -> u32 {
+    10 * u32::from(tens.saturating_sub(b'0')) + u32::from(units.saturating_sub(b'0'))
 }
 
 // The digits with a 0 for each that is left out, and `Z`.
