@@ -146,6 +146,8 @@ SHORT = [
           programs="test_calls"),
     Check("marks", "lib/marks.py", "what der_dump --strict lists as not DER is what a plain reader lists",
           programs="der_dump"),
+    Check("looks", "lib/looks.py", "lines, JSON, pages and accounts of der_dump show the same values",
+          programs="der_dump"),
     Check("der", "lib/compare_der.py", "documents are DER or not as a plain reader says", programs="test_calls"),
     Check("changes", "lib/compare_reading.py", "prefixes of certificates and changed ones read as by a plain reader",
           programs="test_calls"),
