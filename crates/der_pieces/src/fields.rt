@@ -87,6 +87,11 @@ impl<'a> Fields<'a> {
         Ok(())
     }
 
+    // Whether the field is known to hold no encodings.
+    pub fn is_opaque(&self, spot: Spot) -> bool {
+        self.shapes.is_opaque(spot)
+    }
+
     // Sees the piece that was gone on to.
     pub fn see(&mut self, piece: &Piece<'_>)
         ensures shapes { self.new.shapes.now ≡ self.old.shapes.now }

@@ -44,6 +44,8 @@ pub struct Place {
     // which fields they are, as far as what is around them says it, and which field the one that stands here is
     pub around: Around,
     pub spot: Option<Spot>,
+    // whether that field is known to hold no encodings
+    pub is_opaque: bool,
 }
 
 // What says which fields blocks are.
@@ -82,6 +84,7 @@ pub fn outermost(style: Style) -> Place
             Around::Document(style.shape)
         },
         spot: None,
+        is_opaque: false,
     }
 }
 
@@ -94,17 +97,18 @@ impl Place {
             Some(most) => most <= self.depth,
             None => false,
         };
-        self.documents > 0 && !is_deep
+        self.documents > 0 && !is_deep && !self.is_opaque
     }
 
-    // The place of an encoding that stands so many levels further in, maybe in a string, and is this field; a string
-    // there is the value of the extension.
+    // The place of an encoding that stands so many levels further in, maybe in a string, and is this field, which may be
+    // known to hold no encodings; a string there is the value of the extension.
     pub fn deeper(
         self,
         levels: usize,
         next: Extension,
         is_segment: bool,
         spot: Option<Spot>,
+        is_opaque: bool,
     ) -> Result<Place, AllocError>
         ensures same { IfOk result (λ p. p.is_inside ≡ self.is_inside) }
         ensures base { IfOk result (λ p. p.base ≡ self.base) }
@@ -118,6 +122,7 @@ impl Place {
             next,
             is_segment,
             spot,
+            is_opaque,
             ..self
         })
     }
@@ -145,6 +150,7 @@ impl Place {
                 None => Around::Nothing,
             },
             spot: None,
+            is_opaque: false,
             ..self
         })
     }

@@ -64,7 +64,10 @@ impl<'a> Walk<'a> {
         let depth = self.cursor.depth();
         let is_segment = is_in_string(self.string, depth);
         let spot = spot_of(alloc, &mut self.fields, depth, left)?;
-        let place = self.place.deeper(depth, self.extension, is_segment, spot)?;
+        let is_opaque = is_opaque(&self.fields, spot);
+        let place = self
+            .place
+            .deeper(depth, self.extension, is_segment, spot, is_opaque)?;
         let piece = read_piece(alloc, left, self.cursor.offset, place)?;
         self.cursor.go(piece.step)?;
         self.extension = piece.extension();
@@ -87,6 +90,14 @@ fn spot_of(
     match fields {
         Some(fields) => fields.next(alloc, depth, left),
         None => Ok(None),
+    }
+}
+
+// Whether the field is known to hold no encodings.
+fn is_opaque(fields: &Option<Fields<'_>>, spot: Option<Spot>) -> bool {
+    match (fields, spot) {
+        (Some(fields), Some(spot)) => fields.is_opaque(spot),
+        _ => false,
     }
 }
 

@@ -2,7 +2,7 @@
 ghost use Rattle.std.specs.Prelude.{IfSome};
 ghost use Rattle.der_shapes.specs.Names.{IsNameAt, IsNameOf, IsNamed};
 
-use crate::shapes::{Shape, ShapeKind, Shapes};
+use crate::shapes::{Shape, ShapeKind, Shapes, ValueRule};
 use crate::take::{Inside, Spot};
 
 /// The names of an element.
@@ -27,6 +27,37 @@ impl Shapes {
             of: shape.name,
             value: self.value_name(shape, spot, contents),
         })
+    }
+
+    /// Whether a string is known to hold no encodings, as one of a digest, of a point of a curve, or of what is
+    /// encrypted.
+    pub fn is_opaque(&self, spot: Spot) -> bool {
+        self.leaf_rule(spot)
+            .is_some_and(|rule| rule != ValueRule::Holding)
+            || self.held(spot).is_some_and(Shape::is_nothing)
+    }
+
+    // What the object identifier says that a string holds.
+    fn held(&self, spot: Spot) -> Option<Shape> {
+        let Inside::Each(item) = spot.of.inside else {
+            return None;
+        };
+        let open = self.shape(self.part(item)?.shape)?;
+        let row = self.row(open, spot.identifier?)?;
+        self.shape(row.shape)
+    }
+
+    // What the type of an element says of its value. `None` where it is not of a type without parts.
+    fn leaf_rule(&self, spot: Spot) -> Option<ValueRule> {
+        let place = match spot.of.alternative {
+            Some(alternative) => self.part(alternative)?.shape,
+            None => spot.of.shape,
+        };
+        let shape = self.shape(place)?;
+        match shape.kind {
+            ShapeKind::Leaf(_) => Some(shape.rule),
+            _ => None,
+        }
     }
 
     // The name of the field, or else of the alternative. `None` where they have none.

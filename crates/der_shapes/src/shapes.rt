@@ -62,6 +62,13 @@ pub(crate) struct Shape {
     pub end: u16,
 }
 
+impl Shape {
+    // Whether no element is one of it.
+    pub(crate) fn is_nothing(self) -> bool {
+        matches!(self.kind, ShapeKind::Known) && self.first == self.end
+    }
+}
+
 // What a shape of leaves says of their values, besides their tag and the names of numbers and bits.
 #[derive(Clone, Copy, Debug, Drop, PartialEq)]
 pub(crate) enum ValueRule {
@@ -69,11 +76,7 @@ pub(crate) enum ValueRule {
     Any,
     // numbers that have no name are none of the type
     Closed,
-    // bits that are 0 may be the last: the type has a size, or its bits have names outside of ASN.1
-    Padded,
-    // octets that are an address of the Internet Protocol
-    Address,
-    // octets that may be encodings
+    // octets that may be encodings, of which the type is not known
     Holding,
 }
 

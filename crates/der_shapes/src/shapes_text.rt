@@ -276,8 +276,6 @@ impl Shape {
 fn rule_behind(text: &'static str) -> (&'static str, ValueRule) {
     match text.rsplit_once(' ') {
         Some((text, "CLOSED")) => (text, ValueRule::Closed),
-        Some((text, "PADDED")) => (text, ValueRule::Padded),
-        Some((text, "ADDRESS")) => (text, ValueRule::Address),
         Some((text, "HOLDING")) => (text, ValueRule::Holding),
         _ => (text, ValueRule::Any),
     }

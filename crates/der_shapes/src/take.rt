@@ -121,7 +121,7 @@ impl Shapes {
     }
 
     // The row of a shape for the identifier.
-    fn row(&self, shape: Shape, identifier: u16) -> Option<Part>
+    pub(crate) fn row(&self, shape: Shape, identifier: u16) -> Option<Part>
         ensures { IfSome result (λ row. (slice_get self.now.identifiers.items identifier ≡ Some row.number)
             × (k : ℕ) × (shape.first ≤ k) × (k < shape.end)
             × (slice_get self.now.parts.items k ≡ Some row)) }

@@ -96,7 +96,7 @@ RevokedCertificate ::= SEQUENCE
 CertificationRequest ::= SEQUENCE
   certificationRequestInfo CertificationRequestInfo
   signatureAlgorithm AlgorithmIdentifier
-  signature BIT STRING
+  signature Held.BIT STRING
 CertificationRequestInfo ::= SEQUENCE
   version PKCS10.Version
   subject Name
@@ -110,7 +110,7 @@ Attributes ::= SET OF Attribute
 AttributeCertificate ::= SEQUENCE
   acinfo AttributeCertificateInfo
   signatureAlgorithm AlgorithmIdentifier
-  signatureValue BIT STRING
+  signatureValue Held.BIT STRING
 AttributeCertificateInfo ::= SEQUENCE
   version AttCertVersion
   holder Holder

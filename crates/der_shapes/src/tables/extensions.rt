@@ -209,7 +209,7 @@ ProxyCertInfo ::= SEQUENCE
   proxyPolicy ProxyPolicy
 ProxyPolicy ::= SEQUENCE
   policyLanguage OBJECT IDENTIFIER
-  policy OCTET STRING OPTIONAL
+  policy Held.OCTET STRING OPTIONAL
 SMIMECapabilities ::= SEQUENCE OF SMIMECapability
 SMIMECapability ::= SEQUENCE
   capabilityID OBJECT IDENTIFIER

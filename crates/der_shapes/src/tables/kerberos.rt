@@ -25,7 +25,7 @@ Kerberos.EncryptedData ::= SEQUENCE
 SEQUENCE OF PA-DATA
 PA-DATA ::= SEQUENCE
   padata-type [1] EXPLICIT INTEGER
-  padata-value [2] EXPLICIT OCTET STRING
+  padata-value [2] EXPLICIT Held.OCTET STRING
 HostAddresses ::= SEQUENCE OF HostAddress
 HostAddress ::= SEQUENCE
   addr-type [0] EXPLICIT INTEGER
@@ -108,7 +108,7 @@ KRB-ERROR ::= SEQUENCE
   realm [9] EXPLICIT Realm
   sname [10] EXPLICIT PrincipalName
   e-text [11] EXPLICIT KerberosString OPTIONAL
-  e-data [12] EXPLICIT OCTET STRING OPTIONAL
+  e-data [12] EXPLICIT Held.OCTET STRING OPTIONAL
 
 -- RFC 2743, 3.1 and RFC 4178, 4.2
 GSSAPI-Token ::= CHOICE
@@ -126,14 +126,14 @@ NegotiationToken ::= CHOICE
 NegTokenInit ::= SEQUENCE
   mechTypes [0] EXPLICIT MechTypeList
   reqFlags [1] EXPLICIT BIT STRING OPTIONAL
-  mechToken [2] EXPLICIT OCTET STRING OPTIONAL
+  mechToken [2] EXPLICIT Held.OCTET STRING OPTIONAL
   mechListMIC [3] EXPLICIT OCTET STRING OPTIONAL
 MechTypeList ::= SEQUENCE OF MechType
 MechType ::= OBJECT IDENTIFIER
 NegTokenResp ::= SEQUENCE
   negState [0] EXPLICIT NegState OPTIONAL
   supportedMech [1] EXPLICIT MechType OPTIONAL
-  responseToken [2] EXPLICIT OCTET STRING OPTIONAL
+  responseToken [2] EXPLICIT Held.OCTET STRING OPTIONAL
   mechListMIC [3] EXPLICIT OCTET STRING OPTIONAL
 NegState ::= ENUMERATED
   0 accept-completed

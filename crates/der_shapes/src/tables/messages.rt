@@ -33,14 +33,14 @@ LDAPOID ::= OCTET STRING
 LDAPDN ::= OCTET STRING
 RelativeLDAPDN ::= OCTET STRING
 AttributeDescription ::= OCTET STRING
-AssertionValue ::= OCTET STRING
-LDAP.AttributeValue ::= OCTET STRING
+AssertionValue ::= OCTET STRING HOLDING
+LDAP.AttributeValue ::= OCTET STRING HOLDING
 URI ::= OCTET STRING
 Controls ::= SEQUENCE OF Control
 Control ::= SEQUENCE
   controlType LDAPOID
   criticality BOOLEAN OPTIONAL
-  controlValue OCTET STRING OPTIONAL
+  controlValue Held.OCTET STRING OPTIONAL
 
 -- RFC 4511, 4.1.7 and 4.1.9
 PartialAttributeList ::= SEQUENCE OF PartialAttribute
@@ -105,7 +105,7 @@ AuthenticationChoice ::= CHOICE
   sasl [3] SaslCredentials
 SaslCredentials ::= SEQUENCE
   mechanism LDAPString
-  credentials OCTET STRING OPTIONAL
+  credentials Held.OCTET STRING OPTIONAL
 BindResponse ::= SEQUENCE
   resultCode ResultCode
   matchedDN LDAPDN

@@ -14,7 +14,7 @@ OCSP.Version ::= INTEGER CLOSED
 SEQUENCE OF Request
 Signature ::= SEQUENCE
   signatureAlgorithm AlgorithmIdentifier
-  signature BIT STRING
+  signature Held.BIT STRING
   certs [0] EXPLICIT SEQUENCE OF Certificate OPTIONAL
 SEQUENCE OF Certificate
 Request ::= SEQUENCE
@@ -46,7 +46,7 @@ Response ::= KNOWN
 BasicOCSPResponse ::= SEQUENCE
   tbsResponseData ResponseData
   signatureAlgorithm AlgorithmIdentifier
-  signature BIT STRING
+  signature Held.BIT STRING
   certs [0] EXPLICIT SEQUENCE OF Certificate OPTIONAL
 ResponseData ::= SEQUENCE
   version [0] EXPLICIT OCSP.Version OPTIONAL

@@ -6,7 +6,7 @@ ContentInfo ::= SEQUENCE
   content [0] EXPLICIT Content OPTIONAL
 ContentType ::= OBJECT IDENTIFIER
 Content ::= KNOWN
-  1.2.840.113549.1.7.1 OCTET STRING
+  1.2.840.113549.1.7.1 Held.OCTET STRING
   1.2.840.113549.1.7.2 SignedData
   1.2.840.113549.1.7.3 EnvelopedData
   1.2.840.113549.1.7.5 DigestedData
@@ -54,7 +54,7 @@ SignerIdentifier ::= CHOICE
   subjectKeyIdentifier [0] SubjectKeyIdentifier
 SignedAttributes ::= SET OF CMS.Attribute
 UnsignedAttributes ::= SET OF CMS.Attribute
-CMS.SignatureValue ::= OCTET STRING
+CMS.SignatureValue ::= OCTET STRING HOLDING
 CMS.Attribute ::= SEQUENCE
   attrType OBJECT IDENTIFIER
   attrValues SET OF AttributeValue
@@ -108,7 +108,7 @@ OriginatorIdentifierOrKey ::= CHOICE
   originatorKey [1] OriginatorPublicKey
 OriginatorPublicKey ::= SEQUENCE
   algorithm AlgorithmIdentifier
-  publicKey BIT STRING
+  publicKey Held.BIT STRING
 UserKeyingMaterial ::= OCTET STRING
 RecipientEncryptedKeys ::= SEQUENCE OF RecipientEncryptedKey
 RecipientEncryptedKey ::= SEQUENCE

@@ -24,6 +24,11 @@ VisibleString ::= 26
 GeneralString ::= 27
 UniversalString ::= 28
 BMPString ::= 30
+-- what is said to be no encoding
+NOTHING ::= KNOWN
+-- strings that may hold encodings, of which the type is not known
+Held.BIT STRING ::= BIT STRING HOLDING
+Held.OCTET STRING ::= OCTET STRING HOLDING
 ANY ::= OPEN
 SEQUENCE OF INTEGER
 SEQUENCE OF OCTET STRING
