@@ -100,8 +100,8 @@ impl Place {
         self.documents > 0 && !is_deep && !self.is_opaque
     }
 
-    // The place of an encoding that stands so many levels further in, maybe in a string, and is this field, which may be
-    // known to hold no encodings; a string there is the value of the extension.
+    // The place of an encoding that stands so many levels further in, maybe in a string, and is this field, which may
+    // be known to hold no encodings; a string there is the value of the extension.
     pub fn deeper(
         self,
         levels: usize,
