@@ -6,7 +6,7 @@
 
 Most tests stand in the crate that they test, and `rt ci` proves them as well. Those of checks/tried/tests promise
 nothing that a caller rests on, so that they are only run. `rt` reads sources in crates alone: a folder there becomes the
-module `tests` in a copy of the crate of its name, or a crate of its own, whose line is in checks/tried/tests/crates.txt.
+module `tests` in a copy of the crate of its name, or a crate of its own, whose line is in checks/tried/tests/crates.
 """
 import concurrent.futures
 import os
@@ -39,7 +39,7 @@ def tried_folders():
 
 def lines_of_crates():
     """The lines of crates.txt, and of crates that are tests alone, by their crates."""
-    lines = [it.partition("#")[0].rstrip() for path in [TOP / "crates.txt", TRIED / "crates.txt"]
+    lines = [it.partition("#")[0].rstrip() for path in [TOP / "crates.txt", TRIED / "crates"]
              for it in path.read_text().splitlines()]
     return {it.split(":")[0].split()[0]: it for it in lines if ":" in it}
 
