@@ -6,10 +6,10 @@ ghost use Rattle.der_lines.specs.declared.document.Verdict.TheVariants.{Refused}
 
 use crate::documents::Document;
 use crate::show::Show;
-use der_io::{StreamFault, write_part};
+use der_io::StreamFault;
 use der_json::{Fault, Origin, push_json, push_refusal, push_strict_json};
 use der_lines::{Style, Verdict};
-use std::alloc::{AllocError, Global};
+use std::alloc::Global;
 use std::io::Write;
 
 impl Show {
@@ -91,18 +91,11 @@ fn push_reason<W: Write>(
 ) -> Result<(), StreamFault>
     ensures { OnOk result (Grows (W.contents out.old) (W.contents out.new)) }
 {
-    let line = reason_line(alloc, origin, why)?;
-    write_part(out, &line)?;
-    Ok(())
-}
-
-fn reason_line(alloc: Global, origin: Origin<'_>, why: &str) -> Result<Vec<u8>, AllocError> {
     let fault = Fault {
         code: None,
         offset: None,
         message: String::from_str(alloc, why)?,
     };
-    let mut line = Vec::new(alloc);
-    push_refusal(alloc, origin, &fault, &mut line)?;
-    Ok(line)
+    push_refusal(alloc, origin, &fault, out)?;
+    Ok(())
 }

@@ -1,8 +1,5 @@
-pub mod Arrays
-pub mod Lines
-pub mod Members
-pub mod Pieces
-pub mod ShownText
-pub mod Tokens
-pub mod Values
+-- Lemmas of JSON.
+pub mod Texts
+pub mod Chars
+pub mod Written
 pub mod Walk

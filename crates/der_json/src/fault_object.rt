@@ -1,13 +1,8 @@
-// Faults as objects of JSON.
-ghost use Rattle.std.specs.Prelude.{◌≡◌, ℕ, List, IfOk};
-ghost use Rattle.serde_json.specs.View.{view};
-ghost use Rattle.asn1_headers.specs.Fault.{fault_of};
-ghost use Rattle.der_json.specs.Json.{fault_json, fault_data, named_fault};
-ghost use Rattle.der_json.specs.Rows.{placed_data};
-
+// Faults, and their members.
+use crate::members::Members;
+use crate::value::Value;
 use asn1_headers::error::ASN1DecodeErr;
 use der_contents::faults;
-use serde_json::{Value, json};
 use std::alloc::{AllocError, Global};
 
 /// What is wrong, in words, with its name and its offset, where it has these.
@@ -20,40 +15,26 @@ pub struct Fault {
     pub message: String,
 }
 
-/// The fault at the offset.
-///
-/// # Errors
-/// Memory ran out, which is also said of that error.
-pub fn fault_at(alloc: Global, offset: usize, error: &ASN1DecodeErr) -> Result<Fault, AllocError>
-    ensures { IfOk result (λ fault. (message : List ℕ)
-        × (fault_data fault ≡ named_fault offset (fault_of error.now) message)) }
-{
-    let fault = faults::fault_at(alloc, offset, error)?;
-    Ok(placed(fault, offset))
-}
-
-// A fault of a piece that stands at the offset of the document.
-pub fn placed(fault: faults::Fault, offset: usize) -> Fault
-    ensures { fault_data result ≡ placed_data offset fault }
-{
-    Fault {
+// The fault that there are no octets.
+pub fn no_octets(alloc: Global) -> Result<Fault, AllocError> {
+    let fault = faults::fault_at(alloc, 0, &ASN1DecodeErr::EmptyBuffer)?;
+    Ok(Fault {
         code: fault.code,
-        offset: Some(offset),
+        offset: Some(0),
         message: fault.message,
-    }
+    })
 }
 
-// A fault as an object.
-pub fn fault_value(alloc: Global, fault: &Fault) -> Result<Value, AllocError>
-    ensures { IfOk result (λ v. view v ≡ fault_json (fault_data fault.now)) }
-{
-    let message = fault.message.as_str();
-    match (fault.code, fault.offset) {
-        (Some(code), Some(offset)) => {
-            json!(in alloc; {"code": code, "offset": offset, "text": message})
-        }
-        (Some(code), None) => json!(in alloc; {"code": code, "text": message}),
-        (None, Some(offset)) => json!(in alloc; {"offset": offset, "text": message}),
-        (None, None) => json!(in alloc; {"text": message}),
+// The members of a fault.
+pub fn fault_members(
+    alloc: Global,
+    code: Option<&str>,
+    offset: Option<usize>,
+    message: &str,
+) -> Result<Members, AllocError> {
+    let mut members = Members::new(alloc).with_text("code", code)?;
+    if let Some(offset) = offset {
+        members = members.with("offset", Value::Natural(offset as u64))?;
     }
+    members.with("text", Value::Text(message))
 }

@@ -1,8 +1,5 @@
 // The members `name` and `shown`, for people who read the value.
-ghost use Rattle.std.specs.Prelude.{◌≡◌, IfOk, None, Some, if◌then◌else◌, length, nat_lt, option_map, string_bytes};
-ghost use Rattle.hex.specs.Hex.{encode_lower};
-
-use crate::value::MOST_DECIMAL;
+use crate::leaf::MOST_DECIMAL;
 use asn1_numbers::number::big_int::BigInt;
 use der_contents::scalars::LEAST_HEX;
 use der_contents::value::{Identifier, LeafValue, TaggedValue};
@@ -118,10 +115,7 @@ fn octets_if_some(alloc: Global, number: &BigInt) -> Result<Option<String>, Allo
 }
 
 // The contents octets of an object identifier that has no value for its size, in hex digits.
-fn octets_if_long(alloc: Global, contents: &[u8]) -> Result<Option<String>, AllocError>
-    ensures { IfOk result (λ digits. option_map string_bytes digits
-        ≡ (if nat_lt 1024 (length contents.now) then Some (encode_lower contents.now) else None)) }
-{
+fn octets_if_long(alloc: Global, contents: &[u8]) -> Result<Option<String>, AllocError> {
     if contents.len() > MOST_DECIMAL {
         return Ok(Some(hex::encode(alloc, contents)?));
     }

@@ -63,17 +63,20 @@
 //! Numbers beyond 2^53 - 1 are texts since `jq` and JavaScript round them, as RFC 7493 (section 2.2) lets readers do.
 #![tactic(auto)]
 
+mod comma;
 mod fault_object;
+mod items;
 mod labels;
+mod leaf;
 mod line;
-mod member;
-mod object;
+mod members;
+mod number;
 mod piece;
 mod rows;
-mod shown;
 mod strict;
+mod string;
 mod value;
 
-pub use fault_object::{Fault, fault_at};
+pub use fault_object::Fault;
 pub use line::{Origin, push_json, push_refusal};
 pub use strict::push_strict_json;

@@ -1,53 +1,140 @@
-// What the object of a piece of octets tells.
-ghost use Rattle.std.specs.Prelude.{◌≡◌, ℕ, List, false, IfOk, if◌then◌else◌, option_map, string_bytes};
-ghost use Rattle.hex.specs.Hex.{encode_lower};
-ghost use Rattle.serde_json.specs.Data.{null, string};
-ghost use Rattle.serde_json.specs.View.{view};
-ghost use Rattle.serde_json.specs.Written.{has_float};
-ghost use Rattle.der_elements.specs.Headers.{is_gone_into};
-ghost use Rattle.der_pieces.specs.Pieces.{IsKind};
-ghost use Rattle.der_json.specs.Json.{fault_data};
-ghost use Rattle.der_json.specs.Rows.{IsObject, IsTagOf, joined_json, kind_json, kind_octets, kind_size, opened_json, wrong_octets, encoding_size as encoding_size_is, placed_data};
-
-use crate::fault_object::{Fault, placed};
+// The members of a piece of octets.
+use crate::fault_object::fault_members;
+use crate::items::Items;
 use crate::labels::{name_of, shown_of};
-use crate::object::{Object, Tag};
-use crate::value::{leaf_value, natural_value, octets_of_no_text, octets_value};
+use crate::leaf::{with_natural, with_octets, with_value};
+use crate::members::Members;
+use crate::value::Value;
 use asn1_headers::whole_header::Header;
-use der_contents::faults;
+use der_contents::faults::Fault;
+use der_contents::value::LeafValue;
 use der_elements::element_header::holds_encodings;
 use der_elements::sum::checked_sum;
 use der_names::Names;
+use der_pieces::marks::BrokenRule;
 use der_pieces::piece::{Piece, PieceKind};
 use der_pieces::strings::Joined;
 use der_pieces::tag;
 use der_shapes::Named;
-use serde_json::Value;
 use std::alloc::{AllocError, Global};
 
-// What the object of the piece tells.
-pub fn object_of(alloc: Global, names: &Names, piece: Piece<'_>) -> Result<Object, AllocError>
-    ensures { IfOk result (λ object. (left : List ℕ)
-        → IsKind left piece.entry.offset piece.entry.kind piece.entry.fault → IsObject left piece.entry object) }
-{
-    let offset = piece.document_offset()?;
-    let name = name_of(alloc, names, &piece)?;
+// The members of the object of the piece, which stands at the offset of the document and breaks the rules, behind the
+// first, `offset`, and but for `blocks`.
+pub fn members_of(
+    alloc: Global,
+    names: &Names,
+    piece: &Piece<'_>,
+    offset: usize,
+    rules: &[BrokenRule],
+) -> Result<Members, AllocError> {
+    let members = Members::new(alloc)
+        .with("header", Value::Natural(piece.header_size() as u64))?
+        .with("size", natural_or_null(size_of(&piece.kind)?))?
+        .with("depth", Value::Natural(piece.place.depth as u64))?;
+    let members = with_tag(alloc, members, &piece.kind)?;
+    let members = with_value_of(alloc, members, piece)?;
+    let members = with_names(alloc, members, names, piece)?;
+    let members = with_digits(alloc, members, piece)?;
+    let members = with_rules(alloc, members, rules)?;
+    with_fault(alloc, members, offset, &piece.fault)
+}
+
+fn natural_or_null(number: Option<usize>) -> Value<'static> {
+    match number {
+        Some(number) => Value::Natural(number as u64),
+        None => Value::Null,
+    }
+}
+
+fn text_or_null(text: Option<&str>) -> Value<'_> {
+    match text {
+        Some(text) => Value::Text(text),
+        None => Value::Null,
+    }
+}
+
+// How many octets a piece has, as far as they are there, where its length is of the definite form.
+fn size_of(kind: &PieceKind<'_>) -> Result<Option<usize>, AllocError> {
+    match kind {
+        PieceKind::EndOfContents(size) => Ok(Some(*size)),
+        PieceKind::Unreadable(octets) => Ok(Some(octets.len())),
+        PieceKind::Cut(header, contents)
+        | PieceKind::Opened(header, contents, _)
+        | PieceKind::Leaf(header, contents, _) => encoding_size(header, contents),
+    }
+}
+
+fn encoding_size(header: &Header, contents: &[u8]) -> Result<Option<usize>, AllocError> {
+    if header.is_indefinite {
+        return Ok(None);
+    }
+    Ok(Some(checked_sum(header.size, contents.len())?))
+}
+
+// With the tag of a piece. End-of-contents octets have 0, of class Universal (X.690 8.1.5).
+fn with_tag(alloc: Global, members: Members, kind: &PieceKind<'_>) -> Result<Members, AllocError> {
+    match kind {
+        PieceKind::EndOfContents(_) => members
+            .with("class", Value::Text("universal"))?
+            .with("constructed", Value::Boolean(false))?
+            .with("tag", Value::Natural(0))?
+            .with("type", Value::Text("end-of-contents")),
+        PieceKind::Unreadable(_) => members
+            .with("class", Value::Null)?
+            .with("constructed", Value::Null)?
+            .with("tag", Value::Null)?
+            .with("type", Value::Null),
+        PieceKind::Cut(header, _)
+        | PieceKind::Opened(header, _, _)
+        | PieceKind::Leaf(header, _, _) => with_header(alloc, members, header),
+    }
+}
+
+fn with_header(alloc: Global, members: Members, header: &Header) -> Result<Members, AllocError> {
+    let members = members
+        .with("class", Value::Text(header.class.name()))?
+        .with("constructed", Value::Boolean(header.constructed))?;
+    let members = with_natural(alloc, members, "tag", &header.tag)?;
+    members.with(
+        "type",
+        text_or_null(tag::name_of(header.class, &header.tag)),
+    )
+}
+
+// With the value of a piece.
+fn with_value_of(
+    alloc: Global,
+    members: Members,
+    piece: &Piece<'_>,
+) -> Result<Members, AllocError> {
+    match &piece.kind {
+        PieceKind::Unreadable(octets) => with_octets(alloc, members, "value", octets),
+        PieceKind::Cut(header, contents) if !holds_encodings(header) => {
+            with_octets(alloc, members, "value", contents)
+        }
+        PieceKind::Opened(_, _, Some(joined)) if piece.fault.is_none() => {
+            with_value(alloc, members, &joined.contents, &joined.value)
+        }
+        PieceKind::Leaf(_, contents, Some(value)) => with_value(alloc, members, contents, value),
+        _ => members.with("value", Value::Null),
+    }
+}
+
+// With the names of a piece, and what is shown beside its value.
+fn with_names(
+    alloc: Global,
+    members: Members,
+    names: &Names,
+    piece: &Piece<'_>,
+) -> Result<Members, AllocError> {
     let named = piece.names(&names.shapes);
-    Ok(Object {
-        offset,
-        header: piece.header_size(),
-        size: size_of(&piece.kind)?,
-        depth: piece.place.depth,
-        tag: tag_of(alloc, &piece.kind)?,
-        value: value_of(alloc, &piece)?,
-        field: named.and_then(|named| named.field),
-        of: named.map(|named| named.of),
-        name: name_or(alloc, name, named)?,
-        shown: shown_of(alloc, &piece)?,
-        octets: octets_of(alloc, &piece)?,
-        not_der: piece.breaches.describe(alloc)?,
-        fault: placed_if(piece.fault, offset),
-    })
+    let name = name_or(alloc, name_of(alloc, names, piece)?, named)?;
+    let shown = shown_of(alloc, piece)?;
+    members
+        .with_text("field", named.and_then(|named| named.field))?
+        .with_text("of", named.map(|named| named.of))?
+        .with_text("name", name.as_deref())?
+        .with_text("shown", shown.as_deref())
 }
 
 // A name, or else that of a number.
@@ -62,146 +149,57 @@ fn name_or(
     }
 }
 
-// The fault of a piece that stands at the offset of the document, if it has one.
-fn placed_if(fault: Option<faults::Fault>, offset: usize) -> Option<Fault>
-    ensures { option_map fault_data result ≡ option_map (placed_data offset) fault }
-{
-    match fault {
-        Some(fault) => Some(placed(fault, offset)),
-        None => None,
+// With the contents octets of a piece in hex digits, where they were read and have no value of their type: they are no
+// text of it, or a fault that has a name says so.
+fn with_digits(alloc: Global, members: Members, piece: &Piece<'_>) -> Result<Members, AllocError> {
+    match (&piece.kind, &piece.fault) {
+        (PieceKind::Leaf(_, contents, Some(LeafValue::NoText(_))), _) => {
+            with_octets(alloc, members, "octets", contents)
+        }
+        (PieceKind::Leaf(_, contents, None), Some(fault)) if fault.code.is_some() => {
+            with_octets(alloc, members, "octets", contents)
+        }
+        _ => Ok(members),
     }
 }
 
-// How many octets a piece has, as far as they are there, where its length is of the definite form.
-fn size_of(kind: &PieceKind<'_>) -> Result<Option<usize>, AllocError>
-    ensures { IfOk result (λ size. size ≡ kind_size kind.now) }
-{
-    match kind {
-        PieceKind::EndOfContents(size) => Ok(Some(*size)),
-        PieceKind::Unreadable(octets) => Ok(Some(octets.len())),
-        PieceKind::Cut(header, contents)
-        | PieceKind::Opened(header, contents, _)
-        | PieceKind::Leaf(header, contents, _) => encoding_size(header, contents),
-    }
-}
-
-fn encoding_size(header: &Header, contents: &[u8]) -> Result<Option<usize>, AllocError>
-    ensures { IfOk result (λ size. size ≡ encoding_size_is header.now contents.now) }
-{
-    if header.is_indefinite {
-        return Ok(None);
-    }
-    Ok(Some(checked_sum(header.size, contents.len())?))
-}
-
-// The tag of a piece. End-of-contents octets have 0, of class Universal (X.690 8.1.5).
-fn tag_of(alloc: Global, kind: &PieceKind<'_>) -> Result<Tag, AllocError>
-    ensures value { IfOk result (IsTagOf kind.now) }
-    ensures exact { IfOk result (λ tag. has_float (view tag.number) ≡ false) }
-{
-    match kind {
-        PieceKind::EndOfContents(_) => Ok(Tag {
-            class: Some("universal"),
-            constructed: Some(false),
-            number: Value::from(0usize),
-            kind: Some("end-of-contents"),
-        }),
-        PieceKind::Unreadable(_) => Ok(Tag {
-            class: None,
-            constructed: None,
-            number: Value::Null,
-            kind: None,
-        }),
-        PieceKind::Cut(header, _)
-        | PieceKind::Opened(header, _, _)
-        | PieceKind::Leaf(header, _, _) => Ok(Tag {
-            class: Some(header.class.name()),
-            constructed: Some(header.constructed),
-            number: natural_value(alloc, &header.tag)?,
-            kind: tag::name_of(header.class, &header.tag),
-        }),
-    }
-}
-
-// The value of a piece.
-fn value_of(alloc: Global, piece: &Piece<'_>) -> Result<Value, AllocError>
-    ensures json { IfOk result (λ v. view v ≡ kind_json piece.now.fault piece.now.kind) }
-    ensures exact { IfOk result (λ v. has_float (view v) ≡ false) }
-{
-    match &piece.kind {
-        PieceKind::EndOfContents(_) => Ok(Value::Null),
-        PieceKind::Unreadable(octets) => octets_value(alloc, octets),
-        PieceKind::Cut(header, contents) => cut_value(alloc, header, contents),
-        PieceKind::Opened(_, _, joined) => opened_value(alloc, joined, &piece.fault),
-        PieceKind::Leaf(_, contents, Some(value)) => leaf_value(alloc, contents, value),
-        PieceKind::Leaf(_, _, None) => Ok(Value::Null),
-    }
-}
-
-// The value of an encoding that is gone into: of its segments, joined, where nothing is wrong with it.
-fn opened_value(
+// With the rules that are broken, if some are.
+fn with_rules(
     alloc: Global,
-    joined: &Option<Joined>,
-    fault: &Option<faults::Fault>,
-) -> Result<Value, AllocError>
-    ensures json { IfOk result (λ v. view v ≡ opened_json fault.now joined.now) }
-    ensures exact { IfOk result (λ v. has_float (view v) ≡ false) }
-{
-    match fault {
-        Some(_) => Ok(Value::Null),
-        None => joined_value(alloc, joined),
+    members: Members,
+    rules: &[BrokenRule],
+) -> Result<Members, AllocError> {
+    if rules.is_empty() {
+        return Ok(members);
     }
+    let mut items = Items::new(alloc);
+    for rule in rules {
+        let object = with_rule(Members::new(alloc), rule)?;
+        items = items.with(Value::Object(&object))?;
+    }
+    members.with("not_der", Value::Array(&items))
 }
 
-// The value of the segments of a string, joined, if they have one.
-fn joined_value(alloc: Global, joined: &Option<Joined>) -> Result<Value, AllocError>
-    ensures json { IfOk result (λ v. view v ≡ joined_json joined.now) }
-    ensures exact { IfOk result (λ v. has_float (view v) ≡ false) }
-{
-    match joined {
-        Some(joined) => leaf_value(alloc, &joined.contents, &joined.value),
-        None => Ok(Value::Null),
-    }
+// With the members of a rule that is broken.
+pub fn with_rule(members: Members, rule: &BrokenRule) -> Result<Members, AllocError> {
+    members
+        .with("rule", Value::Text(rule.name))?
+        .with("section", Value::Text(rule.section))?
+        .with("text", Value::Text(rule.text))
 }
 
-// The value of contents octets that are cut short: these, unless they are encodings.
-fn cut_value(alloc: Global, header: &Header, contents: &[u8]) -> Result<Value, AllocError>
-    ensures json { IfOk result (λ value. view value
-        ≡ (if is_gone_into header.now.class header.now.constructed header.now.tag then null
-        else string (encode_lower contents.now))) }
-    ensures exact { IfOk result (λ value. has_float (view value) ≡ false) }
-{
-    if holds_encodings(header) {
-        return Ok(Value::Null);
-    }
-    octets_value(alloc, contents)
-}
-
-// The contents octets of a piece in hex digits, where they were read and have no value of their type.
-fn octets_of(alloc: Global, piece: &Piece<'_>) -> Result<Option<String>, AllocError>
-    ensures { IfOk result (λ octets.
-        option_map string_bytes octets ≡ kind_octets piece.now.fault piece.now.kind) }
-{
-    match &piece.kind {
-        PieceKind::Leaf(_, contents, Some(value)) => octets_of_no_text(alloc, contents, value),
-        PieceKind::Leaf(_, contents, None) => octets_at_fault(alloc, contents, &piece.fault),
-        PieceKind::EndOfContents(_)
-        | PieceKind::Unreadable(_)
-        | PieceKind::Cut(_, _)
-        | PieceKind::Opened(_, _, _) => Ok(None),
-    }
-}
-
-// Contents octets in hex digits, where the fault has a name: they were read.
-fn octets_at_fault(
+// With the fault of a piece that stands at the offset of the document, if it has one.
+fn with_fault(
     alloc: Global,
-    contents: &[u8],
-    fault: &Option<faults::Fault>,
-) -> Result<Option<String>, AllocError>
-    ensures { IfOk result (λ octets. option_map string_bytes octets ≡ wrong_octets fault.now contents.now) }
-{
+    members: Members,
+    offset: usize,
+    fault: &Option<Fault>,
+) -> Result<Members, AllocError> {
     match fault {
-        Some(fault) if fault.code.is_some() => Ok(Some(hex::encode(alloc, contents)?)),
-        _ => Ok(None),
+        Some(fault) => {
+            let object = fault_members(alloc, fault.code, Some(offset), &fault.message)?;
+            members.with("fault", Value::Object(&object))
+        }
+        None => Ok(members),
     }
 }

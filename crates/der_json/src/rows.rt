@@ -1,25 +1,20 @@
 // The objects of a document, in the order of its lines.
-ghost use Rattle.std.specs.Prelude.{◌≡◌, ◌++◌, ◌+◌, ◌<◌, IfOk, IfSome, List, OnOk, Option, map, option_map};
-ghost use Rattle.std.specs.Io.KnownBytes.{Appends};
+ghost use Rattle.std.specs.Prelude.{◌≡◌, ◌<◌, [], IfSome, OnOk, codes, if◌then◌else◌};
 ghost use Rattle.der_io.specs.Output.{IsWritten};
-ghost use Rattle.serde_json.specs.Data.{Items};
-ghost use Rattle.serde_json.specs.Written.{comma_if, compact_text};
-ghost use Rattle.der_pieces.specs.Marks.{breach_of};
-ghost use Rattle.der_json.specs.Json.{Departed, earlier_of, fault_data, marks_at, row_json};
-ghost use Rattle.der_json.specs.Shown.{shown_text};
-ghost use Rattle.der_json.specs.Rows.{AreListed, IsArray, IsExact, IsNestedJson, blocks_text, found_departures, row_of, departures_of};
+ghost use Rattle.der_json.specs.Grammar.{AreMoreMembers, IsInt, IsValue};
 
 use crate::fault_object::Fault;
-use crate::object::{Object, members_of};
-use crate::piece::object_of;
-use crate::shown::write_shown;
+use crate::piece::members_of;
+use der_contents::faults;
 use der_elements::sum::checked_sum;
 use der_io::{StreamFault, write_part};
 use der_names::Names;
 use der_pieces::marks::BrokenRule;
 use der_pieces::nested::Nested;
+use der_pieces::piece::Piece;
 use der_pieces::place::Place;
 use der_pieces::walk::Walk;
+use itoa::Buffer;
 use std::alloc::{AllocError, Global};
 use std::io::Write;
 
@@ -34,61 +29,50 @@ pub struct Departure {
 // first fault.
 #[derive(Drop)]
 pub struct Problems {
-    pub marks: Vec<Departure>,
+    pub departures: Vec<Departure>,
     pub first: Option<Fault>,
 }
 
 impl Problems {
-    // Adds what one more object tells, and if rules that are broken are listed, its own and those inside it.
-    fn add(
+    fn none(alloc: Global) -> Problems {
+        Problems {
+            departures: Vec::new(alloc),
+            first: None,
+        }
+    }
+
+    // Adds the rules that an encoding at the offset breaks, and those that are broken inside it.
+    fn list(
         &mut self,
-        object: Object,
+        offset: usize,
+        rules: &[BrokenRule],
         mut inside: Vec<Departure>,
-        is_strict: bool,
-    ) -> Result<(), AllocError>
-        ensures marks { OnOk result (AreListed is_strict (found_departures self.new) (found_departures self.old
-            ++ (marks_at object.offset (map breach_of object.not_der.items) ++ departures_of inside.items))) }
-        ensures first { OnOk result (option_map fault_data self.new.first
-            ≡ earlier_of (option_map fault_data self.old.first) (option_map fault_data object.fault)) }
-    {
-        let Object {
-            offset,
-            not_der,
-            fault,
-            ..
-        } = object;
-        if is_strict {
-            push_marks(offset, &not_der, &mut self.marks)?;
-            self.marks.append(&mut inside)?;
+    ) -> Result<(), AllocError> {
+        for rule in rules {
+            self.departures.push(Departure {
+                offset,
+                rule: *rule,
+            })?;
         }
-        if self.first.is_none() {
-            self.first = fault;
+        self.departures.append(&mut inside)
+    }
+
+    // Keeps the fault of an encoding at the offset, if it is the first.
+    fn see(&mut self, offset: usize, fault: Option<faults::Fault>) {
+        if let (None, Some(fault)) = (&self.first, fault) {
+            self.first = Some(Fault {
+                code: fault.code,
+                offset: Some(offset),
+                message: fault.message,
+            });
         }
-        Ok(())
     }
 }
 
-// Keeps the rules that an encoding at the offset breaks.
-fn push_marks(
-    offset: usize,
-    rules: &[BrokenRule],
-    marks: &mut Vec<Departure>,
-) -> Result<(), AllocError>
-    ensures { OnOk result (departures_of marks.new.items
-        ≡ departures_of marks.old.items ++ marks_at offset (map breach_of rules.now)) }
-{
-    for rule in rules {
-        marks.push(Departure {
-            offset,
-            rule: *rule,
-        })?;
-    }
-    Ok(())
-}
-
-// Writes the objects of octets, with commas between them, and the end of an array. What was found in them.
+// Writes the objects of octets, as an array. What was found in them; rules that are broken are listed where octets have
+// to be DER.
 #[cycle(rows)]
-pub fn push_rows<W: Write>(
+pub fn write_rows<W: Write>(
     alloc: Global,
     names: &Names,
     octets: &[u8],
@@ -96,21 +80,21 @@ pub fn push_rows<W: Write>(
     is_strict: bool,
     out: &mut W,
 ) -> Result<Problems, StreamFault>
-    ensures { IfOk result (λ found. IsWritten (IsArray is_strict place octets.now found)
-        (W.contents out.old) (W.contents out.new)) }
+    ensures { OnOk result (IsWritten IsValue (W.contents out.old) (W.contents out.new)) }
 {
-    let mut found = Problems {
-        marks: Vec::new(alloc),
-        first: None,
-    };
+    write_part(out, b"[")?;
+    let mut found = Problems::none(alloc);
     let mut is_later = false;
     let mut walk = Walk::over(alloc, &names.shapes, octets, place)?;
-    while let Some(piece) = walk.next(alloc)? {
-        let (here, nested) = (piece.place, piece.nested);
-        let object = object_of(alloc, names, piece)?;
+    'pieces: while let Some(piece) = walk.next(alloc)? {
+        let offset = piece.document_offset()?;
+        let rules = piece.breaches.describe(alloc)?;
         write_part(out, comma(is_later))?;
-        let inside = push_object(alloc, names, &object, nested, here, is_strict, out)?;
-        found.add(object, inside, is_strict)?;
+        let inside = write_row(alloc, names, &piece, offset, &rules, is_strict, out)?;
+        if is_strict {
+            found.list(offset, &rules, inside)?;
+        }
+        found.see(offset, piece.fault);
         is_later = true;
     }
     write_part(out, b"]")?;
@@ -119,62 +103,72 @@ pub fn push_rows<W: Write>(
 
 // A comma, unless nothing stands before it.
 fn comma(is_later: bool) -> &'static [u8]
-    ensures { result.now ≡ comma_if is_later }
+    ensures { result.now ≡ (if is_later then codes "," else []) }
 {
     if is_later { b"," } else { &[] }
 }
 
-// Writes the object, of a piece at the place, with the blocks inside its contents octets. The rules that these break,
-// if they are listed.
+// Writes the object of the piece, which stands at the offset of the document and breaks the rules. The rules that are
+// broken inside its contents octets.
 #[cycle(rows)]
-fn push_object<W: Write>(
+fn write_row<W: Write>(
     alloc: Global,
     names: &Names,
-    object: &Object,
-    nested: Option<Nested<'_>>,
-    place: Place,
+    piece: &Piece<'_>,
+    offset: usize,
+    rules: &[BrokenRule],
     is_strict: bool,
     out: &mut W,
 ) -> Result<Vec<Departure>, StreamFault>
-    requires exact { IsExact object.now }
-    requires more { IfSome nested (λ _. 0 < place.documents) }
-    ensures { IfOk result (λ listed. (inside : Option Items) × (marks : List Departed)
-        × AreListed is_strict (departures_of listed.items) marks
-        × IsNestedJson place (object.now.offset + object.now.header) nested.entry inside marks
-        × Appends (W.contents out.old) (W.contents out.new)
-        (shown_text (compact_text (row_json (row_of object.now inside marks))))) }
+    requires { IfSome piece.now.nested (λ _. 0 < piece.now.place.documents) }
+    ensures { OnOk result (IsWritten IsValue (W.contents out.old) (W.contents out.new)) }
 {
-    let members = members_of(alloc, object)?;
-    write_shown(alloc, &members, out)?;
-    let before = checked_sum(object.offset, object.header)?;
-    let marks = push_nested(alloc, names, nested, before, place, is_strict, out)?;
+    let members = members_of(alloc, names, piece, offset, rules)?;
+    write_part(out, b"{\"offset\":")?;
+    write_natural(offset, out)?;
+    write_part(out, members.as_bytes())?;
+    let before = checked_sum(offset, piece.header_size())?;
+    let inside = write_nested(
+        alloc,
+        names,
+        &piece.nested,
+        before,
+        piece.place,
+        is_strict,
+        out,
+    )?;
     write_part(out, b"}")?;
-    Ok(marks)
+    Ok(inside)
+}
+
+fn write_natural<W: Write>(number: usize, out: &mut W) -> Result<(), StreamFault>
+    ensures { OnOk result (IsWritten IsInt (W.contents out.old) (W.contents out.new)) }
+{
+    let mut digits = Buffer::new();
+    write_part(out, digits.format(number).as_bytes())?;
+    Ok(())
 }
 
 // Writes the member of the blocks inside contents octets, which stand at the offset of the document, if there are any.
-// The rules that they break, if they are listed.
+// The rules that they break.
 #[cycle(rows)]
-fn push_nested<W: Write>(
+fn write_nested<W: Write>(
     alloc: Global,
     names: &Names,
-    nested: Option<Nested<'_>>,
+    nested: &Option<Nested<'_>>,
     offset: usize,
     place: Place,
     is_strict: bool,
     out: &mut W,
 ) -> Result<Vec<Departure>, StreamFault>
-    requires { IfSome nested (λ _. 0 < place.documents) }
-    ensures { IfOk result (λ listed. (inside : Option Items) × (marks : List Departed)
-        × AreListed is_strict (departures_of listed.items) marks
-        × IsNestedJson place offset nested.entry inside marks
-        × Appends (W.contents out.old) (W.contents out.new) (shown_text (blocks_text inside))) }
+    requires { IfSome nested.now (λ _. 0 < place.documents) }
+    ensures { OnOk result (IsWritten AreMoreMembers (W.contents out.old) (W.contents out.new)) }
 {
     let Some(nested) = nested else {
         return Ok(Vec::new(alloc));
     };
-    write_part(out, b",\"blocks\":[")?;
+    write_part(out, b",\"blocks\":")?;
     let inside = place.inside(checked_sum(offset, nested.before)?)?;
-    let found = push_rows(alloc, names, nested.octets, inside, is_strict, out)?;
-    Ok(found.marks)
+    let found = write_rows(alloc, names, nested.octets, inside, is_strict, out)?;
+    Ok(found.departures)
 }

@@ -1,19 +1,18 @@
 // A document that has to be DER, as lines of JSON.
-ghost use Rattle.std.specs.Prelude.{◌≡◌, ◌++◌, ◌&&◌, false, IfOk, OnOk};
-ghost use Rattle.serde_json.specs.View.{view};
-ghost use Rattle.serde_json.specs.Written.{items_text};
+ghost use Rattle.std.specs.Prelude.{OnOk};
 ghost use Rattle.der_io.specs.Output.{IsWritten};
-ghost use Rattle.der_json.specs.Json.{IsStrictJsonOf, departed_json, is_der, items_of, marks_text, origin_data};
-ghost use Rattle.der_json.specs.Rows.{departed_of, departures_of};
+ghost use Rattle.der_json.specs.Lines.{AreLines, IsLineOrNone};
 
-use crate::line::{Origin, push_blocks, push_empty, push_end, push_first, push_line};
-use crate::member::push_member;
-use crate::object::push_comma;
+use crate::fault_object::no_octets;
+use crate::items::Items;
+use crate::line::{Origin, push_refusal, write_blocks, write_first, write_line};
+use crate::members::Members;
+use crate::piece::with_rule;
 use crate::rows::Departure;
-use der_io::{StreamFault, write_part};
+use crate::value::Value;
+use der_io::StreamFault;
 use der_names::Names;
 use der_pieces::style::Style;
-use serde_json::{Value, json};
 use std::alloc::{AllocError, Global};
 use std::io::Write;
 
@@ -34,72 +33,42 @@ pub fn push_strict_json<W: Write>(
     octets: &[u8],
     out: &mut W,
 ) -> Result<bool, StreamFault>
-    ensures { IfOk result (λ is_right. IsWritten (IsStrictJsonOf octets.now (origin_data origin.entry) is_right)
-        (W.contents out.old) (W.contents out.new)) }
+    ensures { OnOk result (IsWritten AreLines (W.contents out.old) (W.contents out.new)) }
 {
-    let mut lines = Vec::new(alloc);
     if octets.is_empty() {
-        push_empty(alloc, origin, &mut lines)?;
-        write_part(out, &lines)?;
+        push_refusal(alloc, origin, &no_octets(alloc)?, out)?;
         return Ok(false);
     }
-    let found = push_blocks(alloc, names, style, origin, octets, true, out)?;
-    let is_der = push_marks(alloc, origin, &found.marks, &mut lines)?;
-    let is_right = push_first(alloc, origin, &found.first, &mut lines)?;
-    write_part(out, &lines)?;
-    Ok(both(is_der, is_right))
+    let found = write_blocks(alloc, names, style, origin, octets, true, out)?;
+    write_departures(alloc, origin, &found.departures, out)?;
+    let is_right = write_first(alloc, origin, &found.first, out)?;
+    Ok(is_right && found.departures.is_empty())
 }
 
-fn both(is_der: bool, is_right: bool) -> bool
-    ensures { result ≡ (is_der && is_right) }
-{
-    is_der && is_right
-}
-
-// Puts the line of what is not DER, if anything is. Whether nothing is.
-fn push_marks(
+// Writes the line of what is not DER, if anything is.
+fn write_departures<W: Write>(
     alloc: Global,
     origin: Origin<'_>,
-    marks: &[Departure],
-    out: &mut Vec<u8>,
-) -> Result<bool, AllocError>
-    ensures right { IfOk result (λ right. right ≡ is_der (departures_of marks.now)) }
-    ensures text { OnOk result (out.new.items
-        ≡ out.old.items ++ marks_text (departures_of marks.now) (origin_data origin.entry)) }
+    departures: &[Departure],
+    out: &mut W,
+) -> Result<(), StreamFault>
+    ensures { OnOk result (IsWritten IsLineOrNone (W.contents out.old) (W.contents out.new)) }
 {
-    if marks.is_empty() {
-        return Ok(true);
+    if departures.is_empty() {
+        return Ok(());
     }
-    let mut object = Vec::new(alloc);
-    object.extend_from_slice(b"{\"not_der\":[")?;
-    push_list(alloc, marks, &mut object)?;
-    push_end(alloc, origin, &mut object)?;
-    push_line(alloc, &object, out)?;
-    Ok(false)
-}
-
-// Puts the objects of these, and the end of an array.
-fn push_list(alloc: Global, marks: &[Departure], out: &mut Vec<u8>) -> Result<(), AllocError>
-    ensures { OnOk result (out.new.items
-        ≡ out.old.items ++ items_text false (items_of departed_json (departures_of marks.now))) }
-{
-    let mut is_later = false;
-    for mark in marks {
-        push_comma(is_later, out)?;
-        let object = departure_value(alloc, mark)?;
-        push_member(alloc, b"", &object, out)?;
-        is_later = true;
-    }
-    out.push(b']')?;
+    let items = items_of(alloc, departures)?;
+    let members = Members::new(alloc).with("not_der", Value::Array(&items))?;
+    write_line(alloc, origin, members, out)?;
     Ok(())
 }
 
-// A rule that is broken, as an object with the offset of the encoding.
-fn departure_value(alloc: Global, departure: &Departure) -> Result<Value, AllocError>
-    ensures { IfOk result (λ v. view v ≡ departed_json (departed_of departure.now)) }
-{
-    let rule = departure.rule;
-    json!(in alloc; {
-        "offset": departure.offset, "rule": rule.name, "section": rule.section, "text": rule.text
-    })
+fn items_of(alloc: Global, departures: &[Departure]) -> Result<Items, AllocError> {
+    let mut items = Items::new(alloc);
+    for departure in departures {
+        let members = Members::new(alloc).with("offset", Value::Natural(departure.offset as u64))?;
+        let object = with_rule(members, &departure.rule)?;
+        items = items.with(Value::Object(&object))?;
+    }
+    Ok(items)
 }
