@@ -10,7 +10,8 @@ import tempfile
 from builds import INPUTS, unproved_program
 from tests import copy_of
 
-CALLED, CALLS = "use crate::tool::{fault_text, run, status};", "use crate::tool::{fault_text, run_strict as run, status};"
+CALLED = "use crate::tool::{fault_text, run, status};"
+CALLS = "use crate::tool::{fault_text, run_strict as run, status};"
 
 
 def main(path):

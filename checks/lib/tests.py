@@ -5,8 +5,8 @@
     checks/run tests -- --fmt        gives the files of checks/tried/tests the layout of `rt fmt`
 
 Most tests stand in the crate that they test, and `rt ci` proves them as well. Those of checks/tried/tests promise
-nothing that a caller rests on, so that they are only run. `rt` reads sources in crates alone: a folder there becomes the
-module `tests` in a copy of the crate of its name, or a crate of its own, whose line is in checks/tried/tests/crates.
+nothing that a caller rests on, so that they are only run. `rt` reads sources in crates alone: a folder there becomes
+the module `tests` in a copy of the crate of its name, or a crate of its own, whose line is in the file `crates` there.
 """
 import concurrent.futures
 import os
