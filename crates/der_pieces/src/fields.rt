@@ -6,7 +6,7 @@ ghost use Rattle.der_pieces.specs.declared.place.Around.TheVariants.{Nothing};
 use crate::piece::{Piece, PieceKind};
 use crate::place::{Around, Place};
 use der_elements::cursor::Left;
-use der_shapes::{FieldWalk, Shapes, Spot, Tag};
+use der_shapes::{FieldWalk, Held, Shapes, Spot, Tag};
 use std::alloc::{AllocError, Global};
 
 // How far the pieces of octets were gone over, as fields.
@@ -87,9 +87,9 @@ impl<'a> Fields<'a> {
         Ok(())
     }
 
-    // Whether the field is known to hold no encodings.
-    pub fn is_opaque(&self, spot: Spot) -> bool {
-        self.shapes.is_opaque(spot)
+    // What a string holds that is the field.
+    pub fn held_in(&self, spot: Spot) -> Held {
+        self.shapes.held_in(spot)
     }
 
     // Sees the piece that was gone on to.

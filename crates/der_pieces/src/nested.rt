@@ -4,6 +4,7 @@ ghost use Rattle.der_pieces.specs.Fronts.{StandAt};
 ghost use Rattle.der_elements.specs.Steps.{Takes};
 
 use crate::place::Place;
+use asn1_der::is_der;
 use asn1_headers::tags;
 use asn1_headers::whole_header::Header;
 use der_contents::leaf::is_right;
@@ -11,11 +12,17 @@ use der_elements::cursor::{Cursor, Left, Step};
 use der_elements::element_header::{
     holds_encodings, size_of, step_of, universal_tag, whole_header,
 };
+use der_elements::string_value::is_string_tag;
+use der_shapes::Held;
 use std::alloc::{AllocError, Global};
 
 const BIT_STRING: u8 = tags::BIT_STRING as u8;
 
 const OCTET_STRING: u8 = tags::OCTET_STRING as u8;
+
+const OBJECT_IDENTIFIER: u8 = tags::OBJECT_IDENTIFIER as u8;
+
+const RELATIVE_OID: u8 = tags::RELATIVE_OID as u8;
 
 // Octets of a string which are encodings, and how many contents octets stand before them.
 #[derive(Clone, Copy)]
@@ -38,9 +45,40 @@ pub fn nested_in<'a>(
         return Ok(None);
     }
     match octets_inside(header, contents) {
-        Some(nested) if hold_encodings(alloc, nested.octets)? => Ok(Some(nested)),
+        Some(nested) if hold(alloc, nested.octets, place.held)? => Ok(Some(nested)),
         _ => Ok(None),
     }
+}
+
+// Whether octets of a string that holds this are encodings.
+fn hold(alloc: Global, octets: &[u8], held: Held) -> Result<bool, AllocError> {
+    match held {
+        Held::Nothing => Ok(false),
+        Held::Type => hold_encodings(alloc, octets),
+        Held::Anything => are_likely(alloc, octets),
+    }
+}
+
+// Whether octets of which nothing says what they are look like DER: they are one encoding of it, which is constructed,
+// or of a string or an object identifier. A number or a NULL is too short to be more than chance.
+fn are_likely(alloc: Global, octets: &[u8]) -> Result<bool, AllocError> {
+    let Some(header) = whole_header(alloc, octets)? else {
+        return Ok(false);
+    };
+    if header.size + header.announced != octets.len() || !has_likely_type(&header) {
+        return Ok(false);
+    }
+    is_der(alloc, octets)
+}
+
+// Whether an encoding is constructed, or of a string or an object identifier.
+fn has_likely_type(header: &Header) -> bool {
+    header.constructed
+        || match universal_tag(header) {
+            Some(OBJECT_IDENTIFIER | RELATIVE_OID) => true,
+            Some(tag) => is_string_tag(tag),
+            None => false,
+        }
 }
 
 // The octets of a string in which encodings may stand: those of an OCTET STRING, and of a BIT STRING without unused

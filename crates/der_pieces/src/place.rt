@@ -8,7 +8,7 @@ use asn1_headers::tags;
 use asn1_headers::whole_header::Header;
 use der_elements::element_header::universal_tag;
 use der_elements::sum::checked_sum;
-use der_shapes::Spot;
+use der_shapes::{Held, Spot};
 use der_values::{Extension, Role, extension_of, role_in};
 use std::alloc::AllocError;
 
@@ -44,8 +44,8 @@ pub struct Place {
     // which fields they are, as far as what is around them says it, and which field the one that stands here is
     pub around: Around,
     pub spot: Option<Spot>,
-    // whether that field is known to hold no encodings
-    pub is_opaque: bool,
+    // what its octets are, if it is a string
+    pub held: Held,
 }
 
 // What says which fields blocks are.
@@ -84,7 +84,7 @@ pub fn outermost(style: Style) -> Place
             Around::Document(style.shape)
         },
         spot: None,
-        is_opaque: false,
+        held: Held::Anything,
     }
 }
 
@@ -97,18 +97,18 @@ impl Place {
             Some(most) => most <= self.depth,
             None => false,
         };
-        self.documents > 0 && !is_deep && !self.is_opaque
+        self.documents > 0 && !is_deep
     }
 
-    // The place of an encoding that stands so many levels further in, maybe in a string, and is this field, which may
-    // be known to hold no encodings; a string there is the value of the extension.
+    // The place of an encoding that stands so many levels further in, maybe in a string, and is this field, a string of
+    // which holds this; a string there is the value of the extension.
     pub fn deeper(
         self,
         levels: usize,
         next: Extension,
         is_segment: bool,
         spot: Option<Spot>,
-        is_opaque: bool,
+        held: Held,
     ) -> Result<Place, AllocError>
         ensures same { IfOk result (λ p. p.is_inside ≡ self.is_inside) }
         ensures base { IfOk result (λ p. p.base ≡ self.base) }
@@ -122,7 +122,7 @@ impl Place {
             next,
             is_segment,
             spot,
-            is_opaque,
+            held,
             ..self
         })
     }
@@ -150,7 +150,7 @@ impl Place {
                 None => Around::Nothing,
             },
             spot: None,
-            is_opaque: false,
+            held: Held::Anything,
             ..self
         })
     }

@@ -10,7 +10,7 @@ use crate::piece::{Piece, read_piece};
 use crate::place::Place;
 use crate::strings::{is_in_string, string_around};
 use der_elements::cursor::{Cursor, Left};
-use der_shapes::{Shapes, Spot};
+use der_shapes::{Held, Shapes, Spot};
 use der_values::Extension;
 use std::alloc::{AllocError, Global};
 
@@ -64,10 +64,10 @@ impl<'a> Walk<'a> {
         let depth = self.cursor.depth();
         let is_segment = is_in_string(self.string, depth);
         let spot = spot_of(alloc, &mut self.fields, depth, left)?;
-        let is_opaque = is_opaque(&self.fields, spot);
+        let held = held_in(&self.fields, spot);
         let place = self
             .place
-            .deeper(depth, self.extension, is_segment, spot, is_opaque)?;
+            .deeper(depth, self.extension, is_segment, spot, held)?;
         let piece = read_piece(alloc, left, self.cursor.offset, place)?;
         self.cursor.go(piece.step)?;
         self.extension = piece.extension();
@@ -93,11 +93,11 @@ fn spot_of(
     }
 }
 
-// Whether the field is known to hold no encodings.
-fn is_opaque(fields: &Option<Fields<'_>>, spot: Option<Spot>) -> bool {
+// What a string holds that is the field, if it is one.
+fn held_in(fields: &Option<Fields<'_>>, spot: Option<Spot>) -> Held {
     match (fields, spot) {
-        (Some(fields), Some(spot)) => fields.is_opaque(spot),
-        _ => false,
+        (Some(fields), Some(spot)) => fields.held_in(spot),
+        _ => Held::Anything,
     }
 }
 

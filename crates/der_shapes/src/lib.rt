@@ -43,7 +43,7 @@ mod take;
 
 pub use field_walk::FieldWalk;
 pub use fit::{DocumentType, TypeSource};
-pub use named::Named;
+pub use named::{Held, Named};
 pub use shapes::{Shapes, Tag};
 pub use shapes_text::ShapesFault;
 pub use take::Spot;

@@ -16,6 +16,17 @@ pub struct Named {
     pub value: Option<&'static str>,
 }
 
+/// What the octets of a string are.
+#[derive(Clone, Copy, Debug, Drop, PartialEq)]
+pub enum Held {
+    /// No encodings, as a digest, a point of a curve, and what is encrypted.
+    Nothing,
+    /// Encodings of a type that is known.
+    Type,
+    /// They may be encodings: nothing says it.
+    Anything,
+}
+
 impl Shapes {
     /// The names of an element, by which field it is and its contents octets.
     pub fn names_of(&self, spot: Spot, contents: &[u8]) -> Option<Named>
@@ -29,22 +40,30 @@ impl Shapes {
         })
     }
 
-    /// Whether a string is known to hold no encodings, as one of a digest, of a point of a curve, or of what is
-    /// encrypted.
-    pub fn is_opaque(&self, spot: Spot) -> bool {
-        self.leaf_rule(spot)
-            .is_some_and(|rule| rule != ValueRule::Holding)
-            || self.held(spot).is_some_and(Shape::is_nothing)
+    /// What a string holds, by which field it is.
+    pub fn held_in(&self, spot: Spot) -> Held {
+        match (self.leaf_rule(spot), self.held_shape(spot)) {
+            (Some(ValueRule::Holding), _) => Held::Anything,
+            (Some(_), _) => Held::Nothing,
+            (None, Some(shape)) if shape.is_nothing() => Held::Nothing,
+            (None, Some(_)) => Held::Type,
+            (None, None) => Held::Anything,
+        }
     }
 
-    // What the object identifier says that a string holds.
-    fn held(&self, spot: Spot) -> Option<Shape> {
+    // The shape of what a string holds. `None` where an object identifier would have to say it.
+    fn held_shape(&self, spot: Spot) -> Option<Shape> {
         let Inside::Each(item) = spot.of.inside else {
             return None;
         };
-        let open = self.shape(self.part(item)?.shape)?;
-        let row = self.row(open, spot.identifier?)?;
-        self.shape(row.shape)
+        let shape = self.shape(self.part(item)?.shape)?;
+        match shape.kind {
+            ShapeKind::Open | ShapeKind::Known => {
+                let row = self.row(shape, spot.identifier?)?;
+                self.shape(row.shape)
+            }
+            _ => Some(shape),
+        }
     }
 
     // What the type of an element says of its value. `None` where it is not of a type without parts.
