@@ -101,7 +101,7 @@ class Dump:
 # what the schema must refuse of the line of a SEQUENCE of these blocks: where, and what stands there then, or nothing
 BLOCKS = ("01 01 FF", "02 01 05", "03 02 04 B0", "04 02 0A BC", "05 00", "06 02 88 37", "0C 01 41", "80 01 41",
           "17 0D 32 36 31 31 32 33 30 30 34 33 30 35 5A", "18 0F 32 30 32 36 31 31 32 33 30 30 34 33 30 35 5A",
-          "A0 02 05 00", "0A 01 05", "12 01 31", "02 02 00 05", "24 05 04 01 41 04 00", "30 80 00 00", "04 02 05 00",
+          "A0 02 05 00", "0A 01 05", "12 01 31", "02 02 00 05", "24 05 04 01 41 04 00", "30 80 00 00", "04 02 30 00",
           "06 03 55 04 03", "22 00", "1F 1F 04 31 39 38 35", "1F 25 01 31")
 MISSING = object()
 MEMBERS = ("offset", "header", "size", "depth", "class", "constructed", "tag", "type", "value")
