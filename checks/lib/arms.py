@@ -25,8 +25,8 @@ from switched import allowed, built, switch_library, wrong_copy
 
 TOP = pathlib.Path(__file__).resolve().parent.parent.parent
 DATA = TOP / "checks" / "data" / "arms"
-CRATES = ["der_values", "der_names", "der_rows", "der_elements", "der_contents", "der_pieces", "der_lines", "der_json",
-          "der_forms", "der_digits", "der_options", "der_inputs", "der_shapes", "der_account"]
+CRATES = ["dump_values", "dump_names", "dump_rows", "dump_walk", "dump_lines", "dump_json", "der_forms", "der_digits",
+          "dump_options", "dump_inputs", "dump_shapes", "dump_text"]
 
 # rows that take more seconds are left out
 SLOW = 5

@@ -49,7 +49,7 @@ SECTIONS = [
     ("Laws of DER", "asn1_laws", "law_*"),
     ("PEM, base64 and hex digits", "der_forms", "document_of FormFault text_of form_of InputForm next_object PemObject"
      " PemFault Ending fault_of_end Lines"),
-    ("Names of object identifiers", "der_names", "Names OwnNames NamesFault"),
+    ("Names of object identifiers", "dump_names", "Names OwnNames NamesFault"),
 ]
 
 ITEM = re.compile(r"^pub (fn|struct|enum|trait) (\w+)")

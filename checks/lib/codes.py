@@ -213,7 +213,7 @@ def compared():
     yield "crates/simple_asn1_c/src/departures.rt", arms("crates/simple_asn1_c/src/departures.rt",
                                                          r"Rule::(\w+) => (\d+),"), numbers
     names = {it.name: it.name for it in RULES}
-    yield "crates/der_pieces/src/marks.rt", arms("crates/der_pieces/src/marks.rt", r'Rule::(\w+) => "(\w+)",'), names
+    yield "crates/dump_walk/src/marks.rt", arms("crates/dump_walk/src/marks.rt", r'Rule::(\w+) => "(\w+)",'), names
     said = arms("crates/simple_asn1_c/src/status.rt", r"pub const (\w+): u32 = (\d+);")
     named = {"OUT_OF_RANGE": "RANGE", "DONE": "OK"}
     yield "crates/simple_asn1_c/src/status.rt", said, {

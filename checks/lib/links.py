@@ -33,7 +33,7 @@ VERSIONS = {
     "bindings/python/pyproject.toml": r'^version = "(.*)"',
     "bindings/postgres/simple_asn1.control": r"^default_version = '(.*)'",
     "bindings/postgres/Makefile": r"^DATA = simple_asn1--(.*)\.sql",
-    "crates/der_options/src/command.rt": r'^const VERSION: &str = "(.*)"',
+    "crates/dump_options/src/command.rt": r'^const VERSION: &str = "(.*)"',
     "crates/der_signed/src/main.rt": r'^const VERSION: &str = "(.*)"',
     "crates/example_certificate/src/main.rt": r'\.version\("(.*)"\)',
 }

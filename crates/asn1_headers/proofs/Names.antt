@@ -1,5 +1,5 @@
 -- Tag numbers whose types have no name, for `block::ASN1Block::type_name` of `asn1_blocks` and `tag::name_of` of
--- `der_pieces`.
+-- `dump_walk`.
 use Rattle.std.proofs.Common.{◌≡◌, ◌≤◌, ℕ, None, refl, sym}
 use Rattle.std.proofs.lemmas.List.{get_or_past}
 use Rattle.asn1_headers.specs.declared.header.ASN1Class.{ASN1Class}

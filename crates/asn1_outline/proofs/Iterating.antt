@@ -1,5 +1,5 @@
 -- The iterators of an outline return entries of blocks side by side, for `iter::EntriesIterator::next`,
--- `outline::Outline::blocks` and `outline::Outline::items`, and for `der_account`.
+-- `outline::Outline::blocks` and `outline::Outline::items`, and for `dump_text`.
 use Rattle.std.proofs.Common.{◌≡◌, ℕ, zero, suc, ◌+◌, ◌-◌, ◌<◌, ◌++◌, min, Bool, false, List, [], ◌∷◌, Some, drop, get_or, length, map, refl, sym, ap, ◌∙◌, inl, inr, arith, append_assoc, append-nil, length-append}
 use Rattle.std.specs.Prelude.{All, slice_get}
 use Rattle.std.proofs.lemmas.Bool.{cases_lt}

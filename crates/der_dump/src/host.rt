@@ -3,7 +3,7 @@ ghost use Rattle.std.specs.Prelude.{IfOk};
 ghost use Rattle.std.specs.Counts.{IsPrefixLen};
 
 use der_io::escaped;
-use der_options::Color;
+use dump_options::Color;
 use std::env::VarError;
 use std::fs::File;
 use std::io::{ErrorKind, IsTerminal, Read, Write};

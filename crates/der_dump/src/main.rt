@@ -4,11 +4,11 @@
 mod host;
 
 use crate::host::{HostReader, HostWriter, color_here, print_error};
-use der_inputs::{Outcome, Source, run, status};
 use der_io::{StreamFault, arguments, escaped, fault_text, read_all};
-use der_names::{NamesFault, OwnNames};
-use der_options::{Options, OptionsFault, options_of};
-use der_shapes::Shapes;
+use dump_inputs::{Outcome, Source, run, status};
+use dump_names::{NamesFault, OwnNames};
+use dump_options::{Options, OptionsFault, options_of};
+use dump_shapes::Shapes;
 use jiff::Timestamp;
 use jiff::civil::DateTime;
 use jiff::tz::TimeZone;

@@ -1,3 +1,0 @@
-pub mod Identifiers
-pub mod Values
-pub mod Wide

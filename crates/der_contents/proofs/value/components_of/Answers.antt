@@ -1,8 +1,0 @@
--- For `value::components_of`: what it returns is right.
-use Rattle.der_contents.proofs.Identifiers.{HasShortFront-none}
-use Rattle.der_contents.proofs.value.components_of.Goals as goal
-
-pub returns-in-Some : goal.returns-in-Some
-returns-in-Some c = λ short.
-    let (octet, rest, e, long) = c.begins_long.ensures c.if-begins_long.true in
-    absurd (HasShortFront-none c.args.read c.args.contents.now octet rest c.requires e long short)

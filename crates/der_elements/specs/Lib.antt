@@ -1,9 +1,0 @@
-pub mod Headers
-pub mod Ends
-pub mod Elements
-pub mod Seek
-pub mod SeekSteps
-pub mod Segments
-pub mod StringOctets
-pub mod Steps
-pub mod StringSteps

@@ -1,7 +1,0 @@
--- For `string::push_chars`: what each turn of its loop keeps.
-use Rattle.der_pieces.specs.Texts.{Adds}
-use Rattle.der_json.specs.Grammar.{AreChars}
-use Rattle.der_json.proofs.string.push_chars.Given as goal
-
-abbrev pub invariant-loop-c : goal.invariant-loop-c
-invariant-loop-c l = Adds AreChars l.fn.out.items l.out.items

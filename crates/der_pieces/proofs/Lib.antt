@@ -1,4 +1,0 @@
-pub mod FieldPaths
-pub mod Pieces
-pub mod Breach
-pub mod Walks

@@ -1,6 +1,0 @@
--- For `moment::moment_text`: what it returns is right.
-use Rattle.std.proofs.Common.{rules}
-use Rattle.der_values.proofs.moment.moment_text.Goals as goal
-
-pub returns : goal.returns
-returns c = (c.whole_second-whole.result, c.whole_second-whole.ensures, search rules)

@@ -1,0 +1,26 @@
+// A writer that bytes are only appended to.
+ghost use Rattle.dump_inputs.specs.Growing.{Grows};
+
+use crate::before::Before;
+use std::io;
+use std::io::Write;
+use std::marker::PhantomData;
+
+// Its writer still has at the front what it held before.
+pub struct Appended<W: Write, B: Before> {
+    pub writer: W,
+    pub since: PhantomData<B>,
+    pub ghost grows: { ∥ Grows B.before (W.contents writer) ∥₁ },
+}
+
+impl<W: Write, B: Before> Write for Appended<W, B> {
+    ghost contents = { λ appended. W.contents appended.writer };
+
+    fn write(&mut self, buf: &[u8]) -> io::Result<usize> {
+        self.writer.write(buf)
+    }
+
+    fn flush(&mut self) -> io::Result<()> {
+        self.writer.flush()
+    }
+}

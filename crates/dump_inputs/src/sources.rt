@@ -1,0 +1,229 @@
+// A run over inputs: each is read to its end before anything of it is written.
+ghost use Rattle.std.specs.Prelude.{◌≡◌, IfOk, IfErr, IfSome, IsErr, IsSome, map};
+ghost use Rattle.std.specs.Io.KnownBytes.{IsAtEnd};
+ghost use Rattle.der_io.specs.Output.{IsWritten};
+ghost use Rattle.dump_inputs.specs.Blocks.{octets_in};
+ghost use Rattle.dump_inputs.specs.Growing.{Grows};
+ghost use Rattle.dump_inputs.specs.Inputs.{AreReadToEnds, IsFramed, IsInputText, IsPart, IsReadToEnd, IsTaskText, is_page};
+ghost use Rattle.dump_inputs.specs.Outcomes.{greatest_status};
+ghost use Rattle.dump_inputs.specs.Texts.{AreTexts};
+ghost use Rattle.der_io.specs.declared.StreamFault.TheVariants.{Memory as memory_fault};
+
+use crate::appended::Appended;
+use crate::before::Before;
+use crate::documents::{block_of, contents_of, value_of};
+use crate::outcome::{Outcome, greatest};
+use crate::show::Show;
+use der_io::{StreamFault, flush, read_all, write_part};
+use dump_lines::Verdict;
+use dump_names::OwnNames;
+use dump_options::{Options, Task};
+use dump_rows::{Look, Printer};
+use jiff::civil::DateTime;
+use std::alloc::Global;
+use std::io::{Read, Write};
+use std::marker::{Brand, PhantomData};
+
+/// An input: its name, and what it is read from.
+#[derive(Drop)]
+pub struct Source<'a, R> {
+    pub name: &'a str,
+    pub reader: R,
+}
+
+/// Reads each input to its end, in order, and writes to `w` what the options want of it before the next is read.
+/// Returns the outcome of each, and the writer. The readers of those that could be read are at their ends.
+///
+/// An input is DER, PEM, hex digits or base64, told apart by its bytes. A document is put as a dump, as a line of JSON,
+/// on a page of HTML, or as a short account, which tells how many days are left if it is given the time; names of
+/// object identifiers are first those of `own`. Lines are colored if the options say `Always`. One input at a time is
+/// kept in memory, with what is open in it, and no output.
+///
+/// # Errors
+/// `Memory` and `Write`, after which what was written before stays: a front of the output, behind what the writer held.
+/// Where no write failed, it is in whole lines, unless it ends in a document as JSON or in the bytes beside a page.
+pub fn run<R: Read + Drop, W: Write>(
+    alloc: Global,
+    options: &Options<'_>,
+    own: OwnNames,
+    time: Option<DateTime>,
+    sources: &mut [Source<'_, R>],
+    w: W,
+) -> (Result<Vec<Outcome>, StreamFault>, W)
+    ensures answered { IfOk result.0 (λ outcomes. IsWritten (IsFramed options.now.is_html
+        (AreTexts (IsInputText options.now.task)
+        (map (λ source. R.remaining source.reader) sources.old) outcomes.items))
+        (W.contents w) (W.contents result.1)) }
+    ensures read { IfOk result.0 (λ outcomes. AreReadToEnds outcomes.items
+        (map (λ source. R.remaining source.reader) sources.new)) }
+    ensures kept { ∥ Grows (W.contents w) (W.contents result.1) ∥₁ }
+{
+    run_on::<Brand, R, W>(alloc, options, own, time, sources, w)
+}
+
+// The run, over what the writer holds before it.
+fn run_on<B: Before, R: Read + Drop, W: Write>(
+    alloc: Global,
+    options: &Options<'_>,
+    own: OwnNames,
+    time: Option<DateTime>,
+    sources: &mut [Source<'_, R>],
+    w: W,
+) -> (Result<Vec<Outcome>, StreamFault>, W)
+    requires { W.contents w ≡ B.before }
+    ensures answered { IfOk result.0 (λ outcomes. IsWritten (IsFramed options.now.is_html
+        (AreTexts (IsInputText options.now.task)
+        (map (λ source. R.remaining source.reader) sources.old) outcomes.items))
+        (W.contents w) (W.contents result.1)) }
+    ensures read { IfOk result.0 (λ outcomes. AreReadToEnds outcomes.items
+        (map (λ source. R.remaining source.reader) sources.new)) }
+    ensures kept { ∥ Grows (W.contents w) (W.contents result.1) ∥₁ }
+{
+    let Ok(show) = Show::new(alloc, options, own, sources.len(), time) else {
+        return (Err(StreamFault::Memory), w);
+    };
+    let out: Appended<W, B> = Appended {
+        writer: w,
+        since: PhantomData,
+    };
+    let mut printer = Printer::new(alloc, Look::Plain, out);
+    let outcomes = write_all_of(&show, sources, &mut printer);
+    let Appended { writer, since: _ } = printer.into_writer();
+    (outcomes, writer)
+}
+
+// Writes what is wanted of all inputs, with what stands before and behind it. Of inputs none of which can be read
+// nothing is written.
+fn write_all_of<R: Read + Drop, W: Write>(
+    show: &Show,
+    sources: &mut [Source<'_, R>],
+    printer: &mut Printer<W>,
+) -> Result<Vec<Outcome>, StreamFault>
+    ensures written { IfOk result (λ outcomes. IsWritten (IsFramed (is_page show.now.format)
+        (AreTexts (IsInputText show.now.task)
+        (map (λ source. R.remaining source.reader) sources.old) outcomes.items))
+        (W.contents printer.old.out) (W.contents printer.new.out)) }
+    ensures read { IfOk result (λ outcomes. AreReadToEnds outcomes.items
+        (map (λ source. R.remaining source.reader) sources.new)) }
+{
+    let mut is_begun = false;
+    let outcomes = push_sources(show, sources, &mut is_begun, printer)?;
+    show.end_begun(is_begun, &mut printer.out)?;
+    flush(&mut printer.out)?;
+    Ok(outcomes)
+}
+
+// Writes what is wanted of each input, one after another, behind what stands before all texts.
+fn push_sources<R: Read + Drop, W: Write>(
+    show: &Show,
+    sources: &mut [Source<'_, R>],
+    is_begun: &mut bool,
+    printer: &mut Printer<W>,
+) -> Result<Vec<Outcome>, StreamFault>
+    ensures written { IfOk result (λ outcomes. IsWritten (IsFramed (is_page show.now.format)
+        (AreTexts (IsInputText show.now.task)
+        (map (λ source. R.remaining source.reader) sources.old) outcomes.items))
+        (W.contents printer.old.out) (W.contents printer.new.out)) }
+    ensures read { IfOk result (λ outcomes. AreReadToEnds outcomes.items
+        (map (λ source. R.remaining source.reader) sources.new)) }
+{
+    let mut outcomes = Vec::new(show.alloc);
+    for source in sources.iter_mut() {
+        let outcome = push_source(show, source, is_begun, printer)?;
+        if outcomes.push(outcome).is_err() {
+            return Err(StreamFault::Memory);
+        }
+    }
+    Ok(outcomes)
+}
+
+// Writes what is wanted of an input, where it can be read, behind what stands before all texts.
+fn push_source<R: Read + Drop, W: Write>(
+    show: &Show,
+    source: &mut Source<'_, R>,
+    is_begun: &mut bool,
+    printer: &mut Printer<W>,
+) -> Result<Outcome, StreamFault>
+    ensures written { IfOk result (λ outcome. IsWritten (IsFramed (is_page show.now.format)
+        (IsInputText show.now.task (R.remaining source.old.reader) outcome))
+        (W.contents printer.old.out) (W.contents printer.new.out)) }
+    ensures read { IfOk result (λ outcome. IsReadToEnd outcome (R.remaining source.new.reader)) }
+{
+    let Some(input) = read_source(show.alloc, &mut source.reader)? else {
+        return Ok(Outcome::Unread);
+    };
+    show.begin_once(is_begun, &mut printer.out)?;
+    let outcome = push_input(show, source.name, input, printer)?;
+    Ok(outcome)
+}
+
+// All that the reader has left, or `None` where a read fails. It is read to its end. The only error is `Memory`.
+fn read_source<R: Read>(alloc: Global, r: &mut R) -> Result<Option<Vec<u8>>, StreamFault>
+    ensures bytes { IfOk result (λ read. IfSome read (λ input.
+        IfSome (R.remaining r.old) (λ bytes. input.items ≡ bytes))) }
+    ensures read { IfOk result (λ read. IsSome read → IsAtEnd (R.remaining r.new)) }
+    ensures fault { IfErr result (λ e. e ≡ memory_fault) }
+{
+    match read_all(alloc, r) {
+        Ok(input) => Ok(Some(input)),
+        Err(StreamFault::Memory) => Err(StreamFault::Memory),
+        Err(_) => Ok(None),
+    }
+}
+
+// Writes what is wanted of octets, which an input of this name has.
+fn push_input<W: Write>(
+    show: &Show,
+    name: &str,
+    input: Vec<u8>,
+    printer: &mut Printer<W>,
+) -> Result<Outcome, StreamFault>
+    ensures { IfOk result (λ outcome. IsWritten (IsTaskText show.now.task input.items outcome)
+        (W.contents printer.old.out) (W.contents printer.new.out)) }
+{
+    match show.task {
+        Task::Dump => show.push_named(name, input, printer),
+        Task::At(offset) => {
+            let block = block_of(show.alloc, input, offset)?;
+            show.push_block(name, block, printer)
+        }
+        Task::Extract(offset) => {
+            let part = block_of(show.alloc, input, offset)?;
+            push_part(part, &mut printer.out)
+        }
+        Task::Contents(offset) => {
+            let part = contents_of(show.alloc, input, offset)?;
+            push_part(part, &mut printer.out)
+        }
+        Task::Value(offset) => {
+            let part = value_of(show.alloc, input, offset)?;
+            push_part(part, &mut printer.out)
+        }
+    }
+}
+
+// Writes octets as they stand. Where there are none, the outcome says why.
+fn push_part<W: Write>(part: Result<Vec<u8>, String>, out: &mut W) -> Result<Outcome, StreamFault>
+    ensures { IfOk result (λ outcome. IsWritten (IsPart (octets_in part) outcome)
+        (W.contents out.old) (W.contents out.new)) }
+{
+    match part {
+        Ok(octets) => {
+            write_part(out, &octets)?;
+            Ok(Outcome::Written(Verdict::AllRead))
+        }
+        Err(why) => Ok(Outcome::Lacking(why)),
+    }
+}
+
+/// The exit status after a run: 0 where all that is wanted was written, 1 where some of the input is rejected or has no
+/// such block, 2 where some cannot be read, after a fault of writing and where memory ran out.
+pub fn status(outcome: &Result<Vec<Outcome>, StreamFault>) -> u8
+    ensures greatest { IfOk outcome.now (λ outcomes. result ≡ greatest_status outcomes.items) }
+    ensures fault { IsErr outcome.now → result ≡ 2 }
+{
+    match outcome {
+        Ok(outcomes) => greatest(outcomes),
+        Err(_) => 2,
+    }
+}

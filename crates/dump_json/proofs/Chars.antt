@@ -1,0 +1,54 @@
+-- Characters, and digits of numbers.
+use Rattle.std.proofs.Common.{◌≡◌, ◌≢◌, ◌≤◌, ◌<◌, ◌+◌, ◌^◌, ℕ, zero, suc, Bool, true, ◌&&◌, not, nat_le, nat_lt, List, [], ◌∷◌, get_or, map, decimal, arith, subst, sym}
+use Rattle.std.specs.Prelude.{nat_eq}
+use Rattle.std.proofs.lemmas.Str.{encode_ascii}
+use Rattle.std.proofs.lemmas.Fmt.{decimal_digit, decimal-digits_of}
+use Rattle.std.proofs.lemmas.Int.Digits.{all_below_base_digits_of, first_digits_of}
+use Rattle.std.specs.Int.Digits.{AllBelowBase, digits_of}
+use Rattle.std.specs.List.{AllByRecursion}
+use Rattle.der_io.specs.Escaped.{is_shown}
+use Rattle.dump_json.specs.Grammar.{AreChars, IsChar, IsDigit, IsInt}
+use Rattle.dump_json.proofs.Texts.{AreChars-append, AreChars-one}
+
+-- a character that is shown is no control character
+pub least-shown : (c : ℕ) → is_shown c ≡ true → 0x20 ≤ c
+least-shown c e = grind (arith, e)
+
+is_shown-ascii : (b : ℕ) → 0x20 ≤ b → b < 0x7F → is_shown b ≡ true
+is_shown-ascii b low high = grind (arith, low, high)
+
+-- a character of ASCII that stands for itself
+pub AreChars-ascii : (b : ℕ) → 0x20 ≤ b → b < 0x7F → b ≢ 0x22 → b ≢ 0x5C → AreChars (b ∷ [])
+AreChars-ascii b low high quote backslash =
+    subst AreChars (encode_ascii b (omega (arith, high)))
+    (AreChars-one _ (IsChar.unescaped b (low, quote, backslash, omega (arith, high), is_shown-ascii b low high)))
+
+-- the character of ASCII stands for itself
+abbrev pub is_plain : ℕ → Bool
+is_plain b = nat_le 0x20 b && (nat_lt b 0x7F && (not (nat_eq b 0x22) && not (nat_eq b 0x5C)))
+
+AreChars-plain_one : (b : ℕ) → is_plain b ≡ true → AreChars (b ∷ [])
+AreChars-plain_one b e =
+    AreChars-ascii b (grind (arith, e)) (grind (arith, e)) (grind (arith, e)) (grind (arith, e))
+
+-- characters of ASCII that stand for themselves
+pub AreChars-plain : (t : List ℕ) → AllByRecursion (λ b. is_plain b ≡ true) t → AreChars t
+AreChars-plain [] h = AreChars.none
+AreChars-plain (b ∷ t) (e, h) = AreChars-append (b ∷ []) t (AreChars-plain_one b e) (AreChars-plain t h)
+
+AreDigits-below : (ds : List ℕ) → AllBelowBase 10 ds → AllByRecursion IsDigit (map (λ d. 48 + d) ds)
+AreDigits-below [] h = h
+AreDigits-below (d ∷ ds) (low, h) = ((omega arith, omega (arith, low)), AreDigits-below ds h)
+
+IsInt-digits : (ds : List ℕ) → AllBelowBase 10 ds → 0 < get_or ds 0 0 → IsInt (map (λ d. 48 + d) ds)
+IsInt-digits [] h first = absurd (omega (arith, first))
+IsInt-digits (d ∷ ds) (low, h) first =
+    IsInt.digits (48 + d) (map (λ e. 48 + e) ds) (omega (arith, first)) (omega (arith, low)) (AreDigits-below ds h)
+
+-- what is printed of a number has no leading zero
+pub IsInt-decimal : (n : ℕ) → n < 2 ^ 64 → IsInt (decimal n)
+IsInt-decimal zero h = subst IsInt (sym (decimal_digit 0 (omega arith))) IsInt.zero
+IsInt-decimal (suc n) h =
+    subst IsInt (sym (decimal-digits_of (suc n) (omega arith) h))
+    (IsInt-digits (digits_of 10 (suc n)) (all_below_base_digits_of 10 (suc n) (omega arith))
+    (first_digits_of 10 (suc n) (omega arith) (omega arith)))

@@ -1,0 +1,16 @@
+-- Lines of JSON.
+use Rattle.std.specs.Prelude.{◌≡◌, ◌⊎◌, ℕ, List, [], ◌++◌, codes}
+use Rattle.dump_json.specs.Grammar.{IsValue}
+
+-- a JSON text of RFC 8259 (section 2) in one line: a value, and one line feed behind it
+abbrev pub IsLine : List ℕ → Type 0
+IsLine line = (text : List ℕ) × (line ≡ text ++ codes "\n") × IsValue text
+
+-- lines, one or more
+pub data AreLines : List ℕ → Type 0 where
+  one : (line : List ℕ) → IsLine line → AreLines line
+  more : (lines line : List ℕ) → AreLines lines → IsLine line → AreLines (lines ++ line)
+
+-- a line, or nothing
+abbrev pub IsLineOrNone : List ℕ → Type 0
+IsLineOrNone text = IsLine text ⊎ (text ≡ [])

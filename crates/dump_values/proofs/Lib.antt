@@ -1,0 +1,4 @@
+pub mod Identifiers
+pub mod Values
+pub mod Wide
+pub mod Strings

@@ -1,0 +1,378 @@
+// Contents octets of primitive encodings: their value, or what is wrong with them.
+ghost use Rattle.std.specs.Prelude.{◌≡◌, false, true, None, Some, IfErr, IfOk, IfSome};
+ghost use Rattle.asn1_headers.specs.Fault.{OutOfMemoryOr};
+ghost use Rattle.asn1_headers.specs.declared.header.ASN1Class.TheVariants.{Universal};
+ghost use Rattle.asn1_headers.specs.declared.tags.TheConstants.{BIT_STRING, BMP_STRING, BOOLEAN, GENERALIZED_TIME, IA5_STRING, INTEGER, OBJECT_IDENTIFIER, OCTET_STRING, PRINTABLE_STRING, TELETEX_STRING, UNIVERSAL_STRING, UTC_TIME, UTF8_STRING};
+ghost use Rattle.asn1_blocks.specs.Contents.{LeafFault, is_leaf_tag};
+ghost use Rattle.dump_values.specs.Tags.{is_gone_into};
+ghost use Rattle.dump_values.specs.Values.{IsBerTime, IsMeaning, IsValue, has_wide_characters as has_wide_characters_is, is_wide};
+ghost use Rattle.dump_values.specs.Strings.{has_text as has_text_is};
+
+use crate::faults::{Fault, leaf_fault};
+use crate::tag::{has_tag, universal_tag};
+use crate::value::{LeafValue, bits_of, identifier_of, likely_text, printed_text, tagged_value};
+use crate::{
+    Characters, Role, Time, ber_time, fraction_digits, has_text, string_of, text_in_form, time_at,
+    value_text,
+};
+use asn1_blocks::contents::check_contents;
+use asn1_blocks::parsed::PlacedHeader;
+use asn1_headers::error::ASN1DecodeErr;
+use asn1_headers::header::ASN1Class;
+use asn1_headers::tags::{
+    BIT_STRING, BMP_STRING, BOOLEAN, ENUMERATED, GENERALIZED_TIME, IA5_STRING, INTEGER, NULL,
+    OBJECT_IDENTIFIER, OCTET_STRING, PRINTABLE_STRING, TELETEX_STRING, UNIVERSAL_STRING, UTC_TIME,
+    UTF8_STRING,
+};
+use asn1_headers::whole_header::Header;
+use asn1_leaves::contents::text::TextForm;
+use asn1_leaves::contents::{boolean, generalized_time, integer, text, utc_time};
+use asn1_leaves::oid;
+use asn1_numbers::number::big_int::BigInt;
+use std::alloc::{AllocError, Global};
+use std::str;
+
+// The value of contents octets, or what is wrong with them.
+#[derive(Drop)]
+pub struct Read {
+    pub value: Option<LeafValue>,
+    pub fault: Option<Fault>,
+}
+
+// The value of the contents octets of a primitive encoding with the header, which stands at the offset and has the role
+// in an extension, or what is wrong with them.
+pub fn read_contents(
+    alloc: Global,
+    header: &Header,
+    contents: &[u8],
+    offset: usize,
+    role: Role,
+) -> Result<Read, AllocError>
+    ensures { IfOk result (λ read.
+        IsMeaning header.now.class header.now.tag contents.now offset read.value read.fault) }
+{
+    if let Some((form, text)) = characters_of(alloc, header, contents)? {
+        return Ok(right(LeafValue::WideText(form, text)));
+    }
+    let error = match value_of(alloc, header, contents, role) {
+        Ok(value) => return Ok(right(value)),
+        Err(error) => error,
+    };
+    if let Some(time) = time_of(alloc, header, contents)? {
+        return Ok(right(LeafValue::BerTime(time)));
+    }
+    let universal = universal_tag(header).map(u64::from);
+    let fault = leaf_fault(alloc, offset, universal, contents, &error)?;
+    Ok(Read {
+        value: None,
+        fault: Some(fault),
+    })
+}
+
+// A value of contents octets in which nothing is wrong.
+fn right(value: LeafValue) -> Read
+    ensures value { result.value ≡ Some value }
+    ensures fault { result.fault ≡ None }
+{
+    Read {
+        value: Some(value),
+        fault: None,
+    }
+}
+
+// The value of contents octets in which the library finds nothing wrong, where X.690 has no wider characters.
+fn value_of(
+    alloc: Global,
+    header: &Header,
+    contents: &[u8],
+    role: Role,
+) -> Result<LeafValue, ASN1DecodeErr>
+    ensures found { IfOk result (IsValue header.now.class header.now.tag contents.now) }
+    ensures refused { IfErr result (OutOfMemoryOr (λ e.
+        (header.now.class ≡ Universal) × LeafFault header.now.tag contents.now e)) }
+{
+    match header.class {
+        ASN1Class::Universal => match header.tag.to_u64() {
+            Some(tag) => universal_value(alloc, tag, contents, role),
+            None => Ok(LeafValue::Other(likely_text(alloc, contents)?)),
+        },
+        _ => Ok(LeafValue::Tagged(tagged_value(alloc, role, contents)?)),
+    }
+}
+
+// The value of contents octets of class Universal, whose bits may have names.
+fn universal_value(
+    alloc: Global,
+    tag: u64,
+    contents: &[u8],
+    role: Role,
+) -> Result<LeafValue, ASN1DecodeErr>
+    ensures found { IfOk result (IsValue Universal tag contents.now) }
+    ensures refused { IfErr result (OutOfMemoryOr (LeafFault tag contents.now)) }
+{
+    match tag {
+        BOOLEAN => boolean_value(contents),
+        INTEGER => integer_value(alloc, contents),
+        BIT_STRING => bits_value(alloc, contents, role),
+        OCTET_STRING => octets_value(alloc, contents),
+        NULL => Ok(LeafValue::Null),
+        OBJECT_IDENTIFIER => identifier_value(alloc, contents),
+        UTF8_STRING => utf8_value(alloc, contents),
+        PRINTABLE_STRING => printable_value(alloc, contents),
+        TELETEX_STRING => teletex_value(alloc, contents),
+        IA5_STRING => ia5_value(alloc, contents),
+        UTC_TIME => utc_value(alloc, contents),
+        GENERALIZED_TIME => generalized_value(alloc, contents),
+        UNIVERSAL_STRING => universal_string_value(alloc, contents),
+        BMP_STRING => bmp_value(alloc, contents),
+        _ => Ok(unknown_value(alloc, tag, contents)?),
+    }
+}
+
+fn boolean_value(contents: &[u8]) -> Result<LeafValue, ASN1DecodeErr>
+    ensures found { IfOk result (IsValue Universal BOOLEAN contents.now) }
+    ensures refused { IfErr result (OutOfMemoryOr (LeafFault BOOLEAN contents.now)) }
+{
+    Ok(LeafValue::Boolean(boolean::read(contents)?))
+}
+
+fn integer_value(alloc: Global, contents: &[u8]) -> Result<LeafValue, ASN1DecodeErr>
+    ensures found { IfOk result (IsValue Universal INTEGER contents.now) }
+    ensures refused { IfErr result (OutOfMemoryOr (LeafFault INTEGER contents.now)) }
+{
+    Ok(LeafValue::Integer(integer::read(alloc, contents)?))
+}
+
+fn bits_value(alloc: Global, contents: &[u8], role: Role) -> Result<LeafValue, ASN1DecodeErr>
+    ensures found { IfOk result (IsValue Universal BIT_STRING contents.now) }
+    ensures refused { IfErr result (OutOfMemoryOr (LeafFault BIT_STRING contents.now)) }
+{
+    Ok(LeafValue::Bits(bits_of(alloc, role, contents)?))
+}
+
+fn octets_value(alloc: Global, contents: &[u8]) -> Result<LeafValue, ASN1DecodeErr>
+    ensures found { IfOk result (IsValue Universal OCTET_STRING contents.now) }
+    ensures refused { IfErr result (OutOfMemoryOr (LeafFault OCTET_STRING contents.now)) }
+{
+    Ok(LeafValue::Octets(likely_text(alloc, contents)?))
+}
+
+fn identifier_value(alloc: Global, contents: &[u8]) -> Result<LeafValue, ASN1DecodeErr>
+    ensures found { IfOk result (IsValue Universal OBJECT_IDENTIFIER contents.now) }
+    ensures refused { IfErr result (OutOfMemoryOr (LeafFault OBJECT_IDENTIFIER contents.now)) }
+{
+    let read = oid::read(alloc, contents)?;
+    Ok(LeafValue::Identifier(identifier_of(alloc, contents, read)?))
+}
+
+fn utf8_value(alloc: Global, contents: &[u8]) -> Result<LeafValue, ASN1DecodeErr>
+    ensures found { IfOk result (IsValue Universal UTF8_STRING contents.now) }
+    ensures refused { IfErr result (OutOfMemoryOr (LeafFault UTF8_STRING contents.now)) }
+{
+    let text = text::read(alloc, TextForm::Utf8, contents)?;
+    Ok(LeafValue::Text(text))
+}
+
+fn printable_value(alloc: Global, contents: &[u8]) -> Result<LeafValue, ASN1DecodeErr>
+    ensures found { IfOk result (IsValue Universal PRINTABLE_STRING contents.now) }
+    ensures refused { IfErr result (OutOfMemoryOr (LeafFault PRINTABLE_STRING contents.now)) }
+{
+    let text = text::read(alloc, TextForm::Printable, contents)?;
+    Ok(LeafValue::Text(text))
+}
+
+fn teletex_value(alloc: Global, contents: &[u8]) -> Result<LeafValue, ASN1DecodeErr>
+    ensures found { IfOk result (IsValue Universal TELETEX_STRING contents.now) }
+    ensures refused { IfErr result (OutOfMemoryOr (LeafFault TELETEX_STRING contents.now)) }
+{
+    let text = text::read(alloc, TextForm::Utf8, contents)?;
+    Ok(LeafValue::Text(text))
+}
+
+// An octet is a character of an IA5String, also beyond 127.
+fn ia5_value(alloc: Global, contents: &[u8]) -> Result<LeafValue, ASN1DecodeErr>
+    ensures found { IfOk result (IsValue Universal IA5_STRING contents.now) }
+    ensures refused { IfErr result (OutOfMemoryOr (LeafFault IA5_STRING contents.now)) }
+{
+    let text = text::read(alloc, TextForm::Octets, contents)?;
+    Ok(LeafValue::Text(text))
+}
+
+fn utc_value(alloc: Global, contents: &[u8]) -> Result<LeafValue, ASN1DecodeErr>
+    ensures found { IfOk result (IsValue Universal UTC_TIME contents.now) }
+    ensures refused { IfErr result (OutOfMemoryOr (LeafFault UTC_TIME contents.now)) }
+{
+    let moment = utc_time::read(alloc, contents)?;
+    let time = time_at(alloc, moment, "")?;
+    Ok(LeafValue::Moment(time))
+}
+
+// A GeneralizedTime has each digit of its fraction, where a moment has nine at most.
+fn generalized_value(alloc: Global, contents: &[u8]) -> Result<LeafValue, ASN1DecodeErr>
+    ensures found { IfOk result (IsValue Universal GENERALIZED_TIME contents.now) }
+    ensures refused { IfErr result (OutOfMemoryOr (LeafFault GENERALIZED_TIME contents.now)) }
+{
+    let moment = generalized_time::read(alloc, contents)?;
+    let digits = fraction_digits(contents);
+    let time = time_at(alloc, moment, digits)?;
+    Ok(LeafValue::Moment(time))
+}
+
+// Octets of a UniversalString that the library takes for UTF-8 are no characters of it, unless there are none.
+fn universal_string_value(alloc: Global, contents: &[u8]) -> Result<LeafValue, ASN1DecodeErr>
+    ensures found { IfOk result (IsValue Universal UNIVERSAL_STRING contents.now) }
+    ensures refused { IfErr result (OutOfMemoryOr (LeafFault UNIVERSAL_STRING contents.now)) }
+{
+    let text = text::read(alloc, TextForm::Utf8, contents)?;
+    if contents.is_empty() {
+        return Ok(LeafValue::Text(text));
+    }
+    let shown = printed_text(alloc, contents)?;
+    Ok(LeafValue::NoText(shown))
+}
+
+// Octets of a BMPString that the library takes for UTF-8 are no characters of it, unless there are none.
+fn bmp_value(alloc: Global, contents: &[u8]) -> Result<LeafValue, ASN1DecodeErr>
+    ensures found { IfOk result (IsValue Universal BMP_STRING contents.now) }
+    ensures refused { IfErr result (OutOfMemoryOr (LeafFault BMP_STRING contents.now)) }
+{
+    let text = text::read(alloc, TextForm::Utf8, contents)?;
+    if contents.is_empty() {
+        return Ok(LeafValue::Text(text));
+    }
+    let shown = printed_text(alloc, contents)?;
+    Ok(LeafValue::NoText(shown))
+}
+
+// The value of contents octets of class Universal whose tag has no rule in the library.
+fn unknown_value(alloc: Global, tag: u64, contents: &[u8]) -> Result<LeafValue, AllocError>
+    requires { is_leaf_tag tag ≡ false }
+    ensures { IfOk result (IsValue Universal tag contents.now) }
+{
+    if tag == ENUMERATED {
+        let number = BigInt::from_signed_bytes_be(alloc, contents)?;
+        return Ok(LeafValue::Integer(number));
+    }
+    if has_text(tag) {
+        return value_as_text(alloc, tag, contents);
+    }
+    Ok(LeafValue::Other(text_of_unknown(alloc, tag, contents)?))
+}
+
+// Contents octets of an unknown type as text, where they may be some.
+fn text_of_unknown(alloc: Global, tag: u64, contents: &[u8]) -> Result<Option<String>, AllocError> {
+    if tag < 256 {
+        printed_text(alloc, contents)
+    } else {
+        likely_text(alloc, contents)
+    }
+}
+
+// The text of contents octets with the tag of a type whose values are text, which the library does not read.
+fn value_as_text(alloc: Global, tag: u64, contents: &[u8]) -> Result<LeafValue, AllocError>
+    requires text { has_text_is tag ≡ true }
+    requires no_leaf { is_leaf_tag tag ≡ false }
+    ensures { IfOk result (IsValue Universal tag contents.now) }
+{
+    if let Some(text) = string_of(tag, contents) {
+        return Ok(LeafValue::OtherText(String::from_str(alloc, text)?));
+    }
+    match value_text(alloc, tag, contents)? {
+        Some(text) => Ok(LeafValue::Notation(text)),
+        None => Ok(LeafValue::NoText(printed_text(alloc, contents)?)),
+    }
+}
+
+// Whether contents octets have a value.
+pub fn is_right(alloc: Global, header: &Header, contents: &[u8]) -> Result<bool, AllocError>
+    requires { is_gone_into header.now.class header.now.constructed header.now.tag ≡ false }
+{
+    Ok(
+        characters_of(alloc, header, contents)?.is_some()
+            || is_right_value(alloc, header, contents)?
+            || time_of(alloc, header, contents)?.is_some(),
+    )
+}
+
+fn is_right_value(alloc: Global, header: &Header, contents: &[u8]) -> Result<bool, AllocError>
+    requires { is_gone_into header.now.class header.now.constructed header.now.tag ≡ false }
+{
+    Ok(is_read(alloc, header, contents)? && !has_wide_characters(header, contents))
+}
+
+// Whether the library finds nothing wrong with contents octets.
+fn is_read(alloc: Global, header: &Header, contents: &[u8]) -> Result<bool, AllocError>
+    requires { is_gone_into header.now.class header.now.constructed header.now.tag ≡ false }
+{
+    let placed = PlacedHeader {
+        class: header.class,
+        constructed: header.constructed,
+        tag: header.tag.clone(alloc)?,
+        start: 0,
+        end: contents.len(),
+    };
+    match check_contents(alloc, &placed, contents) {
+        Ok(()) => Ok(true),
+        Err(ASN1DecodeErr::OutOfMemory) => Err(AllocError),
+        Err(_) => Ok(false),
+    }
+}
+
+// The value of a time of BER that is none of DER.
+fn time_of(alloc: Global, header: &Header, contents: &[u8]) -> Result<Option<Time>, AllocError>
+    ensures { IfOk result (λ found. IfSome found (λ _. IsBerTime header.now.class header.now.tag contents.now)) }
+{
+    match universal_tag(header) {
+        Some(tag) => ber_time(alloc, u64::from(tag), contents),
+        None => Ok(None),
+    }
+}
+
+// The characters of a string that the library takes for UTF-8 where X.690 has others, and their form, if the octets are
+// so. In a TeletexString they are Latin-1 where they are no UTF-8.
+fn characters_of(
+    alloc: Global,
+    header: &Header,
+    contents: &[u8],
+) -> Result<Option<(Characters, String)>, AllocError>
+    ensures { IfOk result (λ found. IfSome found (λ _. is_wide header.now.class header.now.tag ≡ true)) }
+{
+    let Some(form) = form_of(header, contents) else {
+        return Ok(None);
+    };
+    match text_in_form(alloc, form, contents)? {
+        Some(text) => Ok(Some((form, text))),
+        None => Ok(None),
+    }
+}
+
+fn form_of(header: &Header, contents: &[u8]) -> Option<Characters>
+    ensures { IfSome result (λ _. is_wide header.now.class header.now.tag ≡ true) }
+{
+    if contents.is_empty() || !matches!(header.class, ASN1Class::Universal) {
+        return None;
+    }
+    if has_tag(&header.tag, TELETEX_STRING) && str::from_utf8(contents).is_err() {
+        return Some(Characters::Latin1);
+    }
+    if has_tag(&header.tag, UNIVERSAL_STRING) {
+        return Some(Characters::Utf32);
+    }
+    if has_tag(&header.tag, BMP_STRING) {
+        return Some(Characters::Utf16);
+    }
+    None
+}
+
+// Whether X.690 has characters of four or of two octets there, which the library takes for UTF-8.
+fn has_wide_characters(header: &Header, contents: &[u8]) -> bool
+    ensures { result ≡ has_wide_characters_is header.now.class header.now.tag contents.now }
+{
+    match header.class {
+        ASN1Class::Universal => {
+            !contents.is_empty()
+                && (has_tag(&header.tag, UNIVERSAL_STRING) || has_tag(&header.tag, BMP_STRING))
+        }
+        ASN1Class::Application | ASN1Class::ContextSpecific | ASN1Class::Private => false,
+    }
+}

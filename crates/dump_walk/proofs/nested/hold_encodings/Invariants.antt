@@ -1,0 +1,6 @@
+-- For `nested::hold_encodings`: what grows less, so that it ends.
+use Rattle.dump_walk.specs.Steps.{to_go}
+use Rattle.dump_walk.proofs.nested.hold_encodings.Given as goal
+
+abbrev pub decreases-loop-left : goal.decreases-loop-left
+decreases-loop-left l = to_go l.cursor

@@ -1,0 +1,33 @@
+-- For `piece::opened`: what it returns is right.
+use Rattle.std.proofs.Common.{ap, inl, refl, slice_range}
+use Rattle.std.specs.Prelude.{None}
+use Rattle.dump_walk.proofs.Pieces.{IsJudgedAs-opened, AreFirstRules-whole, StartsWith-whole}
+use Rattle.dump_walk.proofs.piece.opened.Goals as goal
+
+pub returns : goal.returns
+returns c =
+    let r = c.requires in
+    let left = c.args.left.now in
+    let offset = c.args.offset in
+    let header = c.args.header in
+    let rules = c.in_ok-breaches.breaches.rules.items in
+    let first = AreFirstRules-whole left header rules r.whole c.in_ok-breaches.ensures.rules in
+    let fault = c.in_ok-fault.ensures r.front in
+    record {
+      starts = λ depth. StartsWith-whole left offset depth rules None header c.size_of-size.result
+          c.step_of-step.result _ r.front r.form
+          (IsJudgedAs-opened left offset depth rules header _ r.front r.whole r.opened fault) (inl r.opened) first
+          c.step_of-step.ensures c.size_of-size.ensures;
+      kind = (
+        r.front,
+        r.whole,
+        r.opened,
+        ap (λ z. slice_range left header.size z) c.size_of-size.ensures,
+        c.in_ok-joined.ensures,
+        fault,
+      );
+      offset_is = refl;
+      place_is = refl;
+      holding = tt;
+      no_list = c.in_ok-breaches.ensures.spare;
+    }

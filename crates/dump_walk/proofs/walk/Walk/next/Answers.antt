@@ -1,0 +1,64 @@
+-- For `walk::Walk::next`: what it returns is right.
+use Rattle.std.proofs.Common.{◌∙◌, ◌<◌, ◌≤◌, ◌+◌, ap, arith, length, refl, subst, sym}
+use Rattle.dump_walk.specs.Fronts.{StandAt}
+use Rattle.dump_walk.specs.PieceFields.{IsSpotIn}
+use Rattle.dump_walk.specs.Pieces.{IsHolding, IsKind, fault_offset, front_of}
+use Rattle.dump_walk.specs.Steps.{to_go}
+use Rattle.dump_walk.proofs.Walks.{IsAhead-back, IsAhead-none, Takes-next, IsAhead-step, StandAt-left}
+use Rattle.dump_walk.proofs.Cursors.{length-ends, octets-step, to_go-left_le, to_go-step_lt}
+use Rattle.dump_walk.proofs.walk.Walk.next.Goals as goal
+
+pub returns-in_default-clause-passes : goal.returns-in_default-clause-passes
+returns-in_default-clause-passes c =
+    IsAhead-none c.args.self.now.cursor c.next.new.self c.next.ensures.octets c.next.ensures.offset c.next.ensures.ended
+    c.in_default.ensures.none
+
+pub returns-clause-passes : goal.returns-clause-passes
+returns-clause-passes c =
+    let k = c.args.self.now.cursor in
+    let m = c.next.new.self in
+    let n = c.go.new.self in
+    let e = c.in-Some.ensures in
+    let left = c.in-Some.left in
+    let at = e.left in
+    let levels = length at.around in
+    let h = c.in_ok-place.ensures in
+    let piece = c.in_ok-piece.piece in
+    let p = c.in_ok-piece.ensures in
+    let goes = c.in_ok-go.ensures in
+    let f = front_of levels piece in
+    let own = fault_offset piece.fault in
+    let starts = p.starts levels in
+    let less : to_go n < to_go m =
+    to_go-step_lt m n left piece.step at (Takes-next m.offset levels left f piece.step own starts) goes in
+    let no_more : to_go m ≤ to_go k = to_go-left_le k m e.octets e.offset e.ended in
+    let position = StandAt-left m.octets.now left.octets.now m.offset at.end.offset at.octets_are in
+    record {
+      levels = levels;
+      left = left.octets.now;
+      ahead = λ later more ahead. IsAhead-back k m _ _ e.octets e.offset e.ended
+          (IsAhead-step m n left f piece.step own later more at starts goes ahead);
+      position = subst (λ z. StandAt k.octets.now z left.octets.now) (sym p.offset_is)
+          (subst (λ z. StandAt z m.offset left.octets.now) e.octets position);
+      kind = subst (λ z. IsKind left.octets.now z piece.kind piece.fault) (sym p.offset_is) p.kind;
+      inside = ap (λ z. z.is_inside) p.place_is ∙ h.same;
+      base = ap (λ z. z.base) p.place_is ∙ h.base;
+      depth = ap (λ z. z.depth) p.place_is ∙ (h.depth
+          ∙ ap (λ z. c.args.self.now.place.depth + z) (c.depth-depth.ensures ∙ length-ends m left at));
+      documents = ap (λ z. z.documents) p.place_is ∙ h.documents;
+      most = ap (λ z. z.most_depth) p.place_is ∙ h.most;
+      holding = subst (λ z. IsHolding left.octets.now piece.kind z piece.nested) (sym p.place_is) p.holding;
+      no_list = λ out. p.no_list (sym (ap (λ z. z.is_inside) p.place_is) ∙ out);
+      less = omega (arith, less, no_more);
+      same_octets = octets-step m n piece.step goes ∙ e.octets;
+      same_place = refl;
+    }
+
+pub returns-clause-field : goal.returns-clause-field
+returns-clause-field c =
+    let h = c.in_ok-place.ensures in
+    let p = c.in_ok-piece.ensures in (
+      _,
+      ap (λ z. z.depth) p.place_is ∙ h.depth,
+      subst (IsSpotIn c.args.self.now.fields _) (sym (ap (λ z. z.spot) p.place_is ∙ h.spot)) c.in_ok-spot.ensures.spot,
+    )

@@ -1,0 +1,16 @@
+pub mod Fields
+pub mod Fronts
+pub mod Marks
+pub mod PieceFields
+pub mod PieceSteps
+pub mod Pieces
+pub mod Texts
+pub mod Headers
+pub mod Ends
+pub mod Elements
+pub mod Seek
+pub mod SeekSteps
+pub mod Segments
+pub mod StringOctets
+pub mod Steps
+pub mod StringSteps

@@ -1,0 +1,34 @@
+//! A document gone over by its headers, once for lines, pages and JSON.
+//!
+//! `walk::Walk` goes over the octets of a document by their headers. Each `piece::Piece` that it returns is an
+//! encoding, end-of-contents octets, or octets that begin with no header: with its value, what is wrong with it,
+//! which rules of DER it breaks, and the encodings inside the octets of a string. `dump_lines` and `dump_json` show the
+//! same pieces.
+//!
+//! An element is an encoding, or what has a length of the indefinite form of BER (X.690 8.1.3.6), with its
+//! end-of-contents octets. [`block_at`] finds one by its offset, [`behind_header`] its contents octets, and
+//! [`string_octets`] the octets that a string holds.
+//!
+//! The only error is that memory ran out.
+#![tactic(auto)]
+
+pub mod cursor;
+mod element;
+pub mod element_header;
+pub mod fields;
+pub mod marks;
+pub mod nested;
+pub mod piece;
+pub mod place;
+mod seek;
+pub mod segments;
+pub mod string_value;
+pub mod strings;
+pub mod style;
+pub mod sum;
+pub mod tag;
+pub mod walk;
+
+pub use element::behind_header;
+pub use seek::{NoBlock, block_at};
+pub use string_value::{NoString, string_octets};

@@ -1,0 +1,187 @@
+// Which rules of DER an encoding breaks.
+ghost use Rattle.std.specs.Prelude.{◌≡◌, ◌++◌, ◌∷◌, ◌+◌, ◌<◌, ◌≤◌, [], IfOk, OnOk, false, length, map};
+ghost use Rattle.asn1_headers.specs.Front.{IsAtFront};
+ghost use Rattle.dump_walk.specs.Marks.{name_of as name_of_is, rule_breach as rule_breach_is, spare_if, breach_of, breaches_of, spare_breach as spare_breach_is};
+ghost use Rattle.dump_walk.specs.PieceSteps.{AreRulesFound};
+
+use crate::place::Place;
+use asn1_departures::{Rule, broken_rules};
+use asn1_headers::whole_header::Header;
+use dump_values::{NamedBits, Role};
+use std::alloc::{AllocError, Global};
+
+// What of DER an encoding breaks.
+#[derive(Drop)]
+pub struct Breaches {
+    // the rules of the library that it breaks by itself
+    pub rules: Vec<Rule>,
+    // whether it is a list of named bits that ends with a 0, as far as an extension tells that it is such a list
+    pub has_spare_bits: bool,
+}
+
+// A rule that is broken, as a mark has it.
+#[derive(Clone, Copy, Drop)]
+pub struct BrokenRule {
+    // the rule's name in a program
+    pub name: &'static str,
+    // the clauses that say it
+    pub section: &'static str,
+    // what is wrong
+    pub text: &'static str,
+}
+
+impl Breaches {
+    // Of what breaks nothing.
+    pub fn none(alloc: Global) -> Breaches
+        ensures rules { result.rules.items ≡ [] }
+        ensures spare { result.has_spare_bits ≡ false }
+    {
+        Breaches {
+            rules: Vec::new(alloc),
+            has_spare_bits: false,
+        }
+    }
+
+    // The rules that are broken.
+    pub fn describe(&self, alloc: Global) -> Result<Vec<BrokenRule>, AllocError>
+        ensures { IfOk result (λ broken. map breach_of broken.items
+            ≡ breaches_of self.now.rules.items self.now.has_spare_bits) }
+    {
+        let mut broken = described_rules(alloc, &self.rules)?;
+        push_spare(self.has_spare_bits, &mut broken)?;
+        Ok(broken)
+    }
+}
+
+fn described_rules(alloc: Global, rules: &[Rule]) -> Result<Vec<BrokenRule>, AllocError>
+    ensures { IfOk result (λ broken. map breach_of broken.items ≡ map rule_breach_is rules.now) }
+{
+    let mut broken = Vec::new(alloc);
+    for rule in rules {
+        broken.push(rule_breach(*rule))?;
+    }
+    Ok(broken)
+}
+
+fn push_spare(is_spare: bool, broken: &mut Vec<BrokenRule>) -> Result<(), AllocError>
+    ensures { OnOk result (map breach_of broken.new.items ≡ map breach_of broken.old.items ++ spare_if is_spare) }
+{
+    if is_spare {
+        push_breach(spare_breach(), broken)
+    } else {
+        Ok(())
+    }
+}
+
+fn push_breach(rule: BrokenRule, broken: &mut Vec<BrokenRule>) -> Result<(), AllocError>
+    ensures { OnOk result (map breach_of broken.new.items ≡ map breach_of broken.old.items ++ breach_of rule ∷ []) }
+{
+    broken.push(rule)?;
+    Ok(())
+}
+
+fn rule_breach(rule: Rule) -> BrokenRule
+    ensures { breach_of result ≡ rule_breach_is rule }
+{
+    BrokenRule {
+        name: name_of(rule),
+        section: rule.section(),
+        text: rule.text(),
+    }
+}
+
+fn spare_breach() -> BrokenRule
+    ensures { breach_of result ≡ spare_breach_is }
+{
+    BrokenRule {
+        name: "NamedBits",
+        section: "11.2.2",
+        text: "named bits that end with 0",
+    }
+}
+
+// What of DER the whole encoding breaks that begins the octets and stands at the place.
+pub fn find_breaches(
+    alloc: Global,
+    left: &[u8],
+    header: &Header,
+    place: Place,
+) -> Result<Breaches, AllocError>
+    requires front { IsAtFront left.now header.now }
+    requires whole { header.now.size + header.now.announced ≤ length left.now }
+    ensures rules { IfOk result (λ breaches. AreRulesFound left.now header.now breaches.rules.items) }
+    ensures spare { IfOk result (λ breaches. place.is_inside ≡ false → breaches.has_spare_bits ≡ false) }
+{
+    let contents = &left[header.size..header.size + header.announced];
+    Ok(Breaches {
+        rules: broken_rules(alloc, left, header)?,
+        has_spare_bits: has_spare_bits(place, header, contents),
+    })
+}
+
+// Whether contents octets at the place are a list of named bits that ends with a 0.
+fn has_spare_bits(place: Place, header: &Header, contents: &[u8]) -> bool
+    ensures { place.is_inside ≡ false → result ≡ false }
+{
+    if !place.is_inside {
+        return false;
+    }
+    match place.role(header) {
+        Role::Bits(NamedBits::KeyUsage | NamedBits::ReasonFlags) => {
+            !header.constructed && ends_with_zero(contents)
+        }
+        _ => false,
+    }
+}
+
+// Whether the last bit of a BIT STRING is 0.
+fn ends_with_zero(contents: &[u8]) -> bool {
+    match contents {
+        [unused, octets @ ..] if *unused < 8 => has_zero(octets, *unused),
+        _ => false,
+    }
+}
+
+fn has_zero(octets: &[u8], unused: u8) -> bool
+    requires { unused < 8 }
+{
+    match octets.last() {
+        Some(octet) => *octet / (1 << unused) % 2 == 0,
+        None => false,
+    }
+}
+
+// The name of a rule in a program.
+fn name_of(rule: Rule) -> &'static str
+    ensures { result.now ≡ name_of_is rule }
+{
+    match rule {
+        Rule::LongIdentifier => "LongIdentifier",
+        Rule::PaddedTag => "PaddedTag",
+        Rule::IndefiniteLength => "IndefiniteLength",
+        Rule::LongLength => "LongLength",
+        Rule::ReservedTag => "ReservedTag",
+        Rule::NotConstructed => "NotConstructed",
+        Rule::NotPrimitive => "NotPrimitive",
+        Rule::ConstructedString => "ConstructedString",
+        Rule::BooleanSize => "BooleanSize",
+        Rule::BooleanValue => "BooleanValue",
+        Rule::NoInteger => "NoInteger",
+        Rule::PaddedInteger => "PaddedInteger",
+        Rule::BinaryReal => "BinaryReal",
+        Rule::DecimalReal => "DecimalReal",
+        Rule::SpecialReal => "SpecialReal",
+        Rule::UnusedCount => "UnusedCount",
+        Rule::UnusedOfNone => "UnusedOfNone",
+        Rule::UnusedBits => "UnusedBits",
+        Rule::NullContents => "NullContents",
+        Rule::Subidentifiers => "Subidentifiers",
+        Rule::Iri => "Iri",
+        Rule::Characters => "Characters",
+        Rule::UtcTime => "UtcTime",
+        Rule::GeneralizedTime => "GeneralizedTime",
+        Rule::Time => "Time",
+        Rule::Order => "Order",
+        Rule::NotEncodings => "NotEncodings",
+    }
+}

@@ -1,0 +1,133 @@
+// The octets that strings hold.
+ghost use Rattle.std.specs.Prelude.{◌≡◌, ℕ, List, IfOk, MatchOption, true};
+ghost use Rattle.asn1_headers.specs.Front.{IsAtFront};
+ghost use Rattle.asn1_headers.specs.declared.header.ASN1Class.TheVariants.{Universal};
+ghost use Rattle.dump_walk.specs.StringOctets.{AreOctetsOf, IsStringAnswer, is_string_tag as is_string_tag_is};
+ghost use Rattle.dump_walk.specs.StringSteps.{HasNoPiece, HasPiece};
+
+use crate::element_header::{find_header, has_stray_form};
+use crate::segments::joined_segments;
+use asn1_headers::tags::{
+    BIT_STRING, BMP_STRING, NUMERIC_STRING, OBJECT_DESCRIPTOR, OCTET_STRING, UNIVERSAL_STRING,
+    UTF8_STRING,
+};
+use asn1_headers::whole_header::Header;
+use dump_values::tag::universal_tag;
+use std::alloc::{AllocError, Global};
+
+/// Why an element holds no octets of a string.
+#[derive(Clone, Copy, Debug, Drop, PartialEq)]
+pub enum NoString {
+    /// It is of another type.
+    OtherType,
+    /// It is a malformed string.
+    Malformed,
+}
+
+/// The octets that a string holds: contents octets of a primitive one, and those of the segments of a constructed one,
+/// joined (X.690 8.7.3). Those of a BIT STRING stand behind the number of unused bits (8.6.2).
+///
+/// Times and ObjectDescriptors are strings, too. Characters are not looked at.
+///
+/// # Errors
+/// Memory ran out.
+pub fn string_octets(alloc: Global, element: &[u8]) -> Result<Result<Vec<u8>, NoString>, AllocError>
+    ensures { IfOk result (IsStringAnswer element.now) }
+{
+    let Some(header) = find_header(alloc, element)? else {
+        return Ok(Err(NoString::OtherType));
+    };
+    let Some(tag) = string_type(&header) else {
+        return Ok(Err(NoString::OtherType));
+    };
+    let Some(contents) = contents_in_one_piece(alloc, tag, &header, element)? else {
+        return Ok(Err(NoString::Malformed));
+    };
+    match octets_of(alloc, tag, contents)? {
+        Some(octets) => Ok(Ok(octets)),
+        None => Ok(Err(NoString::Malformed)),
+    }
+}
+
+// The tag of a string.
+fn string_type(header: &Header) -> Option<u8>
+    ensures { MatchOption result
+        (header.now.class ≡ Universal → is_string_tag_is header.now.tag ≡ true → ⊥)
+        (λ tag. (header.now.class ≡ Universal) × (header.now.tag ≡ tag) × (is_string_tag_is tag ≡ true)) }
+{
+    match universal_tag(header) {
+        Some(tag) if is_string_tag(tag) => Some(tag),
+        _ => None,
+    }
+}
+
+// Whether types with the tag number, of class Universal, are strings: also an ObjectDescriptor and the two times.
+pub fn is_string_tag(tag: u8) -> bool
+    ensures { result ≡ is_string_tag_is tag }
+{
+    matches!(
+        u64::from(tag),
+        BIT_STRING
+            | OCTET_STRING
+            | OBJECT_DESCRIPTOR
+            | UTF8_STRING
+            | NUMERIC_STRING..=UNIVERSAL_STRING | BMP_STRING
+    )
+}
+
+// The contents octets of a string in one piece, if they are well-formed.
+fn contents_in_one_piece(
+    alloc: Global,
+    tag: u8,
+    header: &Header,
+    element: &[u8],
+) -> Result<Option<Vec<u8>>, AllocError>
+    requires { IsAtFront element.now header.now }
+    ensures { IfOk result (λ found. MatchOption found
+        (HasNoPiece tag header.now element.now)
+        (λ contents. HasPiece tag header.now element.now contents.items)) }
+{
+    let (_, contents) = element.split_at(header.size);
+    if header.constructed {
+        return joined_segments(alloc, tag, contents, header.is_indefinite);
+    }
+    if has_stray_form(element, header) {
+        return Ok(None);
+    }
+    let mut copy = Vec::new(alloc);
+    copy.extend_from_slice(contents)?;
+    Ok(Some(copy))
+}
+
+// The octets of a string, by its contents octets in one piece.
+fn octets_of(alloc: Global, tag: u8, contents: Vec<u8>) -> Result<Option<Vec<u8>>, AllocError>
+    ensures { IfOk result (λ found. MatchOption found
+        ((octets : List ℕ) → AreOctetsOf tag contents.items octets → ⊥)
+        (λ octets. AreOctetsOf tag contents.items octets.items)) }
+{
+    if u64::from(tag) != BIT_STRING {
+        return Ok(Some(contents));
+    }
+    let Some(bits) = bits_behind_unused(&contents) else {
+        return Ok(None);
+    };
+    let mut octets = Vec::new(alloc);
+    octets.extend_from_slice(bits)?;
+    Ok(Some(octets))
+}
+
+// The octets of a BIT STRING behind the number of unused bits.
+fn bits_behind_unused(contents: &[u8]) -> Option<&[u8]>
+    ensures { MatchOption result
+        ((octets : List ℕ) → AreOctetsOf BIT_STRING contents.now octets → ⊥)
+        (λ octets. AreOctetsOf BIT_STRING contents.now octets.now) }
+{
+    let (unused, bits) = contents.split_first()?;
+    if *unused > 7 {
+        return None;
+    }
+    if bits.is_empty() && *unused > 0 {
+        return None;
+    }
+    Some(bits)
+}

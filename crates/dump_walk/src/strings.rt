@@ -1,0 +1,111 @@
+// Strings that are constructed, among the pieces of octets.
+ghost use Rattle.std.specs.Prelude.{◌≡◌, IfOk, IfSome, false};
+ghost use Rattle.asn1_headers.specs.declared.header.ASN1Class.TheVariants.{Universal};
+ghost use Rattle.dump_values.specs.Tags.{is_gone_into};
+ghost use Rattle.dump_walk.specs.Segments.{AreSegmentsOf};
+ghost use Rattle.dump_walk.specs.Pieces.{IsJoined};
+
+use crate::place::Place;
+use crate::segments::joined_segments;
+use crate::string_value::is_string_tag;
+use asn1_headers::header::ASN1Class;
+use asn1_headers::whole_header::Header;
+use asn1_numbers::number::big_uint::BigUint;
+use dump_values::Role;
+use dump_values::leaf::{Read, read_contents};
+use dump_values::tag::{holds_encodings, universal_tag};
+use dump_values::value::LeafValue;
+use std::alloc::{AllocError, Global};
+
+// The tag of a string that is constructed: also of an ObjectDescriptor and of times, which are strings.
+pub fn string_tag(header: &Header) -> Option<u8>
+    ensures { IfSome result (λ tag. (header.now.class ≡ Universal) × (header.now.tag ≡ tag)) }
+{
+    match universal_tag(header) {
+        Some(tag) if header.constructed => { if is_string_tag(tag) { Some(tag) } else { None } }
+        _ => None,
+    }
+}
+
+// How many encodings are around the outermost string that is open and constructed, if there is one, after an encoding
+// inside so many.
+pub fn string_around(string: Option<usize>, depth: usize, is_string: bool) -> Option<usize> {
+    match string {
+        Some(outermost) if outermost < depth => string,
+        _ if is_string => Some(depth),
+        _ => None,
+    }
+}
+
+// Whether what stands inside so many encodings is in a string that is constructed.
+pub fn is_in_string(string: Option<usize>, depth: usize) -> bool {
+    match string {
+        Some(outermost) => outermost < depth,
+        None => false,
+    }
+}
+
+// A constructed string in one piece: its contents octets, and their value.
+#[derive(Drop)]
+pub struct Joined {
+    pub contents: Vec<u8>,
+    pub value: LeafValue,
+}
+
+// The segments of an encoding with the header, joined, if it is a constructed string and they have a value.
+pub fn read_joined(
+    alloc: Global,
+    header: &Header,
+    contents: &[u8],
+    place: Place,
+) -> Result<Option<Joined>, AllocError>
+    ensures { IfOk result (λ found. IfSome found (IsJoined header.now contents.now)) }
+{
+    let Some((whole, joined)) = joined_string(alloc, header, contents, place)? else {
+        return Ok(None);
+    };
+    let Read { value, .. } = read_contents(alloc, &whole, &joined, 0, Role::Plain)?;
+    match value {
+        Some(value) => Ok(Some(Joined {
+            contents: joined,
+            value,
+        })),
+        None => Ok(None),
+    }
+}
+
+// The header and the contents octets of a string in one piece, where these are the contents octets of one that is
+// constructed.
+fn joined_string(
+    alloc: Global,
+    header: &Header,
+    contents: &[u8],
+    place: Place,
+) -> Result<Option<(Header, Vec<u8>)>, AllocError>
+    ensures { IfOk result (λ found. IfSome found (λ f.
+        (header.now.class ≡ Universal) × (f.0.class ≡ Universal) × (f.0.tag ≡ header.now.tag)
+        × (f.0.constructed ≡ false) × (is_gone_into f.0.class f.0.constructed f.0.tag ≡ false)
+        × AreSegmentsOf header.now.tag contents.now header.now.is_indefinite f.1.items)) }
+{
+    if place.is_segment {
+        return Ok(None);
+    }
+    let Some(tag) = string_tag(header) else {
+        return Ok(None);
+    };
+    let Some(joined) = joined_segments(alloc, tag, contents, header.is_indefinite)? else {
+        return Ok(None);
+    };
+    let whole = Header {
+        class: ASN1Class::Universal,
+        constructed: false,
+        tag: BigUint::from_u64(alloc, u64::from(tag))?,
+        size: 0,
+        announced: joined.len(),
+        is_indefinite: false,
+    };
+    if holds_encodings(&whole) {
+        return Ok(None);
+    }
+    Ok(Some((whole, joined)))
+}
