@@ -7,13 +7,13 @@
  *
  * What a call holds in memory while it runs, beside the caller's:
  *
- * - simple_asn1_read: no more records than there is room for, or than 4,096, and 64 bytes for each level of nesting
- *   that is open at a time. simple_asn1_check: these levels alone.
- * - simple_asn1_read_strict: the same. But a document that is not seen at once to be canonical takes its blocks, up to
- *   40 bytes for each of its bytes.
+ * - simple_asn1_read and simple_asn1_outline: no more records than there is room for, and 64 bytes for each level of
+ *   nesting that is open at a time. simple_asn1_check: these levels alone.
+ * - simple_asn1_read_strict: the same, or 4,096 records, if that is more. But a document that is not seen at once to be
+ *   canonical takes its blocks, up to 40 bytes for each of its bytes.
  * - simple_asn1_rewrite and simple_asn1_write: of canonical bytes little; of others their blocks, and what is written.
- * - simple_asn1_outline, simple_asn1_values and simple_asn1_signed: a record for each block, whatever the room. That is
- *   up to 32 bytes for each byte. simple_asn1_departures: 16 bytes for each departure.
+ * - simple_asn1_values: a record for each block, up to 32 bytes for each byte, if there is room for all values, or else
+ *   the levels alone. simple_asn1_signed: a record for each block. simple_asn1_departures: 16 bytes for each departure.
  *
  * Where it is not X.690's BER, and what strict reading accepts though DER forbids it:
  *

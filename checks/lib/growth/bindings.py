@@ -91,6 +91,8 @@ MEMORY = {
     "kept": (NO_ROOM, 1),
     "read_strict": (NO_ROOM, 50_000_000),
     "check": (OK, 0),
+    "outline": (NO_ROOM, 50_000_000),
+    "values": (NO_ROOM, 1),
     "rewrite": (NO_ROOM, 100_000_000),
     "departures": (OK, 0),
 }

@@ -34,7 +34,13 @@ int main(int count, char **words)
     simple_asn1_outcome found;
     if (!strcmp(words[1], "read_strict"))
         found = simple_asn1_read_strict(octets, SIZE, NULL, 0);
-    else if (!strcmp(words[1], "check"))
+    else if (!strcmp(words[1], "outline"))
+        found = simple_asn1_outline(octets, SIZE, NULL, 0);
+    else if (!strcmp(words[1], "values")) {
+        static const size_t steps[] = {1};
+        static const simple_asn1_path path = {0, 1};
+        found = simple_asn1_values(octets, SIZE, steps, 1, &path, 1, NULL, 0);
+    } else if (!strcmp(words[1], "check"))
         found = simple_asn1_check(octets, SIZE);
     else if (!strcmp(words[1], "rewrite"))
         found = simple_asn1_rewrite(octets, SIZE, NULL, 0);

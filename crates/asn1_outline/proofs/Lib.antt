@@ -14,6 +14,6 @@ mod Built
 mod BuildSteps
 mod ShapesAlone
 mod Walks
-mod Checks
+pub mod Fronts
 mod ShapesWithin
 mod SignedHeaders

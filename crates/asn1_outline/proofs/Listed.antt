@@ -1,5 +1,4 @@
--- The builder of entries holds those of open frames and of frames that end, for `listing`, `header_walk` and
--- `simple_asn1_c`.
+-- The builder of entries holds those of open frames and of frames that end, for `listing` and `header_walk`.
 use Rattle.std.proofs.Common.{◌≡◌, ℕ, suc, ◌+◌, ◌-◌, ◌<◌, ◌≤◌, ◌++◌, List, [], ◌∷◌, None, drop, inl, inr, length, set, take, refl, sym, ap, ◌∙◌, subst, arith, append_assoc, length-append}
 use Rattle.std.specs.List.{slice_range}
 use Rattle.std.proofs.lemmas.List.{length-map, map-append}
@@ -24,10 +23,10 @@ use Rattle.asn1_blocks.specs.View.{tree_offset}
 use Rattle.asn1_blocks.proofs.HeldFronts.{HoldAround, HoldFront-inside}
 use Rattle.asn1_blocks.proofs.Slices.{tree_offset-encodes}
 use Rattle.asn1_outline.specs.Entries.{AreEntries, AreEntriesOf, no_entry}
-use Rattle.asn1_outline.specs.Listing.{AllHold, AreOfTrees, IsBegun, all_hold, builder_holds, with_items_at, with_items}
+use Rattle.asn1_outline.specs.Listing.{AllHold, AreOfTrees, IsBegun, IsFront, all_hold, builder_holds, with_items_at, with_items}
 use Rattle.asn1_outline.specs.Structure.{Holds, IsNode, IsTaggedAt, Node, no_nodes, node, node_depths, node_in_order, node_tree, nodes_depths, nodes_in_order, nodes_of, nodes_trees}
 use Rattle.asn1_outline.specs.declared.entry.Entry.{Entry}
-use Rattle.asn1_outline.specs.declared.listing.EntryBuilder.{EntryBuilder}
+use Rattle.asn1_outline.specs.declared.entry_builder.EntryBuilder.{EntryBuilder}
 use Rattle.asn1_outline.specs.declared.listing.EntryItems.{EntryItems}
 use Rattle.asn1_outline.proofs.Entries.{AreEntries-without_items, AreEntries-append_node, AreEntries-with_items}
 use Rattle.asn1_outline.proofs.Structures.{AreNodes-append, trees_of-nodes}
@@ -101,14 +100,13 @@ all_hold-open x rs r f g gs (us ∷ rest) b at none a = record {
 pub HasOpened-entry_builder :
     (x : List ℕ) (h : PlacedHeader) (offset depth : ℕ) (a b : EntryBuilder) (i : EntryItems) (r : Entry) →
     IsBegun x offset i.entry depth r →
-    i.entry ≡ length a.entries.items → i.count ≡ 0 → b.entries.items ≡ a.entries.items ++ r ∷ [] →
-    HasOpened builder_holds x h offset depth a i b
+    ((all : List Entry) → IsFront a all → i.entry ≡ length all) → i.count ≡ 0 →
+    ((all : List Entry) → IsFront a all → IsFront b (all ++ r ∷ [])) → HasOpened builder_holds x h offset depth a i b
 HasOpened-entry_builder x h offset depth a b i r begun at none is = record {
-  holds = λ kind f fs trees d k w.
+  holds = λ kind f fs trees d k (all, front, w).
       let e = opened_at offset kind h in
       let deep = subst (λ z. IsBegun x offset i.entry z r) d begun in
-      subst (λ z. all_hold x z (in_frame e i ∷ f ∷ fs) ([] ∷ trees)) (sym is)
-      (all_hold-open x a.entries.items r (in_frame e i) f fs trees deep at none w);
+      (all ++ r ∷ [], is all front, all_hold-open x all r (in_frame e i) f fs trees deep (at all front) none w);
 }
 
 -- a leaf, or an encoding that is not read inside, holds no trees
@@ -124,25 +122,29 @@ Holds-none x o e h (unknown c k p n w) v i none s found shut =
     let same = Encoding-unique y y c h.class k h.constructed n h.tag w v s.1 i [] [] s.2 found refl in
     inr (refl, λ (other, bit, are). shut (inr (λ z. other (same.class ∙ z), sym same.constructed ∙ bit)))
 
--- the builder holds one block more at the header, without items, once its entry is pushed
+-- the builder holds one block more at the header, without items, once its entry is added
 pub HasLeaf-entry_builder :
-    (x : List ℕ) (h : PlacedHeader) (offset limit depth : ℕ) (a b : EntryBuilder) (i : EntryItems) (r : Entry) →
+    (x : List ℕ) (h : PlacedHeader) (offset limit depth : ℕ) (a b : EntryBuilder) (i : EntryItems) (r : Entry) (n : ℕ) →
     HeaderFound x offset limit h →
     (IsReadInside h.class h.constructed h.tag → ⊥) → IsSingleAt offset (slice_range x offset h.end) →
-    IsBegun x offset (length a.entries.items) depth r → b.entries.items ≡ a.entries.items ++ r ∷ [] →
+    IsBegun x offset n depth r → ((all : List Entry) → IsFront a all → n ≡ length all) →
+    ((all : List Entry) → IsFront a all → IsFront b (all ++ r ∷ [])) →
     HasLeaf builder_holds x offset h.end depth a i b (with_one_more i)
-HasLeaf-entry_builder x h offset limit depth a b i r found shut (t, none, encoded) begun is =
+HasLeaf-entry_builder x h offset limit depth a b i r n found shut (t, none, encoded) begun at is =
     let o = tree_offset-encodes offset (slice_range x offset h.end) t encoded in
     let holds = Holds-none x offset h.end h t _ _ none encoded found.encoding shut in
     record {
       tree = t;
       encoded = encoded;
       more = record {
-        holds = λ e fs ts rest d w.
-            let deep = subst (λ z. IsBegun x offset (length a.entries.items) z r) d begun in
-            let own = AreEntries-without_items x offset (length a.entries.items) (length fs) t r o deep in
-            subst (λ z. AllHold x z (in_frame e (with_one_more i)) fs (ts ++ t ∷ []) rest) (sym is)
-            (AllHold-add x a.entries.items (r ∷ []) e i fs ts rest (node t no_nodes) (holds, tt) own w);
+        holds = λ e fs ts rest d (all, front, w).
+            let here = subst (λ z. IsBegun x offset z depth r) (at all front) begun in
+            let deep = subst (λ z. IsBegun x offset (length all) z r) d here in
+            let own = AreEntries-without_items x offset (length all) (length fs) t r o deep in (
+              all ++ r ∷ [],
+              is all front,
+              AllHold-add x all (r ∷ []) e i fs ts rest (node t no_nodes) (holds, tt) own w,
+            );
       };
     }
 
@@ -213,22 +215,12 @@ Holds-ended x e ts t bs same w = go e.kind refl
               ∙ (tree_offset-attempt_tree x a e.start e.end ts ∙ here),
         )
 
--- the entry of an open frame is among the entries
-pub entry-lt_length : (x : List ℕ) (rs : List Entry) (f h : OpenFrame EntryItems) (gs : List (OpenFrame EntryItems))
-    (trees : List (List (Tree ℕ)))
-    → all_hold x rs (f ∷ h ∷ gs) trees → f.items.entry < length rs
-entry-lt_length x rs f h gs [] a = absurd a
-entry-lt_length x rs f h gs (ts ∷ []) a = absurd a
-entry-lt_length x rs f h gs (ts ∷ us ∷ rest) a =
-    omega (arith, ap length a.whole, length-append a.front (a.head ∷ a.own), a.entry)
-
 -- an entry whose items are set is that of the tree that ended
 pub HasEndedIn-entry_builder : (x : List ℕ) (a b : EntryBuilder) (f : OpenFrame EntryItems) (i : EntryItems) (depth : ℕ)
-    → b.entries.items ≡ with_items_at a.entries.items f.items.entry f.items.count →
+    → ((all : List Entry) → IsFront a all → IsFront b (with_items_at all f.items.entry f.items.count)) →
     HasEndedIn builder_holds x f depth a i b (with_one_more i)
 HasEndedIn-entry_builder x a b f i depth is = record {
-  holds = λ e fs ts us rest t d ends w.
-      let rs = a.entries.items in
+  holds = λ e fs ts us rest t d ends (rs, kept, w).
       let blocks = w.blocks in
       let same : trees_of ts ≡ nodes_trees (nodes_of blocks.nodes) =
       sym (ap trees_of blocks.trees) ∙ trees_of-nodes blocks.nodes in
@@ -250,9 +242,12 @@ HasEndedIn-entry_builder x a b f i depth is = record {
       ap (λ z. with_items_at z f.items.entry f.items.count) w.whole
       ∙ ap (λ z. with_items_at (w.front ++ w.head ∷ w.own) z f.items.count) w.entry
       ∙ with_items_at-behind_front w.front w.head w.own f.items.count
-      ∙ ap (λ z. w.front ++ with_items f.items.count (length z) w.head ∷ w.own) (sym w.whole) in
-      subst (λ z. AllHold x z (in_frame e (with_one_more i)) fs (us ++ t ∷ []) rest) (sym (is ∙ made))
-      (AllHold-add x w.front new e i fs us rest n (holds, blocks.structure) entries w.around);
+      ∙ ap (λ z. w.front ++ with_items f.items.count (length z) w.head ∷ w.own) (sym w.whole) in (
+        with_items_at rs f.items.entry f.items.count,
+        is rs kept,
+        subst (λ z. AllHold x z (in_frame e (with_one_more i)) fs (us ++ t ∷ []) rest) (sym made)
+            (AllHold-add x w.front new e i fs us rest n (holds, blocks.structure) entries w.around),
+      );
 }
 
 -- the frames around a frame hold the entries before its own
@@ -262,11 +257,10 @@ all_hold-around x rs k f gs l ts rest held =
 
 -- an attempt that a fault ended has its own entry alone
 pub HasKept-entry_builder : (x : List ℕ) (a b : EntryBuilder) (f : OpenFrame EntryItems) (i : EntryItems) (depth : ℕ)
-    → b.entries.items ≡ take (suc f.items.entry) a.entries.items →
+    → ((all : List Entry) → IsFront a all → IsFront b (take (suc f.items.entry) all)) →
     HasKept builder_holds x f depth a i b (with_one_more i)
 HasKept-entry_builder x a b f i depth is = record {
-  holds = λ inside lost e fs ts us rest k d m here tried none held.
-      let rs = a.entries.items in
+  holds = λ inside lost e fs ts us rest k d m here tried none (rs, kept, held).
       let left = HoldFront-inside (all_hold x) (all_hold-around x) rs inside f (in_frame e i ∷ fs) lost ts (us ∷ rest)
       m held in
       let w = left.holds in
@@ -279,10 +273,13 @@ HasKept-entry_builder x a b f i depth is = record {
       ∙ take-behind_front w.front w.head (w.own ++ left.more) in
       let place = subst (λ z. IsBegun x z f.items.entry (length fs) w.head) (sym here) w.begun in
       let at = subst (λ z. IsBegun x k.offset z (length fs) w.head) w.entry place in
-      let own = AreEntries-without_items x k.offset (length w.front) (length fs) t w.head refl at in
-      subst (λ z. AllHold x z (in_frame e (with_one_more i)) fs (us ++ t ∷ []) rest) (sym (is ∙ made))
-      (AllHold-add x w.front (w.head ∷ []) e i fs us rest (node t no_nodes)
-      (inr (refl, λ (other, bit, are). none are), tt) own w.around);
+      let own = AreEntries-without_items x k.offset (length w.front) (length fs) t w.head refl at in (
+        take (suc f.items.entry) rs,
+        is rs kept,
+        subst (λ z. AllHold x z (in_frame e (with_one_more i)) fs (us ++ t ∷ []) rest) (sym made)
+            (AllHold-add x w.front (w.head ∷ []) e i fs us rest (node t no_nodes)
+            (inr (refl, λ (other, bit, are). none are), tt) own w.around),
+      );
 }
 
 -- entries of all trees of a document are those of the document

@@ -1,5 +1,5 @@
 -- The steps of a walk over headers, for the functions of `header_walk`.
-use Rattle.std.proofs.Common.{◌≡◌, ◌≢◌, ℕ, suc, ◌+◌, ◌<◌, ◌≤◌, ◌++◌, true, List, [], ◌∷◌, Err, Global, Ok, OnOk, Result, Vec, inl, inr, length, reverse, take, refl, sym, ap, ◌∙◌, subst, arith, append_assoc, append-nil, length-append}
+use Rattle.std.proofs.Common.{◌≡◌, ◌≢◌, ℕ, suc, ◌+◌, ◌≤◌, ◌++◌, true, List, [], ◌∷◌, Err, Global, Ok, OnOk, Result, Vec, inl, inr, length, reverse, take, refl, sym, ap, ◌∙◌, subst, arith, append_assoc, append-nil, length-append}
 use Rattle.std.proofs.lemmas.Bool.{false≢true}
 use Rattle.std.specs.declared.alloc.AllocError.{AllocError}
 use Rattle.std.proofs.lemmas.List.{length-reverse}
@@ -17,11 +17,11 @@ use Rattle.asn1_blocks.specs.declared.read_loop.Reader.{Reader}
 use Rattle.asn1_outline.specs.declared.header_walk.Turn.{Turn}
 use Rattle.asn1_blocks.proofs.Frames.Advances.{FramePlaces}
 use Rattle.asn1_blocks.proofs.Reader.Popping.{reverse-append_last}
-use Rattle.asn1_outline.specs.Listing.{with_items_at, with_items}
+use Rattle.asn1_outline.specs.Listing.{IsFront, with_items_at, with_items}
 use Rattle.asn1_outline.specs.Shapes.{AreShapes, HasItems, HeadersFaultAt, Shapes, as_it_came, entries_of, in_item, in_later, more_shapes, no_more, no_shapes, one_more, read_inside, shape_count, shape_entry}
-use Rattle.asn1_outline.specs.Walking.{AreOpen, GoesOn, HasTurned, IsFaulty, IsReadTo, IsReading, Leads}
+use Rattle.asn1_outline.specs.Walking.{AreOpen, GoesOn, HasTurned, IsFaulty, IsReadTo, Leads}
 use Rattle.asn1_outline.specs.declared.entry.Entry.{Entry}
-use Rattle.asn1_outline.specs.declared.listing.EntryBuilder.{EntryBuilder}
+use Rattle.asn1_outline.specs.declared.entry_builder.EntryBuilder.{EntryBuilder}
 use Rattle.asn1_outline.specs.declared.listing.EntryItems.{EntryItems}
 use Rattle.asn1_outline.proofs.Listed.{with_items_at-behind_front, take-behind_front, with_one_more}
 
@@ -208,17 +208,6 @@ AreOpen-close x f g gs p rs ended w =
     ∙ ap (λ z. w.front ++ with_items n (length z) head ∷ w.own) (sym w.whole) in
     subst (AreOpen x (with_one_counted g) gs p) (same ∙ sym set) at
 
--- the entry of the innermost frame is among the entries
-pub entry-lt_length : (x : List ℕ) (f g : EntryFrame) (gs : List EntryFrame) (p : ℕ) (rs : List Entry) →
-    AreOpen x f (g ∷ gs) p rs → f.items.entry < length rs
-entry-lt_length x f g gs p rs w =
-    omega (
-      arith,
-      ap length w.whole,
-      w.entry,
-      length-append w.front (shape_entry w.offset w.header 0 (suc f.items.entry) (length gs) ∷ w.own),
-    )
-
 -- an attempt with a fault stays as it came, and is one item more of the frame around it
 pub AreOpen-failed_attempt : (x : List ℕ) (f g : EntryFrame) (gs : List EntryFrame) (p : ℕ) (rs front more : List Entry)
     (fault : DecodeFault)
@@ -319,11 +308,10 @@ AreOpen-equal x f f' gs gs' p p' rs rs' a b c d w =
 module _ (x : List ℕ) (w : Walk) where
   -- the walk goes on behind a leaf
   pub GoesOn-leaf :
-      (h : PlacedHeader) (b : EntryBuilder) (i : EntryItems) → IsReading x w →
-      HeaderFound x w.index w.inner.extent.end h →
+      (h : PlacedHeader) (b : EntryBuilder) (i : EntryItems) (all : List Entry) →
+      AreOpen x w.inner (reverse w.outer.items) w.index all → HeaderFound x w.index w.inner.extent.end h →
       HasItems x h no_shapes →
-      b.entries.items ≡ w.builder.entries.items
-      ++ shape_entry w.index h 0 (suc (length w.builder.entries.items)) (length w.outer.items) ∷ [] →
+      IsFront b (all ++ shape_entry w.index h 0 (suc (length all)) (length w.outer.items) ∷ []) →
       i ≡ with_one_more w.inner.items →
       GoesOn x (record {
         inner = record w.inner { items = i };
@@ -333,47 +321,49 @@ module _ (x : List ℕ) (w : Walk) where
         fault =
             w.fault;
       }) (work_left (length x) w.index w.outer.items)
-  GoesOn-leaf h b i walking found inside pushed more =
-      let rs = w.builder.entries.items in
+  GoesOn-leaf h b i all walking found inside added more =
       let gs = reverse w.outer.items in
-      let v = AreOpen-places x w.inner gs w.index rs walking in
-      let now = AreOpen-one_more x w.inner gs w.index rs h no_shapes walking found inside in
-      let same : b.entries.items ≡ rs ++ entries_from w.index h no_shapes (length rs) (length gs) =
-      pushed
-      ∙ ap (λ z. rs ++ shape_entry w.index h 0 z (length w.outer.items) ∷ []) (omega arith)
-      ∙ ap (λ z. rs ++ shape_entry w.index h 0 (suc (length rs) + 0) z ∷ []) (sym (length-reverse w.outer.items)) in
+      let v = AreOpen-places x w.inner gs w.index all walking in
+      let new = all ++ shape_entry w.index h 0 (suc (length all)) (length w.outer.items) ∷ [] in
+      let now = AreOpen-one_more x w.inner gs w.index all h no_shapes walking found inside in
+      let same : new ≡ all ++ entries_from w.index h no_shapes (length all) (length gs) =
+      ap (λ z. all ++ shape_entry w.index h 0 z (length w.outer.items) ∷ []) (omega arith)
+      ∙ ap (λ z. all ++ shape_entry w.index h 0 (suc (length all) + 0) z ∷ []) (sym (length-reverse w.outer.items)) in
       record {
-        reading =
-            AreOpen-equal x (with_one_counted w.inner)
-            (record w.inner { items = i }) gs gs h.end h.end _ b.entries.items
-            (ap (λ (z : EntryItems). record w.inner { items = z }) more) refl refl same now;
+        reading = (
+          new,
+          added,
+          AreOpen-equal x (with_one_counted w.inner)
+              (record w.inner { items = i }) gs gs h.end h.end _ new
+              (ap (λ (z : EntryItems). record w.inner { items = z }) more) refl refl same now,
+        );
         nearer = omega (arith, found.starts_after, found.order, found.ends_within, v.within);
       }
 
   -- the walk goes on inside a frame that was entered
   pub GoesOn-enter :
-      (h : PlacedHeader) (b : EntryBuilder) (n : ℕ) (kind : FrameKind) (r : Walk) → IsReading x w →
-      HeaderFound x w.index w.inner.extent.end h →
+      (h : PlacedHeader) (b : EntryBuilder) (n : ℕ) (kind : FrameKind) (r : Walk) (all : List Entry) →
+      AreOpen x w.inner (reverse w.outer.items) w.index all → HeaderFound x w.index w.inner.extent.end h →
       IsReadInside h.class h.constructed h.tag → IsKindOf kind h →
-      n ≡ length w.builder.entries.items →
-      b.entries.items ≡ w.builder.entries.items
-      ++ shape_entry w.index h 0 (suc (length w.builder.entries.items)) (length w.outer.items) ∷ [] →
+      n ≡ length all →
+      IsFront b (all ++ shape_entry w.index h 0 (suc (length all)) (length w.outer.items) ∷ []) →
       IsEntered (record w { builder = b }) (in_frame (opened_at w.index kind h) (record { entry = n; count = 0 })) r →
       GoesOn x r (work_left (length x) w.index w.outer.items)
-  GoesOn-enter h b n kind r walking found inside is_kind at pushed e =
-      let rs = w.builder.entries.items in
+  GoesOn-enter h b n kind r all walking found inside is_kind at added e =
       let gs = reverse w.outer.items in
       let f : EntryFrame = in_frame (opened_at w.index kind h) (record { entry = n; count = 0 }) in
-      let v = AreOpen-places x w.inner gs w.index rs walking in
-      let now = AreOpen-enter x f w.inner gs w.index rs h walking found inside refl refl at refl is_kind in
-      let same : r.builder.entries.items ≡ rs ++ shape_entry w.index h 0 (suc (length rs)) (length gs) ∷ [] =
-      ap (λ (z : EntryBuilder). z.entries.items) e.builder
-      ∙ pushed
-      ∙ ap (λ z. rs ++ shape_entry w.index h 0 (suc (length rs)) z ∷ []) (sym (length-reverse w.outer.items)) in
+      let v = AreOpen-places x w.inner gs w.index all walking in
+      let new = all ++ shape_entry w.index h 0 (suc (length all)) (length w.outer.items) ∷ [] in
+      let now = AreOpen-enter x f w.inner gs w.index all h walking found inside refl refl at refl is_kind in
+      let same : new ≡ all ++ shape_entry w.index h 0 (suc (length all)) (length gs) ∷ [] =
+      ap (λ z. all ++ shape_entry w.index h 0 (suc (length all)) z ∷ []) (sym (length-reverse w.outer.items)) in
       record {
-        reading =
-            AreOpen-equal x f r.inner (w.inner ∷ gs) (reverse r.outer.items) h.start r.index _ r.builder.entries.items
-            e.inner (reverse-append_last r.outer.items w.outer.items w.inner e.outer) e.index same now;
+        reading = (
+          new,
+          subst (λ (z : EntryBuilder). IsFront z new) (sym e.builder) added,
+          AreOpen-equal x f r.inner (w.inner ∷ gs) (reverse r.outer.items) h.start r.index _ new
+              e.inner (reverse-append_last r.outer.items w.outer.items w.inner e.outer) e.index same now,
+        );
         nearer = omega (
           arith,
           e.index,
@@ -396,7 +386,8 @@ module _ (x : List ℕ) (w : Walk) where
     -- the walk goes on behind an attempt with a fault, which stays as it came
     pub GoesOn-failed_attempt :
         (b : EntryBuilder) (i : EntryItems) → is_attempt w.inner.extent.kind ≡ true →
-        b.entries.items ≡ take (suc w.inner.items.entry) w.builder.entries.items → i ≡ with_one_more g.items →
+        ((all : List Entry) → IsFront w.builder all → IsFront b (take (suc w.inner.items.entry) all)) →
+        i ≡ with_one_more g.items →
         GoesOn x (record {
           inner = record g { items = i };
           outer = outer;
@@ -407,15 +398,19 @@ module _ (x : List ℕ) (w : Walk) where
         }) most
     GoesOn-failed_attempt b i tries cut more =
         let gs = reverse outer.items in
-        let rs = w.builder.entries.items in
+        let rs = faulty.front ++ faulty.more in
+        let left = take (suc w.inner.items.entry) rs in
         let now =
-        AreOpen-failed_attempt x w.inner g gs faulty.reached rs faulty.front faulty.more fault o faulty.whole
+        AreOpen-failed_attempt x w.inner g gs faulty.reached rs faulty.front faulty.more fault o refl
         AreOpen-popped faulty.stops tries in
         record {
-          reading =
-              AreOpen-equal x (with_one_counted g)
-              (record g { items = i }) gs gs w.inner.extent.end w.inner.extent.end _ b.entries.items
-              (ap (λ (z : EntryItems). record g { items = z }) more) refl refl cut now;
+          reading = (
+            left,
+            cut rs faulty.whole,
+            AreOpen-equal x (with_one_counted g)
+                (record g { items = i }) gs gs w.inner.extent.end w.inner.extent.end _ left
+                (ap (λ (z : EntryItems). record g { items = z }) more) refl refl refl now,
+          );
           nearer = omega (arith, faulty.nearer, ap length popped, length-append outer.items (g ∷ []));
         }
 
@@ -425,16 +420,15 @@ module _ (x : List ℕ) (w : Walk) where
         o most
     IsFaulty-enclosing group =
         let gs = reverse outer.items in
-        let rs = w.builder.entries.items in
         let on =
-        FaultGoesOut-group x w.inner g gs faulty.reached rs faulty.front faulty.more fault o faulty.whole AreOpen-popped
-        faulty.stops group in
+        FaultGoesOut-group x w.inner g gs faulty.reached (faulty.front ++ faulty.more) faulty.front faulty.more fault o
+        refl AreOpen-popped faulty.stops group in
         let after = end-enclosing_le x w.inner g gs faulty.reached faulty.front AreOpen-popped in
         record {
           reached = on.reached;
           front = on.front;
           more = on.more;
-          whole = on.whole;
+          whole = subst (IsFront w.builder) on.whole faulty.whole;
           opened = on.opened;
           stops = on.stops;
           nearer = omega (arith, after, faulty.nearer, ap length popped, length-append outer.items (g ∷ []));

@@ -6,7 +6,6 @@ pub mod Shapes
 pub mod Listing
 pub mod Walked
 pub mod Walking
-pub mod Checking
 pub mod Iterated
 pub mod Building
 pub mod Triple

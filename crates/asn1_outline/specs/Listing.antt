@@ -1,11 +1,13 @@
--- What the builder of entries holds. Private contracts alone name this.
-use Rattle.std.specs.Prelude.{◌≡◌, ℕ, suc, ◌++◌, List, [], ◌∷◌, get_or, length, map, set}
+-- What the builder of entries holds, of which it keeps the first. Private contracts alone name this.
+use Rattle.std.specs.Prelude.{◌≡◌, ℕ, suc, ◌<◌, ◌++◌, List, [], ◌∷◌, get_or, length, map, set}
 use Rattle.asn1_blocks.specs.declared.read_loop.OpenFrame.{OpenFrame}
 use Rattle.asn1_blocks.specs.Tree.{Tree}
 use Rattle.asn1_outline.specs.Entries.{AreEntries, HasHeaderAt, no_entry}
 use Rattle.asn1_outline.specs.Structure.{AreNodes, Node, node_tree, nodes_depths, nodes_in_order, nodes_of}
 use Rattle.asn1_outline.specs.declared.entry.Entry.{Entry}
-use Rattle.asn1_outline.specs.declared.listing.EntryBuilder.{EntryBuilder}
+use Rattle.asn1_outline.specs.declared.entry_builder.EntryBuilder.{EntryBuilder}
+use Rattle.asn1_outline.specs.declared.entry_builder.Found.{Found}
+use Rattle.asn1_outline.specs.declared.entry_builder.Found.TheVariants.{Entries, Count}
 use Rattle.asn1_outline.specs.declared.listing.EntryItems.{EntryItems}
 
 -- the entry is of an encoding at the offset, which holds nothing so far
@@ -50,9 +52,20 @@ all_hold document rs [] trees = ⊥
 all_hold document rs (f ∷ gs) [] = ⊥
 all_hold document rs (f ∷ gs) (ts ∷ rest) = AllHold document rs f gs ts rest
 
-abbrev pub builder_holds : List ℕ → EntryBuilder → List (OpenFrame EntryItems) → List (List (Tree ℕ))
-    → Type 0
-builder_holds document b fs trees = all_hold document b.entries.items fs trees
+-- the builder keeps the first of the entries, and the number of the others
+pub record IsFront (b : EntryBuilder) (all : List Entry) : Type 0 where
+  pub others : List Entry
+  pub whole : all ≡ b.kept.items ++ others
+  pub count : length others ≡ b.beyond
+
+-- the entries, of which the builder keeps the first, are those of the blocks that the frames have
+abbrev pub builder_holds : List ℕ → EntryBuilder → List (OpenFrame EntryItems) → List (List (Tree ℕ)) → Type 0
+builder_holds document b fs trees = (all : List Entry) × IsFront b all × all_hold document all fs trees
+
+-- all entries were found; or their number, for which there is no room
+abbrev pub IsFound : ℕ → List Entry → Found → Type 0
+IsFound room all (Entries entries) = entries.items ≡ all
+IsFound room all (Count count) = (count ≡ length all) × (room < count)
 
 -- the entry with so many items, and with the index after it and all that it holds
 abbrev pub with_items : ℕ → ℕ → Entry → Entry

@@ -12,9 +12,10 @@ use Rattle.asn1_blocks.specs.declared.read_loop.OpenFrame.{OpenFrame}
 use Rattle.asn1_blocks.specs.declared.read_loop.Reader.{Reader}
 use Rattle.asn1_outline.specs.declared.header_walk.Turn.{Turn}
 use Rattle.asn1_outline.specs.declared.header_walk.Turn.TheVariants.{More, End, Stop}
+use Rattle.asn1_outline.specs.Listing.{IsFront}
 use Rattle.asn1_outline.specs.Shapes.{AreShapes, HeadersFaultAt, Shapes, entries_of, shape_count, shape_entry}
 use Rattle.asn1_outline.specs.declared.entry.Entry.{Entry}
-use Rattle.asn1_outline.specs.declared.listing.EntryBuilder.{EntryBuilder}
+use Rattle.asn1_outline.specs.declared.entry_builder.EntryBuilder.{EntryBuilder}
 use Rattle.asn1_outline.specs.declared.listing.EntryItems.{EntryItems}
 
 -- contents octets from the start to the end are read up to the offset reached: as many encodings as the count, with
@@ -62,8 +63,10 @@ AreOpen document f [] reached rs = IsWhole document f reached rs
 AreOpen document f (g ∷ gs) reached rs =
     IsInside document f g (length gs) (λ offset front. AreOpen document g gs offset front) reached rs
 
+-- the frames of the reader are open up to the offset that it reached, with entries of which the builder keeps the first
 abbrev pub IsReading : List ℕ → Reader EntryBuilder EntryItems → Type 0
-IsReading document w = AreOpen document w.inner (reverse w.outer.items) w.index w.builder.entries.items
+IsReading document w = (all : List Entry) × IsFront w.builder all
+    × AreOpen document w.inner (reverse w.outer.items) w.index all
 
 -- reading goes on, with less left to do
 pub record GoesOn (document : List ℕ) (w : Reader EntryBuilder EntryItems) (most : ℕ) : Type 0 where
@@ -75,10 +78,10 @@ abbrev pub HasStopped : List ℕ → Reader EntryBuilder EntryItems → Type 0
 HasStopped document w =
     OutOfMemoryOr (λ fault. HeadersFaultAt document 0 0 (length document) fault w.index) w.fault
 
--- the document has shapes, and the entries are those of the shapes
+-- the document has shapes, and the builder keeps the first of the entries of the shapes
 abbrev pub HasEnded : List ℕ → Reader EntryBuilder EntryItems → Type 0
 HasEnded document w = (all : Shapes) × AreShapes document 0 (length document) all
-    × (w.builder.entries.items ≡ entries_of 0 0 all)
+    × IsFront w.builder (entries_of 0 0 all)
 
 -- where a turn leads: reading goes on, has ended, or has stopped
 abbrev pub HasTurned : List ℕ → Turn → Reader EntryBuilder EntryItems → ℕ → Type 0
@@ -98,7 +101,7 @@ pub record IsFaulty (document : List ℕ) (w : Reader EntryBuilder EntryItems) (
   pub reached : ℕ
   pub front : List Entry
   pub more : List Entry
-  pub whole : w.builder.entries.items ≡ front ++ more
+  pub whole : IsFront w.builder (front ++ more)
   pub opened : AreOpen document w.inner (reverse w.outer.items) reached front
   pub stops : HeadersFaultAt document w.inner.extent.start reached w.inner.extent.end fault offset
   pub nearer : work_left (length document) w.inner.extent.end w.outer.items ≤ most

@@ -1,14 +1,17 @@
 // Entries by headers alone: a loop over open frames as that of `read_into`, for another grammar.
-ghost use Rattle.std.specs.Prelude.{◌≡◌, ◌∷◌, IfErr, IfOk, OnOk, length, reverse};
+ghost use Rattle.std.specs.Prelude.{◌≡◌, ◌∷◌, IfErr, IfOk, List, OnOk, length, reverse};
 ghost use Rattle.asn1_headers.specs.Fault.{OutOfMemoryOr, fault_of};
 ghost use Rattle.asn1_headers.specs.Reading.{OutOfMemoryOrAt};
 ghost use Rattle.asn1_blocks.specs.Inner.ReaderSteps.{work_left};
 ghost use Rattle.asn1_blocks.specs.Places.{HeaderFound};
-ghost use Rattle.asn1_outline.specs.Shapes.{AreEntriesOfShapes, FirstHeaderFaultAt};
+ghost use Rattle.asn1_outline.specs.Listing.{IsFound, IsFront};
+ghost use Rattle.asn1_outline.specs.Shapes.{AreEntriesOfShapes, FirstHeaderFaultAt, HasShapes, Shapes, entries_of};
 ghost use Rattle.asn1_outline.specs.Walking.{AreOpen, GoesOn, HasTurned, IsFaulty, IsReading, Leads};
+ghost use Rattle.asn1_outline.specs.declared.entry.Entry.{Entry};
 
 use crate::entry::Entry;
-use crate::listing::{EntryBuilder, EntryItems, header_entry};
+use crate::entry_builder::{EntryBuilder, Found};
+use crate::listing::{EntryItems, found_of, header_entry};
 use asn1_blocks::parsed::{PlacedHeader, header_within};
 use asn1_blocks::read_loop::{
     Extent, FrameKind, OpenFrame, Reader, enter, is_attempt, is_out_of_memory, is_read_inside,
@@ -26,9 +29,40 @@ enum Turn {
     Stop,
 }
 
+/// Checks whether octets are encodings by their headers (X.690 8.1.1), one or more, as [`Headers::read`] does, in
+/// linear time. It takes memory for the encodings that are open at a time alone. Stack use does not grow with nesting.
+///
+/// # Errors
+/// `OutOfMemory`; `EmptyBuffer` of no octets; else the first fault of a header, `Incomplete` or `LengthTooLarge`,
+/// with the offset of its encoding.
+///
+/// [`Headers::read`]: crate::headers::Headers::read
+pub fn check_headers(alloc: Global, octets: &[u8]) -> Result<(), LocatedErr>
+    ensures document { OnOk result ((all : Shapes) × HasShapes octets.now all) }
+    ensures fault { IfErr result (OutOfMemoryOrAt (FirstHeaderFaultAt octets.now)) }
+{
+    match list_headers_within(alloc, octets, 0) {
+        Ok(_) => Ok(()),
+        Err(located) => Err(located),
+    }
+}
+
 // The entries of octets by their headers.
 pub fn list_headers(alloc: Global, octets: &[u8]) -> Result<Vec<Entry>, LocatedErr>
     ensures walked { IfOk result (λ entries. AreEntriesOfShapes octets.now entries.items) }
+    ensures refused { IfErr result (OutOfMemoryOrAt (FirstHeaderFaultAt octets.now)) }
+{
+    match list_headers_within(alloc, octets, usize::MAX) {
+        Ok(Found::Entries(entries)) => Ok(entries),
+        Ok(Found::Count(_)) => unreachable!(),
+        Err(located) => Err(located),
+    }
+}
+
+// The entries of octets by their headers, where there is room for them.
+pub fn list_headers_within(alloc: Global, octets: &[u8], room: usize) -> Result<Found, LocatedErr>
+    ensures walked { IfOk result (λ found. (all : Shapes) × HasShapes octets.now all
+        × IsFound room (entries_of 0 0 all) found) }
     ensures refused { IfErr result (OutOfMemoryOrAt (FirstHeaderFaultAt octets.now)) }
 {
     if octets.is_empty() {
@@ -37,7 +71,7 @@ pub fn list_headers(alloc: Global, octets: &[u8]) -> Result<Vec<Entry>, LocatedE
             offset: 0,
         });
     }
-    let Ok(builder) = EntryBuilder::with_room(alloc, octets.len()) else {
+    let Ok(builder) = EntryBuilder::with_room(alloc, octets.len(), room) else {
         return Err(out_of_memory(0));
     };
     let mut reader = Reader {
@@ -60,7 +94,7 @@ pub fn list_headers(alloc: Global, octets: &[u8]) -> Result<Vec<Entry>, LocatedE
             Turn::More => {}
             Turn::End => {
                 let Reader { builder, .. } = reader;
-                return Ok(builder.entries);
+                return found_of(builder, room);
             }
             Turn::Stop => {
                 return Err(LocatedErr {
@@ -110,9 +144,9 @@ fn take(
         (work_left (length octets.now) reader.old.index reader.old.outer.items)) }
 {
     let offset = reader.index;
-    let entry = reader.builder.entries.len();
+    let entry = reader.builder.count();
     let block = header_entry(&header, offset, entry, reader.outer.len());
-    reader.builder.push(block, octets.len())?;
+    reader.builder.add(block, octets.len())?;
     let (start, end) = (header.start, header.end);
     if is_read_inside(&header) {
         let extent = Extent {
@@ -136,8 +170,8 @@ fn close(
     parent: OpenFrame<EntryItems>,
 ) -> Result<(), AllocError>
     requires ended { reader.old.index ≡ reader.old.inner.extent.end }
-    requires opened { AreOpen _octets.now reader.old.inner (parent ∷ reverse reader.old.outer.items)
-        reader.old.index reader.old.builder.entries.items }
+    requires opened { (all : List Entry) × IsFront reader.old.builder all
+        × AreOpen _octets.now reader.old.inner (parent ∷ reverse reader.old.outer.items) reader.old.index all }
     ensures { OnOk result (GoesOn _octets.now reader.new
         (work_left (length _octets.now) reader.old.index (parent ∷ reader.old.outer.items))) }
 {

@@ -7,9 +7,9 @@
 
 mod building;
 pub mod entry;
-pub mod header_check;
+pub mod entry_builder;
 mod header_reading;
-mod header_walk;
+pub mod header_walk;
 pub mod headers;
 mod indexed;
 pub mod iter;

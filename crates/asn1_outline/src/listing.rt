@@ -1,5 +1,6 @@
-// Documents into entries, straight from their octets: no block is made.
-ghost use Rattle.std.specs.Prelude.{◌≡◌, ◌+◌, ◌⊎◌, ◌++◌, ◌^◌, ◌<◌, ◌≤◌, ◌∷◌, [], ℕ, IfErr, IfOk, MatchResult, OnOk, length, suc, take, vec_capacity, vec_len};
+// Documents into entries, straight from their octets: no block is made. No more entries are kept than there is room for,
+// so that what is held is bounded by that room and by the frames that are open.
+ghost use Rattle.std.specs.Prelude.{◌≡◌, ◌+◌, ◌⊎◌, ◌++◌, ◌^◌, ◌<◌, ◌≤◌, ◌∷◌, [], ℕ, List, IfErr, IfOk, IsTrue, MatchResult, OnOk, false, length, suc, take, vec_capacity, vec_len};
 ghost use Rattle.asn1_headers.specs.Reading.{OutOfMemoryOrAt};
 ghost use Rattle.asn1_headers.specs.declared.error.ASN1DecodeErr.TheVariants.{OutOfMemory};
 ghost use Rattle.asn1_blocks.specs.Grammar.{FirstFaultAt, IsDocument};
@@ -7,10 +8,12 @@ ghost use Rattle.asn1_blocks.specs.HeadersBegun.{HeadersBegun};
 ghost use Rattle.asn1_blocks.specs.Places.{HeaderFound};
 ghost use Rattle.asn1_blocks.specs.Tree.{Trees};
 ghost use Rattle.asn1_outline.specs.Entries.{AreEntriesOf, HasTag};
-ghost use Rattle.asn1_outline.specs.Listing.{IsBegun, builder_holds, with_items_at};
+ghost use Rattle.asn1_outline.specs.Listing.{IsBegun, IsFound, IsFront, builder_holds, with_items_at};
 ghost use Rattle.asn1_outline.specs.Shapes.{shape_entry};
+ghost use Rattle.asn1_outline.specs.declared.entry.Entry.{Entry};
 
 use crate::entry::Entry;
+use crate::entry_builder::{EntryBuilder, Found};
 use asn1_blocks::contents::check_contents;
 use asn1_blocks::parsed::PlacedHeader;
 use asn1_blocks::read_loop::{Builder, Extent, out_of_memory, read_into};
@@ -21,6 +24,9 @@ use std::alloc::{AllocError, Global};
 
 // Of so many octets at most it is guessed how many blocks they hold: one for 8, which few certificates have more than.
 const RESERVED: usize = 4096;
+
+// More blocks are not counted: no octets hold so many.
+const MOST: usize = 1 << 62;
 
 // The entries of a document.
 pub fn list(alloc: Global, octets: &[u8], count: &mut HeaderCount) -> Result<Vec<Entry>, LocatedErr>
@@ -35,14 +41,56 @@ pub fn list(alloc: Global, octets: &[u8], count: &mut HeaderCount) -> Result<Vec
     ensures grown { count.old ≤ count.new }
     ensures bounded { count.new ≤ count.old + length octets.now }
 {
-    let Ok(builder) = EntryBuilder::with_room(alloc, octets.len()) else {
+    match list_within(alloc, octets, usize::MAX, count) {
+        Ok(Found::Entries(entries)) => Ok(entries),
+        Ok(Found::Count(_)) => unreachable!(),
+        Err(located) => Err(located),
+    }
+}
+
+// The entries of a document, where there is room for them.
+pub fn list_within(
+    alloc: Global,
+    octets: &[u8],
+    room: usize,
+    count: &mut HeaderCount,
+) -> Result<Found, LocatedErr>
+    requires room { count.old + length octets.now < 2 ^ 64 }
+    ensures document { IfOk result (λ found. (bs : Trees ℕ) × (all : List Entry) × IsDocument octets.now bs
+        × AreEntriesOf octets.now bs all × IsFound room all found) }
+    ensures refused { IfErr result (OutOfMemoryOrAt (FirstFaultAt octets.now)) }
+    ensures counted { MatchResult result
+        (λ _. (n : ℕ) × HeadersBegun octets.now n × (count.new ≡ count.old + n))
+        (λ e. (e.error ≡ OutOfMemory)
+        ⊎ ((n : ℕ) × HeadersBegun octets.now n × (count.new ≡ count.old + n))) }
+    ensures grown { count.old ≤ count.new }
+    ensures bounded { count.new ≤ count.old + length octets.now }
+{
+    let Ok(builder) = EntryBuilder::with_room(alloc, octets.len(), room) else {
         return Err(out_of_memory(0));
     };
     let items = EntryItems { entry: 0, count: 0 };
     match read_into(alloc, octets, builder, items, count) {
-        Ok((builder, _)) => Ok(builder.entries),
+        Ok((builder, _)) => found_of(builder, room),
         Err(located) => Err(located),
     }
+}
+
+// What was found by reading to the end: all entries, or how many there are.
+pub fn found_of(builder: EntryBuilder, room: usize) -> Result<Found, LocatedErr>
+    ensures found { IfOk result (λ found. (all : List Entry) → IsFront builder all → IsFound room all found) }
+    ensures refused { IfErr result (λ e. e.error ≡ OutOfMemory) }
+{
+    let count = builder.count();
+    let EntryBuilder { kept, beyond, .. } = builder;
+    if beyond == 0 {
+        return Ok(Found::Entries(kept));
+    }
+    if count > room {
+        return Ok(Found::Count(count));
+    }
+    // not reached: a builder with this room leaves no entry out that there is room for
+    Err(out_of_memory(0))
 }
 
 // The items of a frame: the index of the entry of its encoding, and how many blocks it has so far.
@@ -66,12 +114,6 @@ impl EntryItems {
     }
 }
 
-// Builds entries: those so far.
-#[derive(Drop)]
-pub struct EntryBuilder {
-    pub entries: Vec<Entry>,
-}
-
 impl Builder for EntryBuilder {
     type Items = EntryItems;
 
@@ -86,9 +128,9 @@ impl Builder for EntryBuilder {
         offset: usize,
         depth: usize,
     ) -> Result<EntryItems, AllocError> {
-        let entry = self.entries.len();
+        let entry = self.count();
         let block = encoding_entry(octets, header, offset, entry, depth);
-        self.push(block, octets.len())?;
+        self.add(block, octets.len())?;
         Ok(EntryItems { entry, count: 0 })
     }
 
@@ -102,9 +144,10 @@ impl Builder for EntryBuilder {
         offset: usize,
         depth: usize,
     ) -> Result<(), ASN1DecodeErr> {
-        let block = encoding_entry(octets, &header, offset, self.entries.len(), depth);
+        let entry = self.count();
+        let block = encoding_entry(octets, &header, offset, entry, depth);
         check_contents(alloc, &header, &octets[header.start..header.end])?;
-        self.push(block, octets.len())?;
+        self.add(block, octets.len())?;
         Ok(items.add()?)
     }
 
@@ -138,70 +181,124 @@ impl Builder for EntryBuilder {
 }
 
 impl EntryBuilder {
-    // No entries, with room for some of a document of this size.
-    pub fn with_room(alloc: Global, size: usize) -> Result<EntryBuilder, AllocError>
-        ensures { IfOk result (λ builder. builder.entries.items ≡ []) }
+    // No entries of a document of this size, of which so many may be kept.
+    pub fn with_room(alloc: Global, size: usize, room: usize) -> Result<EntryBuilder, AllocError>
+        ensures { IfOk result (λ builder. IsFront builder []) }
     {
-        let entries = Vec::with_capacity(alloc, size.min(RESERVED) / 8)?;
-        Ok(EntryBuilder { entries })
+        let guess = size.min(RESERVED) / 8;
+        let kept = Vec::with_capacity(alloc, guess.min(room))?;
+        Ok(EntryBuilder {
+            kept,
+            beyond: 0,
+            room,
+        })
+    }
+
+    // How many blocks there are.
+    #[inline(always)]
+    pub fn count(&self) -> usize
+        ensures sum { result ≡ vec_len self.now.kept + self.now.beyond }
+        ensures count { (all : List Entry) → IsFront self.now all → result ≡ length all }
+        ensures small { result < 2 ^ 63 }
+    {
+        self.kept.len() + self.beyond
     }
 
     // Adds an entry of a document of this size.
     #[inline(always)]
-    pub fn push(&mut self, block: Entry, size: usize) -> Result<(), AllocError>
-        ensures { OnOk result (self.new.entries.items ≡ self.old.entries.items ++ block ∷ []) }
+    pub fn add(&mut self, block: Entry, size: usize) -> Result<(), AllocError>
+        ensures { (all : List Entry) → IsFront self.old all → OnOk result (IsFront self.new (all ++ block ∷ [])) }
     {
-        self.make_room(block.offset, size)?;
-        self.entries.push_reserved(block);
+        if !self.has_room(block.offset, size)? {
+            return self.add_beyond();
+        }
+        self.kept.push_reserved(block);
         Ok(())
     }
 
-    // Makes room for one entry more, of a block at the offset in a document of this size.
+    // Whether there is room for the entry of a block at the offset, in a document of this size.
     #[inline(always)]
-    fn make_room(&mut self, offset: usize, size: usize) -> Result<(), AllocError>
-        ensures items { self.new.entries.items ≡ self.old.entries.items }
-        ensures room { OnOk result (vec_len self.new.entries < vec_capacity self.new.entries) }
+    fn has_room(&mut self, offset: usize, size: usize) -> Result<bool, AllocError>
+        ensures kept { self.new.kept.items ≡ self.old.kept.items }
+        ensures beyond { self.new.beyond ≡ self.old.beyond }
+        ensures room { IfOk result (λ yes. IsTrue yes → vec_len self.new.kept < vec_capacity self.new.kept) }
+        ensures full { IfOk result (λ yes. yes ≡ false → self.new.room ≤ vec_len self.new.kept) }
     {
-        if self.entries.len() < self.entries.capacity() {
-            return Ok(());
+        if self.kept.len() < self.kept.capacity() {
+            return Ok(true);
         }
-        self.grow(offset, size)
+        self.makes_room(offset, size)
     }
 
     // Makes room where there is none: for as many blocks in the rest of the document as in what was read, and an eighth
-    // more, so that a long list is moved once, and not each time that it has doubled.
+    // more, and for as many again as are kept at least, so that a long list is moved a few times. Where there is not
+    // that much memory, an eighth more than are kept.
     #[cold]
     #[inline(never)]
-    fn grow(&mut self, offset: usize, size: usize) -> Result<(), AllocError>
-        ensures items { self.new.entries.items ≡ self.old.entries.items }
-        ensures room { OnOk result (vec_len self.new.entries < vec_capacity self.new.entries) }
+    fn makes_room(&mut self, offset: usize, size: usize) -> Result<bool, AllocError>
+        ensures kept { self.new.kept.items ≡ self.old.kept.items }
+        ensures beyond { self.new.beyond ≡ self.old.beyond }
+        ensures room { IfOk result (λ yes. IsTrue yes → vec_len self.new.kept < vec_capacity self.new.kept) }
+        ensures full { IfOk result (λ yes. yes ≡ false → self.new.room ≤ vec_len self.new.kept) }
     {
+        let kept = self.kept.len();
+        if kept >= self.room {
+            return Ok(false);
+        }
         let rest = size.saturating_sub(offset);
-        let blocks = rest.saturating_mul(self.entries.len()) / offset.max(1);
-        let guess = blocks.saturating_add(blocks / 8).saturating_add(1);
-        match self.entries.reserve(guess) {
-            Ok(()) => Ok(()),
-            Err(_) => self.entries.reserve(1),
+        let blocks = rest.saturating_mul(kept) / offset.max(1);
+        let guess = blocks.saturating_add(blocks / 8).max(kept).max(1);
+        match self.kept.reserve_exact(guess.min(self.room - kept)) {
+            Ok(()) => Ok(true),
+            Err(_) => {
+                let few = (kept / 8).max(1);
+                self.kept.reserve_exact(few.min(self.room - kept))?;
+                Ok(true)
+            }
         }
     }
 
-    // The entry of a frame holds its blocks, whose entries are all those after it.
+    // One block more, whose entry is not kept.
+    #[cold]
+    #[inline(never)]
+    fn add_beyond(&mut self) -> Result<(), AllocError>
+        requires { self.old.room ≤ vec_len self.old.kept }
+        ensures kept { self.new.kept ≡ self.old.kept }
+        ensures beyond { OnOk result (self.new.beyond ≡ suc self.old.beyond) }
+    {
+        if self.count() >= MOST {
+            return Err(AllocError);
+        }
+        self.beyond += 1;
+        Ok(())
+    }
+
+    // The entry of a frame, if it is kept, holds the frame's blocks, which are all those after it.
     #[inline(always)]
     pub fn set_items(&mut self, items: EntryItems)
-        requires { items.entry < length self.old.entries.items }
-        ensures { self.new.entries.items ≡ with_items_at self.old.entries.items items.entry items.count }
+        ensures { (all : List Entry) → IsFront self.old all
+            → IsFront self.new (with_items_at all items.entry items.count) }
     {
-        let next = self.entries.len();
-        let entry = &mut self.entries[items.entry];
+        let next = self.count();
+        if items.entry >= self.kept.len() {
+            return;
+        }
+        let entry = &mut self.kept[items.entry];
         entry.items = items.count;
         entry.next = next;
     }
 
-    // There are no entries after this one.
+    // There are no blocks after the one with this entry.
     pub fn cut(&mut self, entry: usize)
-        ensures { self.new.entries.items ≡ take (suc entry) self.old.entries.items }
+        ensures { (all : List Entry) → IsFront self.old all → IsFront self.new (take (suc entry) all) }
     {
-        self.entries.truncate(entry.saturating_add(1));
+        let kept = self.kept.len();
+        if entry < kept {
+            self.kept.truncate(entry + 1);
+            self.beyond = 0;
+        } else if entry - kept < self.beyond {
+            self.beyond = entry - kept + 1;
+        }
     }
 }
 

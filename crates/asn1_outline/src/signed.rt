@@ -8,7 +8,7 @@ ghost use Rattle.asn1_outline.specs.Triple.{BeginWithTriple, entry_at};
 ghost use Rattle.asn1_outline.specs.TripleHeaders.{HasNoTriple, IsSignedIn, IsUniversalAt, IsUniversalHeader};
 ghost use Rattle.asn1_outline.specs.declared.entry.Entry.{Entry};
 
-use crate::header_check::check_headers;
+use crate::header_walk::check_headers;
 use asn1_blocks::parsed::{PlacedHeader, header_within};
 use asn1_blocks::read_loop::{is_out_of_memory, out_of_memory};
 use asn1_headers::error::LocatedErr;

@@ -8,12 +8,12 @@ use Rattle.simple_asn1.specs.ReadBack.{CanonicalDocument}
 use Rattle.simple_asn1.specs.Shapes.{FirstHeaderFaultAt, HasShapes, Shapes, entries_of}
 use Rattle.simple_asn1.specs.Structure.{IsStructure, Nodes, nodes_depths, nodes_in_order}
 use Rattle.simple_asn1.specs.Tree.{Trees}
-use Rattle.simple_asn1_c.specs.Answers.{AnswersCheck, AnswersOutline, AnswersRead, AnswersReadStrict, AnswersRewrite, IsCanonicalStructure, IsNoMemory, IsRefused, IsRefusedByHeader, IsRefusedStrict, had_header_fault, had_no_memory, had_no_memory_strict, had_no_memory_to_check, had_no_memory_to_outline, had_no_memory_to_write, had_no_room, had_no_room_strict, had_no_room_to_write, is_no_document, was_outlined, was_read, was_read_strict, was_refused, was_refused_strict, was_refused_to_write, was_written}
+use Rattle.simple_asn1_c.specs.Answers.{AnswersCheck, AnswersOutline, AnswersRead, AnswersReadStrict, AnswersRewrite, IsCanonicalStructure, IsNoMemory, IsRefused, IsRefusedByHeader, IsRefusedStrict, had_header_fault, had_no_memory, had_no_memory_strict, had_no_memory_to_check, had_no_memory_to_outline, had_no_memory_to_write, had_no_room, had_no_room_strict, had_no_room_to_write, is_no_document, was_read, was_read_strict, was_refused, was_refused_strict, was_refused_to_write, was_written}
 use Rattle.asn1_outline.proofs.Entries.{length-entries}
 use Rattle.asn1_outline.specs.Entries.{AreEntries, AreEntriesOf}
 use Rattle.asn1_outline.specs.declared.entry.Entry.{Entry}
 use Rattle.simple_asn1_c.specs.Records.{AreRecords, IsRecordAt, block_of, no_record}
-use Rattle.simple_asn1_c.specs.Paths.{AnswersValues, had_header_fault_of_values, had_no_memory_for_values}
+use Rattle.simple_asn1_c.specs.Paths.{AnswersValues, had_header_fault_of_values, had_no_memory_for_values, value_of, were_valued}
 use Rattle.simple_asn1_c.specs.Room.{AreFront, AreKeptBehind, ArePut}
 use Rattle.simple_asn1_c.specs.declared.record.Block.{Block}
 use Rattle.simple_asn1_c.specs.declared.record.Outcome.{Outcome}
@@ -162,14 +162,6 @@ AnswersCheck-refused octets o status offset has (inl m) =
 AnswersCheck-refused octets o status offset has (inr f) =
     is_no_document (IsRefused-outcome octets o status offset has f) has.2
 
--- the records of headers that were put are those of the octets
-pub AnswersOutline-outlined :
-    (octets : List ℕ) (all : Shapes) (es found : List Entry) (before after : List Block) (o : Outcome) → found ≡ es →
-    HasShapes octets all →
-    es ≡ entries_of 0 0 all → ArePut (map block_of found) before after o → AnswersOutline octets before after o
-AnswersOutline-outlined octets all es found before after o e has are put =
-    was_outlined all has (subst (λ z. ArePut (map block_of z) before after o) (e ∙ are) put)
-
 -- reading headers is refused for want of memory or for a first header fault
 pub AnswersOutline-refused : (octets : List ℕ) (before : List Block) (o : Outcome) (status offset : ℕ) →
     HasOutcome o status offset
@@ -178,6 +170,14 @@ AnswersOutline-refused octets before o status offset has (inl m) =
     had_no_memory_to_outline (IsNoMemory-outcome o status offset has m) has.2 refl
 AnswersOutline-refused octets before o status offset (s, p, c) (inr (fault, first, e)) =
     had_header_fault (fault, subst (FirstHeaderFaultAt octets fault) (sym p) first, s ∙ e) c refl
+
+-- where there is no room for all values, their number is answered
+pub AnswersValues-counted : (octets steps : List ℕ) (paths : List Path) (before : List Value) (o : Outcome) (all : Shapes) →
+    HasShapes octets all → length before < length paths →
+    (o.status ≡ no_room) × (o.count ≡ length paths) × (o.offset ≡ 0) → AnswersValues octets steps paths before before o
+AnswersValues-counted octets steps paths before o all has few (status, count, offset) =
+    let size = length-map paths (λ p. value_of octets (entries_of 0 0 all) steps p) in
+    were_valued all has (count ∙ sym size, offset, inr (status, omega (arith, few, count, size), refl))
 
 -- finding values is refused for want of memory or for a first header fault
 pub AnswersValues-refused : (octets steps : List ℕ) (paths : List Path) (before : List Value) (o : Outcome)

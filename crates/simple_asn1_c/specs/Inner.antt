@@ -1,4 +1,3 @@
 -- What private contracts name, but no public one.
 pub mod Prepended
 pub mod InRecords
-pub mod Fronts

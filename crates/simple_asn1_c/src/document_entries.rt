@@ -12,12 +12,15 @@ ghost use Rattle.asn1_outline.specs.declared.entry.Entry.{Entry};
 ghost use Rattle.simple_asn1.specs.Shapes.{HasShapes, Shapes, entries_of};
 ghost use Rattle.simple_asn1.specs.Walked.{walked_entries};
 ghost use Rattle.simple_asn1_c.specs.Answers.{IsNoMemory, IsRefused, IsRefusedByHeader, IsRefusedStrict};
-ghost use Rattle.simple_asn1_c.specs.Inner.Fronts.{IsFound};
+ghost use Rattle.asn1_outline.specs.Listing.{IsFound};
 ghost use Rattle.simple_asn1_c.specs.Status.{status_of};
 ghost use Rattle.asn1_headers.specs.declared.error.ASN1DecodeErr.TheVariants.{OutOfMemory};
 
 use crate::status::{NO_MEMORY, NOT_CANONICAL, status_of_fault};
-use crate::within::{Found, entries_within};
+use asn1_headers::header::HeaderCount;
+use asn1_outline::entry_builder::Found;
+use asn1_outline::header_walk::{check_headers, list_headers_within};
+use asn1_outline::listing::list_within;
 use asn1_outline::outline::Outline;
 use simple_asn1::{
     ASN1DecodeErr, Headers, LocatedErr, check_document, discard, from_der_strict, law_one_reading,
@@ -84,7 +87,8 @@ pub fn find_records(alloc: Global, octets: &[u8], room: usize) -> Result<Found, 
     ensures fault { IfErr result
         (λ f. IsNoMemory f.status f.offset ⊎ IsRefused octets.now f.status f.offset) }
 {
-    match entries_within(alloc, octets, room) {
+    let mut count = HeaderCount::new();
+    match list_within(alloc, octets, room, &mut count) {
         Ok(found) => Ok(found),
         Err(located) => Err(fault_at(&located)),
     }
@@ -159,6 +163,31 @@ pub fn read_headers<'a>(alloc: Global, octets: &'a [u8]) -> Result<Headers<'a>, 
 {
     match Headers::read(alloc, octets) {
         Ok(headers) => Ok(headers),
+        Err(located) => Err(fault_at(&located)),
+    }
+}
+
+// The entries of encodings by their headers alone, where there is room for so many, or else their number.
+pub fn find_headers(alloc: Global, octets: &[u8], room: usize) -> Result<Found, Fault>
+    ensures document { IfOk result (λ found. (all : Shapes) × HasShapes octets.now all
+        × IsFound room (entries_of 0 0 all) found) }
+    ensures fault { IfErr result
+        (λ f. IsNoMemory f.status f.offset ⊎ IsRefusedByHeader octets.now f.status f.offset) }
+{
+    match list_headers_within(alloc, octets, room) {
+        Ok(found) => Ok(found),
+        Err(located) => Err(fault_at(&located)),
+    }
+}
+
+// Whether octets are encodings by their headers.
+pub fn check_by_headers(alloc: Global, octets: &[u8]) -> Result<(), Fault>
+    ensures document { OnOk result ((all : Shapes) × HasShapes octets.now all) }
+    ensures fault { IfErr result
+        (λ f. IsNoMemory f.status f.offset ⊎ IsRefusedByHeader octets.now f.status f.offset) }
+{
+    match check_headers(alloc, octets) {
+        Ok(()) => Ok(()),
         Err(located) => Err(fault_at(&located)),
     }
 }

@@ -10,7 +10,6 @@ mod document_entries;
 mod dotted;
 mod encoding;
 mod first_fault;
-mod front_builder;
 mod header_record;
 mod identifier;
 mod integer;
@@ -26,7 +25,6 @@ mod signed;
 mod spelling;
 mod status;
 mod text;
-mod within;
 
 ghost use Rattle.std.specs.Prelude.{◌≡◌, ◌↔◌, ◌+◌, ◌*◌, ◌≤◌, ℕ, List, length};
 ghost use Rattle.asn1_der.specs.Der.{IsDer};
@@ -46,8 +44,8 @@ use crate::bits::{bits_at, put_bits, put_boolean};
 use crate::components::{component_at, put_components, put_dotted, put_shortest};
 use crate::departures::{list_departures, put_departures};
 use crate::document_entries::{
-    Fault, canonical_octets, check, find_records, find_records_strict, read_headers, read_records,
-    read_records_strict,
+    Fault, canonical_octets, check, check_by_headers, find_headers, find_records,
+    find_records_strict, read_headers, read_records_strict,
 };
 use crate::encoding::{put_header, put_tag, tag_octets_at};
 use crate::first_fault::{FaultAnswer, fault_in};
@@ -56,7 +54,7 @@ use crate::integer::{integer_at, put_integer};
 use crate::moment::{moment_at, put_moment};
 use crate::paths::put_values;
 use crate::put_encodings::{put_encoding, put_spelled};
-use crate::putting::{all_put, put_found, put_octets, put_records};
+use crate::putting::{all_put, not_enough, put_found, put_octets, put_records};
 use crate::raw::{put_raw_bits, put_raw_identifier, put_raw_moment, put_raw_text};
 use crate::record::{
     BitStringAnswer, Block, DepartureRecord, IntegerAnswer, MomentAnswer, Outcome, Path,
@@ -85,8 +83,8 @@ pub extern "C" fn simple_asn1_version() -> u32
 /// written stay as they are.
 ///
 /// Records are put there when all are known. Until then they take memory, but for no more of them than there is room
-/// for, or than 4,096: the others are counted alone, so that little is held without room. Each open level of nesting
-/// takes 64 bytes. All of it is given back. Stack use does not grow with nesting.
+/// for: the others are counted alone, so that little is held without room. Each open level of nesting takes 64 bytes.
+/// All of it is given back. Stack use does not grow with nesting.
 #[unsafe(no_mangle)]
 pub extern "C" fn simple_asn1_read(alloc: Global, octets: &[u8], blocks: &mut [Block]) -> Outcome
     ensures answer { AnswersRead octets.now blocks.old blocks.new result }
@@ -94,11 +92,8 @@ pub extern "C" fn simple_asn1_read(alloc: Global, octets: &[u8], blocks: &mut [B
     // Half as many records as octets are room enough.
     ensures few { (ns : Nodes) → IsStructure octets.now ns → 2 * length (nodes_in_order ns) ≤ length octets.now }
 {
-    if octets.len() / 2 > blocks.len().max(FEW) {
-        return read_within(alloc, octets, blocks);
-    }
-    match read_records(alloc, octets) {
-        Ok(outline) => put_records(outline.entries(), blocks),
+    match find_records(alloc, octets, blocks.len()) {
+        Ok(found) => put_found(&found, blocks),
         Err(fault) => refused_outcome(fault),
     }
 }
@@ -106,17 +101,6 @@ pub extern "C" fn simple_asn1_read(alloc: Global, octets: &[u8], blocks: &mut [B
 // How many records take little memory: where a document has no more, or where there is room for all that it may have,
 // they are kept, and not counted.
 const FEW: usize = 4096;
-
-// Reads a document where no more entries are kept than there is room for.
-fn read_within(alloc: Global, octets: &[u8], blocks: &mut [Block]) -> Outcome
-    ensures answer { AnswersRead octets.now blocks.old blocks.new result }
-    ensures few { (ns : Nodes) → IsStructure octets.now ns → 2 * length (nodes_in_order ns) ≤ length octets.now }
-{
-    match find_records(alloc, octets, blocks.len()) {
-        Ok(found) => put_found(&found, blocks),
-        Err(fault) => refused_outcome(fault),
-    }
-}
 
 /// Reads a document in canonical form (X.690 10, 11) into records, as [`simple_asn1_read`] does. For another document
 /// it returns `NOT_CANONICAL`, with the offset of the first top-level block that is not in its canonical octets.
@@ -153,15 +137,15 @@ fn read_strict_within(alloc: Global, octets: &[u8], blocks: &mut [Block]) -> Out
 /// Reads the encodings of a document by their headers alone (X.690 8.1.1) into records, as [`simple_asn1_read`] does.
 /// The contents octets of leaves are not looked into. SEQUENCE and SET (8.9 to 8.12) hold encodings; so do constructed
 /// encodings of another class (8.14), or they stay as they came, without items. The error is the first fault of a
-/// header, with the offset of its encoding. It takes memory for a record of each encoding, whatever the room.
+/// header, with the offset of its encoding. The memory is that of [`simple_asn1_read`].
 #[unsafe(no_mangle)]
 pub extern "C" fn simple_asn1_outline(alloc: Global, octets: &[u8], blocks: &mut [Block]) -> Outcome
     ensures answer { AnswersOutline octets.now blocks.old blocks.new result }
     ensures few { (all : Shapes) → HasShapes octets.now all →
         2 * length (entries_of 0 0 all) ≤ length octets.now }
 {
-    match read_headers(alloc, octets) {
-        Ok(headers) => put_records(headers.entries(), blocks),
+    match find_headers(alloc, octets, blocks.len()) {
+        Ok(found) => put_found(&found, blocks),
         Err(fault) => refused_outcome(fault),
     }
 }
@@ -174,7 +158,8 @@ pub extern "C" fn simple_asn1_outline(alloc: Global, octets: &[u8], blocks: &mut
 /// encoding.
 ///
 /// Returns the number of paths; `NO_ROOM` with it, if there is less room; or an error as [`simple_asn1_outline`]. After
-/// an error nothing is written. The memory is that of [`simple_asn1_outline`].
+/// an error nothing is written. It takes memory for a record of each encoding, where there is room for all paths, and
+/// for each open level of nesting.
 #[unsafe(no_mangle)]
 pub extern "C" fn simple_asn1_values(
     alloc: Global,
@@ -185,6 +170,12 @@ pub extern "C" fn simple_asn1_values(
 ) -> Outcome
     ensures { AnswersValues octets.now steps.now paths.now values.old values.new result }
 {
+    if values.len() < paths.len() {
+        return match check_by_headers(alloc, octets) {
+            Ok(()) => not_enough(paths.len()),
+            Err(fault) => refused_outcome(fault),
+        };
+    }
     match read_headers(alloc, octets) {
         Ok(headers) => put_values(octets, headers.entries(), steps, paths, values),
         Err(fault) => refused_outcome(fault),

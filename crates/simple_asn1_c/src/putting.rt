@@ -1,15 +1,15 @@
 // Octets and records into room that the caller has.
 ghost use Rattle.std.specs.Prelude.{◌≡◌, List, length, map};
 ghost use Rattle.asn1_outline.specs.declared.entry.Entry.{Entry};
-ghost use Rattle.simple_asn1_c.specs.Inner.Fronts.{IsFound};
+ghost use Rattle.asn1_outline.specs.Listing.{IsFound};
 ghost use Rattle.simple_asn1_c.specs.Records.{block_of};
 ghost use Rattle.simple_asn1_c.specs.Room.{ArePut};
 ghost use Rattle.simple_asn1_c.specs.Status.{done, no_room};
 
 use crate::record::{Block, Outcome, block_of};
 use crate::status::{DONE, NO_ROOM};
-use crate::within::Found;
 use asn1_outline::entry::Entry;
+use asn1_outline::entry_builder::Found;
 
 pub fn put_octets(octets: &[u8], room: &mut [u8]) -> Outcome
     ensures { ArePut octets.now room.old room.new result }

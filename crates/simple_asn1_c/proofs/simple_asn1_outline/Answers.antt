@@ -1,15 +1,14 @@
 -- For `simple_asn1_outline`: what it returns is right (`answer`, `few`).
-use Rattle.simple_asn1.specs.Walked.{walked_entries}
-use Rattle.simple_asn1_c.proofs.Outcomes.{AnswersOutline-outlined, AnswersOutline-refused}
+use Rattle.simple_asn1.specs.Shapes.{entries_of}
+use Rattle.simple_asn1_c.specs.Answers.{was_outlined}
+use Rattle.simple_asn1_c.proofs.Outcomes.{AnswersOutline-refused}
 use Rattle.simple_asn1_c.proofs.TwoEachHeader.{length-entries_le}
 use Rattle.simple_asn1_c.proofs.simple_asn1_outline.Goals as goal
 
 pub returns-in-Ok-clause-answer : goal.returns-in-Ok-clause-answer
 returns-in-Ok-clause-answer c =
-    let (all, has, are) = c.in-Ok.ensures.document in
-    AnswersOutline-outlined c.args.octets.now all
-    (walked_entries c.in-Ok.headers) c.entries.result.now c.args.blocks.now c.put_records.new.room
-    c.put_records.result c.entries.ensures has are c.put_records.ensures
+    let (all, has, found) = c.in-Ok.ensures.document in
+    was_outlined all has (c.put_found.ensures (entries_of 0 0 all) found)
 
 pub returns-in-Err-clause-answer : goal.returns-in-Err-clause-answer
 returns-in-Err-clause-answer c =

@@ -1,7 +1,7 @@
 -- For `putting::put_found`: what it returns is right.
 use Rattle.std.proofs.Common.{◌∙◌, inr, length, map, refl, subst, sym, arith}
 use Rattle.std.proofs.lemmas.List.{length-map}
-use Rattle.simple_asn1_c.specs.Inner.Fronts.{IsFound}
+use Rattle.asn1_outline.specs.Listing.{IsFound}
 use Rattle.simple_asn1_c.specs.Records.{block_of}
 use Rattle.simple_asn1_c.specs.Room.{ArePut}
 use Rattle.simple_asn1_c.proofs.putting.put_found.Goals as goal

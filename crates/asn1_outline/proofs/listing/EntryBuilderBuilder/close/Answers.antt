@@ -1,15 +1,10 @@
--- For `listing::EntryBuilderBuilder::close`: what it returns is right and `set_items` may be called.
+-- For `listing::EntryBuilderBuilder::close`: what it returns is right.
 use Rattle.std.proofs.Common.{subst, sym}
 use Rattle.std.proofs.lemmas.Result.{on_ok_weaker}
 use Rattle.asn1_blocks.specs.Inner.ReaderSteps.{HasEndedIn, in_frame}
 use Rattle.asn1_outline.specs.Listing.{builder_holds}
-use Rattle.asn1_outline.proofs.Listed.{HasEndedIn-entry_builder, entry-lt_length}
+use Rattle.asn1_outline.proofs.Listed.{HasEndedIn-entry_builder}
 use Rattle.asn1_outline.proofs.listing.EntryBuilderBuilder.close.Goals as goal
-
-pub set_items-requires : goal.set_items-requires
-set_items-requires c =
-    entry-lt_length c.args._octets.now c.args.self.now.entries.items (in_frame c.args._extent c.args.items)
-    (in_frame c.requires.extent c.args.parent.now) c.requires.outer c.requires.trees c.requires.holds
 
 pub returns : goal.returns
 returns c =
@@ -18,5 +13,6 @@ returns c =
     let a = c.args.self.now in
     let b = c.set_items.new.self in
     let i = c.args.parent.now in
-    on_ok_weaker c.add.result (λ u. subst (λ z. HasEndedIn builder_holds x f c.args._depth a i b z) (sym u)
+    on_ok_weaker c.add.result
+    (λ u. subst (λ z. HasEndedIn builder_holds x f c.args._depth a i b z) (sym u)
     (HasEndedIn-entry_builder x a b f i c.args._depth c.set_items.ensures)) c.add.ensures

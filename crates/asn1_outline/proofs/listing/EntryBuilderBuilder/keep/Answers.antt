@@ -13,5 +13,6 @@ returns c =
     let a = c.args.self.now in
     let b = c.cut.new.self in
     let i = c.args.parent.now in
-    on_ok_weaker c.add.result (λ u. subst (λ z. HasKept builder_holds x f c.args._depth a i b z) (sym u)
+    on_ok_weaker c.add.result
+    (λ u. subst (λ z. HasKept builder_holds x f c.args._depth a i b z) (sym u)
     (HasKept-entry_builder x a b f i c.args._depth c.cut.ensures)) c.add.ensures

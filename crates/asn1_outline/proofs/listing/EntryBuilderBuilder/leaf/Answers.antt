@@ -1,33 +1,25 @@
--- For `listing::EntryBuilderBuilder::leaf`: what it returns is right (`refused`).
-use Rattle.std.proofs.Common.{◌≡◌, ◌-◌, inl, inr, length, refl, subst, sym, arith}
+-- For `listing::EntryBuilderBuilder::leaf`: what it returns is right (`built`, `refused`).
+use Rattle.std.proofs.Common.{◌-◌, inl, inr, refl, subst, sym}
 use Rattle.std.proofs.lemmas.Result.{err_from_is_err_and}
 use Rattle.std.specs.List.{slice_range}
-use Rattle.std.proofs.lemmas.Grind.{common_steps}
 use Rattle.asn1_blocks.specs.Inner.ReaderSteps.{HasLeaf}
-use Rattle.asn1_outline.specs.Listing.{IsBegun, builder_holds}
+use Rattle.asn1_outline.specs.Listing.{builder_holds}
 use Rattle.asn1_outline.proofs.Listed.{HasLeaf-entry_builder}
 use Rattle.asn1_outline.proofs.listing.EntryBuilderBuilder.leaf.Goals as goal
 
-pub returns : goal.returns
-returns c =
+pub returns-clause-built : goal.returns-clause-built
+returns-clause-built c =
     let x = c.args.octets.now in
     let h = c.args.header in
     let o = c.args.offset in
     let a = c.args.self.now in
-    let b = c.push.new.self in
+    let b = c.add.new.self in
     let i = c.args.items.now in
     let (limit, found, within) = c.requires.found in
-    let at : c.len.result ≡ length a.entries.items = grind (arith, common_steps) in
-    let begun =
-    subst (λ z. IsBegun x o z c.args.depth c.encoding_entry-block.result) at c.encoding_entry-block.ensures in
     let single = c.in_ok-check_contents.ensures.encoded o (slice_range x o h.end) (h.start - o) found.encoding in
-    let built =
-    HasLeaf-entry_builder x h o limit c.args.depth a b i c.encoding_entry-block.result found c.requires.leaf single
-    begun c.in_ok-push.ensures in
-    record {
-      built = subst (λ z. HasLeaf builder_holds x o h.end c.args.depth a i b z) (sym c.in_ok-add.ensures) built;
-      refused = tt;
-    }
+    let built = HasLeaf-entry_builder x h o limit c.args.depth a b i c.encoding_entry-block.result c.count-entry.result found
+    c.requires.leaf single c.encoding_entry-block.ensures c.count-entry.ensures.count c.in_ok-add.ensures in
+    subst (λ z. HasLeaf builder_holds x o h.end c.args.depth a i b z) (sym c.in_ok-add-2.ensures) built
 
 pub returns-in_err-check_contents-clause-refused : goal.returns-in_err-check_contents-clause-refused
 returns-in_err-check_contents-clause-refused c =

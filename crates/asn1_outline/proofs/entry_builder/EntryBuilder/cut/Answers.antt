@@ -1,8 +1,8 @@
--- For `front_builder::FrontBuilder::cut`: what it returns is right.
+-- For `entry_builder::EntryBuilder::cut`: what it returns is right.
 use Rattle.std.proofs.Common.{◌≡◌, suc, length, refl, arith}
 use Rattle.std.proofs.lemmas.Grind.{common_steps}
-use Rattle.simple_asn1_c.proofs.Fronts.{IsFront-take_behind, IsFront-take_all}
-use Rattle.simple_asn1_c.proofs.front_builder.FrontBuilder.cut.Goals as goal
+use Rattle.asn1_outline.proofs.Fronts.{IsFront-take_behind, IsFront-take_all}
+use Rattle.asn1_outline.proofs.entry_builder.EntryBuilder.cut.Goals as goal
 
 pub returns-then-entry-kept-2 : goal.returns-then-entry-kept-2
 returns-then-entry-kept-2 c all w =

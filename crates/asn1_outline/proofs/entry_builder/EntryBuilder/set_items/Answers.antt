@@ -1,10 +1,10 @@
--- For `front_builder::FrontBuilder::set_items`: what it returns is right.
+-- For `entry_builder::EntryBuilder::set_items`: what it returns is right.
 use Rattle.std.proofs.Common.{◌<◌, ◌≤◌, length, refl, arith, ◌∙◌}
 use Rattle.std.proofs.lemmas.Grind.{common_steps}
 use Rattle.std.proofs.lemmas.List.{get_or_default}
 use Rattle.asn1_outline.specs.Entries.{no_entry}
-use Rattle.simple_asn1_c.proofs.Fronts.{IsFront-with_items_behind, IsFront-with_items_within}
-use Rattle.simple_asn1_c.proofs.front_builder.FrontBuilder.set_items.Goals as goal
+use Rattle.asn1_outline.proofs.Fronts.{IsFront-with_items_behind, IsFront-with_items_within}
+use Rattle.asn1_outline.proofs.entry_builder.EntryBuilder.set_items.Goals as goal
 
 pub returns-then-items-len : goal.returns-then-items-len
 returns-then-items-len c all w =
