@@ -107,7 +107,7 @@ typedef struct simple_asn1_departure {
 enum { /* what is wrong, and the clauses that say the rule: of X.690, unless X.680 is named */
     SIMPLE_ASN1_RULE_LONG_IDENTIFIER = 1,    /* tag number below 31 in more than one byte: 8.1.2.2 */
     SIMPLE_ASN1_RULE_PADDED_TAG = 2,         /* tag number not in the fewest bytes: 8.1.2.4.2 */
-    SIMPLE_ASN1_RULE_INDEFINITE_LENGTH = 3,  /* indefinite length: 10.1 */
+    SIMPLE_ASN1_RULE_INDEFINITE_LENGTH = 3,  /* indefinite length: 8.1.3.2, 10.1 */
     SIMPLE_ASN1_RULE_LONG_LENGTH = 4,        /* length not in the fewest bytes: 10.1 */
     SIMPLE_ASN1_RULE_RESERVED_TAG = 5,       /* reserved tag: X.680 8.4 */
     SIMPLE_ASN1_RULE_NOT_CONSTRUCTED = 6,    /* primitive, but the type is constructed: 8.9.1, 8.11.1, 8.17, 8.18,
@@ -134,7 +134,9 @@ enum { /* what is wrong, and the clauses that say the rule: of X.690, unless X.6
     SIMPLE_ASN1_RULE_GENERALIZED_TIME = 24,  /* not YYYYMMDDhhmmss[.f]Z of a moment that exists: 11.7 */
     SIMPLE_ASN1_RULE_TIME = 25,              /* no date or time of the type: 8.26 */
     SIMPLE_ASN1_RULE_ORDER = 26,             /* SET out of order: 10.3, 11.6 */
-    SIMPLE_ASN1_RULE_NOT_ENCODINGS = 27      /* contents that are not encodings: 8.1.2.5 */
+    SIMPLE_ASN1_RULE_NOT_ENCODINGS = 27,     /* contents that are not encodings: 8.9.2, 8.10.2, 8.11.2, 8.12.2, 8.14 */
+    SIMPLE_ASN1_RULE_EXTERNAL = 28,          /* not a reference and an encoding: 8.18 */
+    SIMPLE_ASN1_RULE_IDENTIFICATION = 29     /* not an identification and a value: 8.17, 8.24 */
 };
 
 typedef struct simple_asn1_outcome {

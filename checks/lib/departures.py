@@ -119,13 +119,18 @@ CONTENTS_RULES = {
 }
 
 
-def is_out_of_order(contents):
-    """Whether the items of a SET are DER, and in neither order."""
+ITEMS_RULES = {8: "External", 11: "Identification", 17: "Order", 29: "Identification"}
+
+
+def is_wrongly_filled(it):
+    """Whether the items are DER, but not those of the type: those of a SET are in neither order."""
     try:
-        items = der.encodings(contents)
+        items = der.encodings(it.contents)
     except der.Other:
         return False
-    return not der.by_tags(items) and not der.by_octets(items)
+    if it.tag == 17:
+        return not der.by_tags(items) and not der.by_octets(items)
+    return not der.HELD[it.tag](it.contents)
 
 
 def type_rule(it):
@@ -135,7 +140,7 @@ def type_rule(it):
     if rule or it.is_indefinite:
         return rule
     if it.constructed:
-        return "Order" if it.tag == 17 and is_out_of_order(it.contents) else None
+        return ITEMS_RULES[it.tag] if it.tag in ITEMS_RULES and is_wrongly_filled(it) else None
     if der.RULES.get(it.tag, lambda _: True)(it.contents):
         return None
     return CONTENTS_RULES.get(it.tag, lambda _: "Characters")(it.contents)

@@ -23,7 +23,7 @@ TAGS = "asn1_headers/src/tags.rt"
 
 IMPORT = re.compile(r"^(?:ghost |pub )?use Rattle\.(\w+)\.specs\.([\w.]+?)\.\{([^}]*)\}", re.M)
 WORD = re.compile(r"[^\s(){}\[\],.;→λ]+")
-HEAD = re.compile(r"^\s*(?:abbrev )?(?:pub )?(?:data |record )?([^\s(){}:]+)(?: \(.*)?\s*:", re.M)
+HEAD = re.compile(r"^\s*(?:abbrev |unfoldable )?(?:pub )?(?:data |record )?([^\s(){}:]+)(?: \(.*)?\s*:", re.M)
 
 
 def imports(text):

@@ -40,7 +40,7 @@ class Rule(enum.IntEnum):
 
     LONG_IDENTIFIER = 1, "tag number below 31 in more than one byte", "8.1.2.2"
     PADDED_TAG = 2, "tag number not in the fewest bytes", "8.1.2.4.2"
-    INDEFINITE_LENGTH = 3, "indefinite length", "10.1"
+    INDEFINITE_LENGTH = 3, "indefinite length", "8.1.3.2, 10.1"
     LONG_LENGTH = 4, "length not in the fewest bytes", "10.1"
     RESERVED_TAG = 5, "reserved tag", "X.680 8.4"
     NOT_CONSTRUCTED = 6, "primitive, but the type is constructed", "8.9.1, 8.11.1, 8.17, 8.18, 8.24"
@@ -67,7 +67,9 @@ class Rule(enum.IntEnum):
     GENERALIZED_TIME = 24, "not YYYYMMDDhhmmss[.f]Z of a moment that exists", "11.7"
     TIME = 25, "no date or time of the type", "8.26"
     ORDER = 26, "SET out of order", "10.3, 11.6"
-    NOT_ENCODINGS = 27, "contents that are not encodings", "8.1.2.5"
+    NOT_ENCODINGS = 27, "contents that are not encodings", "8.9.2, 8.10.2, 8.11.2, 8.12.2, 8.14"
+    EXTERNAL = 28, "not a reference and an encoding", "8.18"
+    IDENTIFICATION = 29, "not an identification and a value", "8.17, 8.24"
 
 
 _RULES = {rule.value: rule for rule in Rule}

@@ -78,7 +78,7 @@ pub record OwnRules (identifier len : List ℕ) (class : ASN1Class) (constructed
   pub length_found : LengthFound len (length contents) of_length
   pub type_found : TypeFound (is_indefinite len) class constructed tag contents of_type
 
--- the rule for contents octets of a constructed encoding of the definite form: they are encodings (8.1.2.5)
+-- the rule for contents octets of a constructed encoding of the definite form: they are encodings (8.9.2, 8.10.2, 8.14)
 abbrev pub ItemsFound : Bool → List ℕ → List ℕ → Option Rule → Type 0
 ItemsFound constructed len contents found =
     MatchBool (is_looked_into constructed len) (Found (AreEncodings 0 contents) NotEncodings found) (found ≡ None)
@@ -119,7 +119,7 @@ mutual
         → Lists fewer (offset + 2) rest found → Lists unended offset octets found
 
   -- the departures inside an encoding at the offset, whose contents octets begin at the start, if it is constructed and
-  -- definite: where its contents octets are no encodings, that is the one departure (8.1.2.5)
+  -- definite: where its contents octets are no encodings, that is the one departure
   pub data ListsInside : ℕ → ℕ → Bool → List ℕ → List Departure → Type 0 where
     nothing_inside : {offset start : ℕ} {looked_at : Bool} {contents : List ℕ} {found : List Departure}
         → looked_at ≡ false → found ≡ [] → ListsInside offset start looked_at contents found

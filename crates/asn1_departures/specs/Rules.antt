@@ -1,17 +1,17 @@
 -- The rules of DER: which clauses say them, and which of them an encoding breaks where it is not DER.
 use Rattle.std.specs.Prelude.{◌==◌, ◌&&◌, ◌||◌, ℕ, nat_lt, Bool, true, false, if◌then◌else◌, Option, None, Some, List, [], ◌∷◌, codes, length}
-use Rattle.asn1_headers.specs.declared.tags.TheConstants.{BOOLEAN, INTEGER, BIT_STRING, OCTET_STRING, NULL, OBJECT_IDENTIFIER, OBJECT_DESCRIPTOR, REAL, ENUMERATED, UTF8_STRING, RELATIVE_OID, TIME, NUMERIC_STRING, PRINTABLE_STRING, TELETEX_STRING, VIDEOTEX_STRING, IA5_STRING, UTC_TIME, GENERALIZED_TIME, GRAPHIC_STRING, VISIBLE_STRING, GENERAL_STRING, UNIVERSAL_STRING, BMP_STRING, OID_IRI, RELATIVE_OID_IRI}
+use Rattle.asn1_headers.specs.declared.tags.TheConstants.{BOOLEAN, INTEGER, BIT_STRING, OCTET_STRING, NULL, OBJECT_IDENTIFIER, OBJECT_DESCRIPTOR, EXTERNAL, REAL, ENUMERATED, EMBEDDED_PDV, UTF8_STRING, RELATIVE_OID, TIME, NUMERIC_STRING, PRINTABLE_STRING, TELETEX_STRING, VIDEOTEX_STRING, IA5_STRING, UTC_TIME, GENERALIZED_TIME, GRAPHIC_STRING, VISIBLE_STRING, GENERAL_STRING, UNIVERSAL_STRING, CHARACTER_STRING, BMP_STRING, OID_IRI, RELATIVE_OID_IRI}
 use Rattle.std.specs.List.{list_any}
 use Rattle.std.specs.Option.{unwrap_or}
 use Rattle.asn1_der.specs.Der.{is_constructed_type, is_reserved}
 use Rattle.asn1_departures.specs.declared.rule.Rule.{Rule}
-use Rattle.asn1_departures.specs.declared.rule.Rule.TheVariants.{LongIdentifier, PaddedTag, IndefiniteLength, LongLength, ReservedTag, NotConstructed, NotPrimitive, ConstructedString, BooleanSize, BooleanValue, NoInteger, PaddedInteger, SpecialReal, BinaryReal, DecimalReal, UnusedCount, UnusedOfNone, UnusedBits, NullContents, Subidentifiers, Iri, Characters, UtcTime, GeneralizedTime, Time, Order, NotEncodings}
+use Rattle.asn1_departures.specs.declared.rule.Rule.TheVariants.{LongIdentifier, PaddedTag, IndefiniteLength, LongLength, ReservedTag, NotConstructed, NotPrimitive, ConstructedString, BooleanSize, BooleanValue, NoInteger, PaddedInteger, SpecialReal, BinaryReal, DecimalReal, UnusedCount, UnusedOfNone, UnusedBits, NullContents, Subidentifiers, Iri, Characters, UtcTime, GeneralizedTime, Time, Order, NotEncodings, External, Identification}
 
 -- the clauses that say the rule, of X.690, unless X.680 is named
 abbrev pub section_of : Rule → List ℕ
 section_of LongIdentifier = codes "8.1.2.2"
 section_of PaddedTag = codes "8.1.2.4.2"
-section_of IndefiniteLength = codes "10.1"
+section_of IndefiniteLength = codes "8.1.3.2, 10.1"
 section_of LongLength = codes "10.1"
 section_of ReservedTag = codes "X.680 8.4"
 section_of NotConstructed = codes "8.9.1, 8.11.1, 8.17, 8.18, 8.24"
@@ -35,7 +35,9 @@ section_of UtcTime = codes "11.8"
 section_of GeneralizedTime = codes "11.7"
 section_of Time = codes "8.26"
 section_of Order = codes "10.3, 11.6"
-section_of NotEncodings = codes "8.1.2.5"
+section_of NotEncodings = codes "8.9.2, 8.10.2, 8.11.2, 8.12.2, 8.14"
+section_of External = codes "8.18"
+section_of Identification = codes "8.17, 8.24"
 
 -- what is wrong where a rule is broken
 abbrev pub text_of : Rule → List ℕ
@@ -66,6 +68,8 @@ text_of GeneralizedTime = codes "not YYYYMMDDhhmmss[.f]Z of a moment that exists
 text_of Time = codes "no date or time of the type"
 text_of Order = codes "SET out of order"
 text_of NotEncodings = codes "contents that are not encodings"
+text_of External = codes "not a reference and an encoding"
+text_of Identification = codes "not an identification and a value"
 
 -- the rule that identifier octets break which are not the shortest: those of a tag number below 31 are one octet
 -- (8.1.2.2), and any other tag number is in the fewest octets (8.1.2.4.2)
@@ -118,8 +122,14 @@ contents_rule tag contents =
     else if (tag == OID_IRI) || (tag == RELATIVE_OID_IRI) then Iri
     else Characters
 
--- what an encoding of class Universal breaks by its tag, its form and its contents octets, where it breaks one: a
--- constructed one of a right form is a SET
+-- what encodings break that are not those of the constructed type with the tag number. A SEQUENCE has any
+abbrev pub items_rule : ℕ → Rule
+items_rule tag =
+    if tag == EXTERNAL then External
+    else if (tag == EMBEDDED_PDV) || (tag == CHARACTER_STRING) then Identification
+    else Order
+
+-- what an encoding of class Universal breaks by its tag, its form and its contents octets, where it breaks one
 abbrev pub type_rule : Bool → ℕ → List ℕ → Rule
 type_rule constructed tag contents =
-    unwrap_or (form_rule constructed tag) (if constructed then Order else contents_rule tag contents)
+    unwrap_or (form_rule constructed tag) (if constructed then items_rule tag else contents_rule tag contents)

@@ -22,10 +22,12 @@ use std::alloc::{AllocError, Global};
 /// It looks inside constructed encodings, at every depth, and not inside an OCTET STRING or a BIT STRING. A length of
 /// the indefinite form is one departure, and what it encloses is followed to its end-of-contents bytes. A constructed
 /// encoding whose contents are not encodings is one departure, `NotEncodings`: nothing is listed inside it, and the
-/// list goes on behind it. A SET is out of order only if all that it holds is DER.
+/// list goes on behind it. A SET is out of order, and an EXTERNAL, EMBEDDED PDV or CHARACTER STRING holds others than
+/// its own components, only if all that it holds is DER.
 ///
 /// Rules that need a schema are not checked: values that are those of DEFAULT (11.5), named bits with zeros at the end
-/// (11.2.2), and sizes. A SET may be ordered by tags (10.3) or by bytes (11.6), since only a schema says which.
+/// (11.2.2), and sizes. A SET may be ordered by tags (10.3) or by bytes (11.6), since only a schema says which. What
+/// `is_der` does not check, it does not check either.
 ///
 /// It takes memory for the list and for each encoding that is open at a time, and no stack. Its time grows in
 /// proportion to the input, or as n log n where SETs inside SETs are ordered by bytes.

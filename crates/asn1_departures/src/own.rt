@@ -4,20 +4,20 @@ ghost use Rattle.asn1_headers.specs.declared.header.ASN1Class.TheVariants.{Unive
 ghost use Rattle.asn1_headers.specs.Header.{shortest_identifier, shortest_length};
 ghost use Rattle.asn1_der.specs.Der.{IsRightAlone};
 ghost use Rattle.asn1_departures.specs.Departures.{Found, LengthFound, OwnRules, TypeFound, listed, own_departures};
-ghost use Rattle.asn1_departures.specs.Rules.{bits_rule as bits_rule_is, contents_rule as contents_rule_is, form_rule as form_rule_is, identifier_rule, is_string as is_string_is, real_rule as real_rule_is, type_rule as type_rule_is};
+ghost use Rattle.asn1_departures.specs.Rules.{bits_rule as bits_rule_is, contents_rule as contents_rule_is, form_rule as form_rule_is, identifier_rule, items_rule as items_rule_is, is_string as is_string_is, real_rule as real_rule_is, type_rule as type_rule_is};
 
 use crate::rule::{Departure, Rule};
 use asn1_blocks::parsed::PlacedHeader;
 use asn1_der::contents::has_der_contents;
-use asn1_der::header_rules::{is_constructed_type, is_reserved};
+use asn1_der::header_rules::{are_of_type, is_constructed_type, is_reserved};
 use asn1_der::is_der;
-use asn1_der::order::is_in_order;
 use asn1_headers::header::{ASN1Class, identifier_size, length_size, push_identifier, push_length};
 use asn1_headers::indefinite::is_indefinite;
 use asn1_headers::tags::{
-    BIT_STRING, BMP_STRING, BOOLEAN, DATE, DURATION, ENUMERATED, GENERALIZED_TIME, INTEGER, NULL,
-    NUMERIC_STRING, OBJECT_DESCRIPTOR, OBJECT_IDENTIFIER, OCTET_STRING, OID_IRI, REAL,
-    RELATIVE_OID, RELATIVE_OID_IRI, SET, TIME, UNIVERSAL_STRING, UTC_TIME, UTF8_STRING,
+    BIT_STRING, BMP_STRING, BOOLEAN, CHARACTER_STRING, DATE, DURATION, EMBEDDED_PDV, ENUMERATED,
+    EXTERNAL, GENERALIZED_TIME, INTEGER, NULL, NUMERIC_STRING, OBJECT_DESCRIPTOR,
+    OBJECT_IDENTIFIER, OCTET_STRING, OID_IRI, REAL, RELATIVE_OID, RELATIVE_OID_IRI, TIME,
+    UNIVERSAL_STRING, UTC_TIME, UTF8_STRING,
 };
 use asn1_numbers::number::big_uint::BigUint;
 use asn1_numbers::sink::Comparison;
@@ -175,10 +175,7 @@ fn is_right(alloc: Global, constructed: bool, tag: u64, contents: &[u8]) -> Resu
     if !constructed {
         return Ok(is_right_primitive(tag, contents));
     }
-    if tag == SET {
-        return is_set_in_order(alloc, contents);
-    }
-    Ok(is_constructed_type(tag))
+    is_right_constructed(alloc, tag, contents)
 }
 
 fn is_right_primitive(tag: u64, contents: &[u8]) -> bool
@@ -187,12 +184,18 @@ fn is_right_primitive(tag: u64, contents: &[u8]) -> bool
     !is_reserved(tag) && !is_constructed_type(tag) && has_der_contents(tag, contents)
 }
 
-// Whether the items are in order, if they are DER.
-fn is_set_in_order(alloc: Global, contents: &[u8]) -> Result<bool, AllocError>
-    ensures { IfOk result (λ found. IsTrue found ↔ IsRightAlone Universal true SET contents.now) }
+// Whether the type with the tag number is constructed, and the items are those that it has, if they are DER.
+fn is_right_constructed(alloc: Global, tag: u64, contents: &[u8]) -> Result<bool, AllocError>
+    ensures { IfOk result (λ found. IsTrue found ↔ IsRightAlone Universal true tag contents.now) }
 {
-    if is_in_order(contents) {
+    if !is_constructed_type(tag) {
+        return Ok(false);
+    }
+    if are_of_type(tag, contents) {
         return Ok(true);
+    }
+    if contents.is_empty() {
+        return Ok(false);
     }
     Ok(!is_der(alloc, contents)?)
 }
@@ -202,8 +205,18 @@ fn type_rule(constructed: bool, tag: u64, contents: &[u8]) -> Rule
 {
     match form_rule(constructed, tag) {
         Some(rule) => rule,
-        None if constructed => Rule::Order,
+        None if constructed => items_rule(tag),
         None => contents_rule(tag, contents),
+    }
+}
+
+fn items_rule(tag: u64) -> Rule
+    ensures { result ≡ items_rule_is tag }
+{
+    match tag {
+        EXTERNAL => Rule::External,
+        EMBEDDED_PDV | CHARACTER_STRING => Rule::Identification,
+        _ => Rule::Order,
     }
 }
 

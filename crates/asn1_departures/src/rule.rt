@@ -47,7 +47,7 @@ pub enum Rule {
     NullContents,
     /// An OBJECT IDENTIFIER or RELATIVE-OID has one subidentifier or more, each whole and in the fewest bytes.
     Subidentifiers,
-    /// An OID-IRI or RELATIVE-OID-IRI is some UTF-8, and an OID-IRI begins with a solidus.
+    /// An OID-IRI or RELATIVE-OID-IRI is labels with solidi between them, before which an OID-IRI has one more.
     Iri,
     /// A string has only characters of its type.
     Characters,
@@ -55,12 +55,16 @@ pub enum Rule {
     UtcTime,
     /// A GeneralizedTime is YYYYMMDDhhmmss of a moment that exists, perhaps a fraction that does not end in 0, and Z.
     GeneralizedTime,
-    /// A TIME, DATE, TIME-OF-DAY, DATE-TIME or DURATION has its characters, and is a date or a time that exists.
+    /// A DATE, TIME-OF-DAY, DATE-TIME or DURATION is one, and a TIME has its characters in an order that there is.
     Time,
     /// The items of a SET ascend by their tags or by their bytes.
     Order,
     /// The contents of a constructed encoding are encodings.
     NotEncodings,
+    /// An EXTERNAL has one reference or both, perhaps a descriptor, and an encoding.
+    External,
+    /// An EMBEDDED PDV or CHARACTER STRING has an identification and a value.
+    Identification,
 }
 
 impl Rule {
@@ -80,7 +84,7 @@ impl Rule {
         match self {
             Rule::LongIdentifier => "8.1.2.2",
             Rule::PaddedTag => "8.1.2.4.2",
-            Rule::IndefiniteLength => "10.1",
+            Rule::IndefiniteLength => "8.1.3.2, 10.1",
             Rule::LongLength => "10.1",
             Rule::ReservedTag => "X.680 8.4",
             Rule::NotConstructed => "8.9.1, 8.11.1, 8.17, 8.18, 8.24",
@@ -104,7 +108,9 @@ impl Rule {
             Rule::GeneralizedTime => "11.7",
             Rule::Time => "8.26",
             Rule::Order => "10.3, 11.6",
-            Rule::NotEncodings => "8.1.2.5",
+            Rule::NotEncodings => "8.9.2, 8.10.2, 8.11.2, 8.12.2, 8.14",
+            Rule::External => "8.18",
+            Rule::Identification => "8.17, 8.24",
         }
     }
 
@@ -149,6 +155,8 @@ impl Rule {
             Rule::Time => "no date or time of the type",
             Rule::Order => "SET out of order",
             Rule::NotEncodings => "contents that are not encodings",
+            Rule::External => "not a reference and an encoding",
+            Rule::Identification => "not an identification and a value",
         }
     }
 }

@@ -18,8 +18,8 @@ use std::alloc::{AllocError, Global};
 /// at its offset. What encodings inside it break is not among them. Its header was read, and it is whole; in the
 /// indefinite form it has no contents octets here.
 ///
-/// A SET takes time for all that it holds, any other encoding for its own contents octets and for the headers of its
-/// items. It takes memory as `is_der` does.
+/// A SET, EXTERNAL, EMBEDDED PDV or CHARACTER STRING takes time for all that it holds, any other encoding for its own
+/// contents octets and for the headers of its items. It takes memory as `is_der` does.
 ///
 /// # Errors
 /// Memory ran out.

@@ -1,9 +1,9 @@
--- Lists by their elements, and moments of which some octets are given, for `contents::is_date`,
--- `contents::is_time_of_day` and `contents::is_date_time`.
+-- Lists by their elements, and moments of which some octets are given, for `times::is_day` and
+-- `times::is_whole_minute`.
 use Rattle.std.proofs.Common.{◌≡◌, ℕ, zero, suc, ◌+◌, List, [], ◌∷◌, ◌++◌, Bool, length, get_or, drop, drop-cons, sym, ap, ◌∙◌, subst, arith}
 use Rattle.std.proofs.Math.ListN.{drop_of_length-le}
 use Rattle.std.specs.Prelude.{◌↔◌, IsTrue}
-use Rattle.asn1_der.specs.Contents.{IsMoment, IsWithinMoment}
+use Rattle.asn1_der.specs.Times.{IsMoment, IsWithinMoment}
 
 -- the octets at so many indices, from an index on
 abbrev pub octets_from : List ℕ → (i count : ℕ) → List ℕ

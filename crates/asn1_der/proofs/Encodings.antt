@@ -1,14 +1,12 @@
 -- Encodings of DER by their headers, for this crate, `asn1_departures` and `asn1_laws`.
-use Rattle.std.proofs.Common.{◌≡◌, ◌≢◌, ℕ, ◌+◌, ◌<◌, ◌^◌, Bool, true, false, List, [], ◌++◌, inl, inr, length, refl, sym, ap, ◌∙◌, subst, arith, length-append}
-use Rattle.std.proofs.lemmas.Bool.{cases_lt}
+use Rattle.std.proofs.Common.{◌≡◌, ◌≢◌, ℕ, ◌+◌, ◌<◌, ◌^◌, Bool, true, false, List, [], ◌++◌, length, refl, sym, ap, ◌∙◌, subst, arith, length-append}
 use Rattle.asn1_headers.specs.Header.{Encoding, shortest_identifier, shortest_length}
 use Rattle.asn1_headers.specs.declared.header.ASN1Class.{ASN1Class}
 use Rattle.asn1_headers.specs.declared.header.ASN1Class.TheVariants.{Universal, Application, ContextSpecific, Private}
 use Rattle.asn1_headers.proofs.Prefixes.{Encoding-unique, Encoding-not_empty}
 use Rattle.asn1_headers.proofs.Shortest.{IsIdentifier-shortest, IsLength-shortest}
-use Rattle.asn1_headers.specs.declared.tags.TheConstants.{SET}
 use Rattle.asn1_blocks.specs.Places.{IsEncoding}
-use Rattle.asn1_der.specs.Der.{AreDerEncodings, IsDerEncoding, IsInOrder, IsRightAlone, IsShortest, more_encodings, no_encodings, of_constructed_not_universal, of_primitive_not_universal, of_primitive_type, of_sequence, of_set}
+use Rattle.asn1_der.specs.Der.{AreDerEncodings, AreOfType, IsDerEncoding, IsRightAlone, IsShortest, more_encodings, no_encodings, of_constructed_not_universal, of_constructed_type, of_primitive_not_universal, of_primitive_type}
 use Rattle.asn1_der.specs.Steps.{IsWhole, AreDer}
 
 -- octets in the shortest form are an encoding
@@ -42,9 +40,8 @@ pub record HasShortestForm (x : List ℕ) : Type 0 where
 HasShortestForm-der : (x : List ℕ) → IsDerEncoding x → HasShortestForm x
 HasShortestForm-der x (of_primitive_type {tag = n} s r t h) =
     record { c = Universal; k = false; n = n; v = _; shortest = s }
-HasShortestForm-der x (of_sequence {tag = n} s t other items d) =
+HasShortestForm-der x (of_constructed_type {tag = n} s t items d o) =
     record { c = Universal; k = true; n = n; v = _; shortest = s }
-HasShortestForm-der x (of_set s items d o) = record { c = Universal; k = true; n = SET; v = _; shortest = s }
 HasShortestForm-der x (of_constructed_not_universal {class = c} {tag = n} other s items d) =
     record { c = c; k = true; n = n; v = _; shortest = s }
 HasShortestForm-der x (of_primitive_not_universal {class = c} {tag = n} other s) =
@@ -137,19 +134,18 @@ IsWhole-some_fields : (x : List ℕ) → length x < 2 ^ 64 → IsDerEncoding x �
     (c : ASN1Class) × (k : Bool) × (n : ℕ) × (v : List ℕ) × IsWhole x c k n v
 IsWhole-some_fields x small (of_primitive_type {contents = v} {tag = n} s r t h) =
     (Universal, false, n, v, record { alone = (s, (r, t, h)); items = λ e. absurd cc })
-IsWhole-some_fields x small (of_sequence {contents = v} {tag = n} s t other items d) =
-    (Universal, true, n, v, record { alone = (s, (t, λ e. absurd (other e))); items = λ e. (items, d) })
-IsWhole-some_fields x small (of_set {contents = v} s items d o) =
-    let i = shortest_identifier Universal true SET in
+IsWhole-some_fields x small (of_constructed_type {contents = v} {tag = n} s t items d o) =
+    let i = shortest_identifier Universal true n in
     let l = shortest_length (length v) in
     let size : length v < 2 ^ 64 =
     omega (arith, small, ap length s.whole, length-append i (l ++ v), length-append l v) in (
       Universal,
       true,
-      SET,
+      n,
       v,
       record {
-        alone = (s, (refl, λ e others ds. subst IsInOrder (AreDerEncodings-unique v v items others size refl d ds) o));
+        alone =
+            (s, (t, λ others ds. subst (AreOfType n v) (AreDerEncodings-unique v v items others size refl d ds) o));
         items = λ e. (items, d);
       },
     )
@@ -175,16 +171,7 @@ IsDerEncoding-whole x Universal false n v w =
     let (shortest, (right, kind, contents)) = w.alone in of_primitive_type shortest right kind contents
 IsDerEncoding-whole x Universal true n v w =
     let (items, d) = w.items refl in
-    let (shortest, (group, in_order)) = w.alone in
-    let sequence : n ≢ SET → IsDerEncoding x = λ other. of_sequence shortest group other items d in
-    elim (cases_lt n SET) [
-      | inl lt ↦ sequence (λ e. omega (arith, lt, e))
-      | inr ge ↦ elim (cases_lt SET n) [
-        | inl gt ↦ sequence (λ e. omega (arith, gt, e))
-        | inr le ↦ let e : n ≡ SET = omega (arith, ge, le) in
-            of_set (subst (λ z. IsShortest x Universal true z v) e shortest) items d (in_order e items d)
-      ]
-    ]
+    let (shortest, (group, of_type)) = w.alone in of_constructed_type shortest group items d (of_type items d)
 IsDerEncoding-whole x Application true n v w = let (items, d) =
     w.items refl in of_constructed_not_universal (λ e. cc) w.alone.0 items d
 IsDerEncoding-whole x ContextSpecific true n v w = let (items, d) =

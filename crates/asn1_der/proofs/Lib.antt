@@ -1,5 +1,6 @@
 pub mod Elements
 pub mod Encodings
+pub mod LengthOctets
 pub mod Orders
 pub mod Shortest
 pub mod Tags

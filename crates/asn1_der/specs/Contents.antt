@@ -1,15 +1,14 @@
 -- Contents octets of primitive encodings of class Universal, as DER has them, by the tag number.
-use Rattle.std.specs.Prelude.{◌≡◌, ◌==◌, ◌&&◌, ◌||◌, ◌++◌, ℕ, ◌+◌, ◌*◌, ◌%◌, ◌^◌, nat_lt, Bool, true, false, not, MatchBool, if◌then◌else◌, List, [], ◌∷◌, length, codes}
-use Rattle.asn1_headers.specs.declared.tags.TheConstants.{BOOLEAN, INTEGER, BIT_STRING, NULL, OBJECT_IDENTIFIER, REAL, ENUMERATED, UTF8_STRING, RELATIVE_OID, TIME, NUMERIC_STRING, PRINTABLE_STRING, IA5_STRING, UTC_TIME, GENERALIZED_TIME, VISIBLE_STRING, UNIVERSAL_STRING, BMP_STRING, DATE, TIME_OF_DAY, DATE_TIME, DURATION, OID_IRI, RELATIVE_OID_IRI}
+use Rattle.std.specs.Prelude.{◌≡◌, ◌==◌, ◌&&◌, ◌||◌, ℕ, ◌+◌, ◌*◌, ◌%◌, ◌^◌, nat_lt, Bool, true, false, not, MatchBool, if◌then◌else◌, List, [], ◌∷◌, length}
+use Rattle.asn1_headers.specs.declared.tags.TheConstants.{BOOLEAN, INTEGER, BIT_STRING, NULL, OBJECT_IDENTIFIER, OBJECT_DESCRIPTOR, REAL, ENUMERATED, UTF8_STRING, RELATIVE_OID, TIME, NUMERIC_STRING, PRINTABLE_STRING, IA5_STRING, UTC_TIME, GENERALIZED_TIME, GRAPHIC_STRING, VISIBLE_STRING, UNIVERSAL_STRING, BMP_STRING, DATE, TIME_OF_DAY, DATE_TIME, DURATION, OID_IRI, RELATIVE_OID_IRI}
 use Rattle.std.specs.Char.{is_ascii, is_ascii_digit}
-use Rattle.std.specs.List.{list_all, list_any}
+use Rattle.std.specs.List.{list_all}
 use Rattle.std.specs.Str.{byte, is_utf8}
-use Rattle.asn1_leaves.specs.Contents.Moment.{Moment}
-use Rattle.asn1_leaves.specs.Contents.GeneralizedTime.{GeneralizedTimeContents}
 use Rattle.asn1_leaves.specs.Contents.Text.{is_printable}
-use Rattle.asn1_leaves.specs.Contents.UtcTime.{UtcTimeContents}
-use Rattle.asn1_der.specs.Padding.{has_padded_component, has_padded_fraction, is_padded_number, last_octet}
+use Rattle.asn1_der.specs.Iri.{are_labels, is_iri}
+use Rattle.asn1_der.specs.Padding.{has_padded_component, is_padded_number, last_octet}
 use Rattle.asn1_der.specs.Real.{is_real}
+use Rattle.asn1_der.specs.Times.{IsDate, IsDateTime, IsGeneralizedTime, IsUtcTime, is_duration, is_time, is_time_of_day}
 
 -- BOOLEAN: one octet (8.2.1), 00 or FF (8.2.2, 11.1)
 abbrev pub is_boolean : List ℕ → Bool
@@ -58,40 +57,14 @@ are_bmp [] = true
 are_bmp (a ∷ b ∷ more) = is_scalar_value (a * 256 + b) && are_bmp more
 are_bmp octets = false
 
--- UTCTime: YYMMDDhhmmssZ of a moment that exists (X.680 47; X.690 11.8)
-abbrev pub IsUtcTime : List ℕ → Type 0
-IsUtcTime octets = (m : Moment) × UtcTimeContents m octets
+-- GraphicString and ObjectDescriptor (8.23.5): graphic characters, of all sets, and space (X.680 41.1, table 8), and
+-- the control functions by which ISO 2022 changes the sets, ESC, SO, SI, SS2 and SS3. No other control character
+unfoldable pub is_graphic : ℕ → Bool
+is_graphic c =
+    (nat_lt 31 c && nat_lt c 128) || nat_lt 159 c || (c == 14) || (c == 15) || (c == 27) || (c == 142) || (c == 143)
 
--- YYYYMMDDhhmmss of a moment that exists, perhaps a fraction, and Z
-unfoldable pub IsMoment : List ℕ → Type 0
-IsMoment octets = (m : Moment) × GeneralizedTimeContents m octets
-
--- GeneralizedTime: YYYYMMDDhhmmss of a moment that exists, perhaps a point and a fraction that does not end in 0, and
--- Z (X.680 46; X.690 11.7)
-abbrev pub IsGeneralizedTime : List ℕ → Type 0
-IsGeneralizedTime octets =
-    IsMoment octets × (has_padded_fraction octets ≡ false)
-
--- DATE, TIME-OF-DAY and DATE-TIME without hyphens, colons and T (8.26.2 to 8.26.4): YYYYMMDD, hhmmss, YYYYMMDDhhmmss of
--- moments that exist
-abbrev pub IsWithinMoment : ℕ → List ℕ → List ℕ → List ℕ → Type 0
-IsWithinMoment size front octets end =
-    (length octets ≡ size) × IsMoment (front ++ (octets ++ end))
-
--- TIME and DURATION: characters that X.680 38 has (8.26.1, 8.26.5). Which of its notations they are is not looked at
-unfoldable pub is_of_time : ℕ → Bool
-is_of_time c = is_ascii_digit c || list_any (λ d. c == d) (codes "+-.,:/CDHMPRSTWYZ")
-
-abbrev pub are_of_time : List ℕ → Bool
-are_of_time octets = nat_lt 0 (length octets) && list_all is_of_time octets
-
--- OID-IRI and RELATIVE-OID-IRI (8.21, 8.22): some characters, of an OID-IRI a solidus first
-abbrev pub is_iri : List ℕ → Bool
-is_iri [] = false
-is_iri (first ∷ more) = (first == byte "/") && is_utf8 (first ∷ more)
-
--- contents octets with the tag number, as far as `HasDerTime` says no more. Of OCTET STRING (8.7), ObjectDescriptor,
--- TeletexString, VideotexString, GraphicString and GeneralString (8.23.5, by escapes of ISO 2022) any octets are right
+-- contents octets with the tag number, as far as `HasDerTime` says no more. Of OCTET STRING (8.7), TeletexString,
+-- VideotexString and GeneralString (8.23.5, by escapes of ISO 2022) any octets are right
 abbrev pub has_der_octets : ℕ → List ℕ → Bool
 has_der_octets tag octets =
     if tag == BOOLEAN then is_boolean octets
@@ -101,25 +74,27 @@ has_der_octets tag octets =
     else if (tag == OBJECT_IDENTIFIER) || (tag == RELATIVE_OID) then are_subidentifiers octets
     else if tag == REAL then is_real octets
     else if tag == UTF8_STRING then is_utf8 octets
-    else if (tag == TIME) || (tag == DURATION) then are_of_time octets
+    else if (tag == OBJECT_DESCRIPTOR) || (tag == GRAPHIC_STRING) then list_all is_graphic octets
+    else if tag == TIME then is_time octets
     else if tag == NUMERIC_STRING then list_all is_numeric octets
     else if tag == PRINTABLE_STRING then list_all is_printable octets
     else if tag == IA5_STRING then list_all is_ascii octets
     else if tag == VISIBLE_STRING then list_all is_visible octets
     else if tag == UNIVERSAL_STRING then are_universal octets
     else if tag == BMP_STRING then are_bmp octets
+    else if tag == TIME_OF_DAY then is_time_of_day octets
+    else if tag == DURATION then is_duration octets
     else if tag == OID_IRI then is_iri octets
-    else if tag == RELATIVE_OID_IRI then nat_lt 0 (length octets) && is_utf8 octets
+    else if tag == RELATIVE_OID_IRI then are_labels octets
     else true
 
--- contents octets of a UTCTime, GeneralizedTime, DATE, TIME-OF-DAY or DATE-TIME are of a moment that exists
+-- contents octets of a UTCTime, GeneralizedTime, DATE or DATE-TIME are of a day that exists
 abbrev pub HasDerTime : ℕ → List ℕ → Type 0
 HasDerTime tag octets =
     MatchBool (tag == UTC_TIME) (IsUtcTime octets)
     (MatchBool (tag == GENERALIZED_TIME) (IsGeneralizedTime octets)
-    (MatchBool (tag == DATE) (IsWithinMoment 8 [] octets (codes "000000Z"))
-    (MatchBool (tag == TIME_OF_DAY) (IsWithinMoment 6 (codes "20000101") octets (codes "Z"))
-    (MatchBool (tag == DATE_TIME) (IsWithinMoment 14 [] octets (codes "Z")) (Unit {0})))))
+    (MatchBool (tag == DATE) (IsDate octets)
+    (MatchBool (tag == DATE_TIME) (IsDateTime octets) (Unit {0}))))
 
 -- contents octets of a primitive encoding with the tag number are DER
 abbrev pub HasDerContents : ℕ → List ℕ → Type 0

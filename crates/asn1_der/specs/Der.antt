@@ -1,14 +1,15 @@
 -- DER (X.690): which octets are encodings by its rules. What needs a schema is not asked: which of the orders of 10.3
 -- and 11.6 a SET has, values that are those of DEFAULT (11.5), named bits (11.2.2), sizes and other constraints. Octets
--- inside an OCTET STRING or BIT STRING are not looked at.
+-- inside an OCTET STRING or BIT STRING are not looked at. docs/GRAMMAR.md lists in section 6 what else is not asked.
 use Rattle.std.specs.Ordering.{is_gt, nat_cmp}
 use Rattle.std.specs.Cmp.Lexicographic.{slice_cmp}
-use Rattle.std.specs.Prelude.{◌≡◌, ◌≢◌, ◌==◌, ◌&&◌, ◌||◌, ◌⊎◌, ◌++◌, ℕ, ◌<◌, nat_lt, Bool, true, false, not, List, [], ◌∷◌, length}
+use Rattle.std.specs.Prelude.{◌≡◌, ◌≢◌, ◌==◌, ◌&&◌, ◌||◌, ◌⊎◌, ◌++◌, ℕ, ◌<◌, nat_lt, Bool, true, false, not, MatchBool, List, [], ◌∷◌, length}
 use Rattle.asn1_headers.specs.declared.tags.TheConstants.{END_OF_CONTENTS, EXTERNAL, EMBEDDED_PDV, RESERVED, SEQUENCE, SET, CHARACTER_STRING, RELATIVE_OID_IRI}
 use Rattle.asn1_headers.specs.declared.header.ASN1Class.{ASN1Class}
 use Rattle.asn1_headers.specs.declared.header.ASN1Class.TheVariants.{Universal}
 use Rattle.asn1_headers.specs.Header.{Encoding, class_number, shortest_identifier, shortest_length}
 use Rattle.asn1_der.specs.Contents.{HasDerContents}
+use Rattle.asn1_der.specs.External.{is_external, is_identified}
 
 -- identifier octets in their shortest form (8.1.2.2, 8.1.2.4.2), length octets of the definite form in the fewest
 -- octets (8.1.3, 10.1), and the contents octets
@@ -61,6 +62,13 @@ Ascend MayStandBefore (first ∷ next ∷ more) = MayStandBefore first next × A
 abbrev pub IsInOrder : List (List ℕ) → Type 0
 IsInOrder items = Ascend HasLessTag items ⊎ Ascend HasNoGreaterOctets items
 
+-- what a constructed type asks of contents octets that are these encodings, beside that each is one of DER
+abbrev pub AreOfType : ℕ → List ℕ → List (List ℕ) → Type 0
+AreOfType tag contents items =
+    MatchBool (tag == SET) (IsInOrder items)
+    (MatchBool (tag == EXTERNAL) (is_external contents ≡ true)
+    (MatchBool ((tag == EMBEDDED_PDV) || (tag == CHARACTER_STRING)) (is_identified contents ≡ true) (Unit {0})))
+
 mutual
   -- the octets are an encoding of DER
   pub data IsDerEncoding : List ℕ → Type 0 where
@@ -68,13 +76,11 @@ mutual
     of_primitive_type : {octets contents : List ℕ} {tag : ℕ}
         → IsShortest octets Universal false tag contents → is_reserved tag ≡ false
         → is_constructed_type tag ≡ false → HasDerContents tag contents → IsDerEncoding octets
-    -- SEQUENCE (8.9, 8.10), EXTERNAL (8.18), EMBEDDED PDV (8.17), CHARACTER STRING (8.24)
-    of_sequence : {octets contents : List ℕ} {tag : ℕ}
-        → IsShortest octets Universal true tag contents → is_constructed_type tag ≡ true → tag ≢ SET
-        → (items : List (List ℕ)) → AreDerEncodings contents items → IsDerEncoding octets
-    -- SET (8.11, 8.12)
-    of_set : {octets contents : List ℕ} → IsShortest octets Universal true SET contents
-        → (items : List (List ℕ)) → AreDerEncodings contents items → IsInOrder items → IsDerEncoding octets
+    -- SEQUENCE (8.9, 8.10), SET (8.11, 8.12), EXTERNAL (8.18), EMBEDDED PDV (8.17), CHARACTER STRING (8.24)
+    of_constructed_type : {octets contents : List ℕ} {tag : ℕ}
+        → IsShortest octets Universal true tag contents → is_constructed_type tag ≡ true
+        → (items : List (List ℕ)) → AreDerEncodings contents items → AreOfType tag contents items
+        → IsDerEncoding octets
     -- another class: constructed around encodings (8.14), as explicit tags are and SEQUENCE and SET behind implicit
     -- ones
     of_constructed_not_universal : {octets contents : List ℕ} {class : ASN1Class} {tag : ℕ}
@@ -101,7 +107,7 @@ pub record IsDer (octets : List ℕ) : Type 0 where
 abbrev pub IsRightAlone : ASN1Class → Bool → ℕ → List ℕ → Type 0
 IsRightAlone Universal true tag contents =
     (is_constructed_type tag ≡ true)
-    × (tag ≡ SET → (items : List (List ℕ)) → AreDerEncodings contents items → IsInOrder items)
+    × ((items : List (List ℕ)) → AreDerEncodings contents items → AreOfType tag contents items)
 IsRightAlone Universal false tag contents =
     (is_reserved tag ≡ false) × (is_constructed_type tag ≡ false) × HasDerContents tag contents
 IsRightAlone class constructed tag contents = Unit {0}

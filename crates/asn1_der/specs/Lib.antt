@@ -1,6 +1,10 @@
 pub mod Padding
 pub mod Real
+pub mod Iri
+pub mod Times
 pub mod Contents
+pub mod Components
+pub mod External
 pub mod Der
 pub mod Steps
 pub mod Turns

@@ -1,20 +1,34 @@
 // Contents octets of primitive encodings of class Universal.
-ghost use Rattle.std.specs.Prelude.{◌≡◌, ◌↔◌, [], IsTrue, codes};
+ghost use Rattle.std.specs.Prelude.{◌≡◌, ◌↔◌, IsTrue};
 ghost use Rattle.std.specs.Char.{is_ascii};
 ghost use Rattle.std.specs.List.{list_all};
 ghost use Rattle.std.specs.Str.{is_utf8 as is_utf8_is};
-ghost use Rattle.asn1_der.specs.Contents.{HasDerContents, HasDerTime, IsGeneralizedTime, IsMoment, IsUtcTime, IsWithinMoment, are_bmp as are_bmp_is, are_of_time as are_of_time_is, are_subidentifiers as are_subidentifiers_is, are_universal as are_universal_is, has_der_octets as has_der_octets_is, is_bit_string as is_bit_string_is, is_boolean as is_boolean_is, is_iri as is_iri_is, is_numeric, is_visible, is_of_time as is_of_time_is, is_scalar_value as is_scalar_value_is};
+ghost use Rattle.asn1_der.specs.Contents.{HasDerContents, HasDerTime, are_bmp as are_bmp_is, are_subidentifiers as are_subidentifiers_is, are_universal as are_universal_is, has_der_octets as has_der_octets_is, is_bit_string as is_bit_string_is, is_boolean as is_boolean_is, is_graphic as is_graphic_is, is_numeric, is_visible, is_scalar_value as is_scalar_value_is};
 
-use crate::padding::{has_padded_component, has_padded_fraction, is_padded_number, last_octet};
+use crate::iri::{are_labels, is_iri};
+use crate::padding::{has_padded_component, is_padded_number, last_octet};
 use crate::real::is_real;
+use crate::times::{
+    is_date, is_date_time, is_duration, is_generalized_time, is_time, is_time_of_day, is_utc_time,
+};
 use asn1_headers::tags::{
     BIT_STRING, BMP_STRING, BOOLEAN, DATE, DATE_TIME, DURATION, ENUMERATED, GENERALIZED_TIME,
-    IA5_STRING, INTEGER, NULL, NUMERIC_STRING, OBJECT_IDENTIFIER, OID_IRI, PRINTABLE_STRING, REAL,
-    RELATIVE_OID, RELATIVE_OID_IRI, TIME, TIME_OF_DAY, UNIVERSAL_STRING, UTC_TIME, UTF8_STRING,
-    VISIBLE_STRING,
+    GRAPHIC_STRING, IA5_STRING, INTEGER, NULL, NUMERIC_STRING, OBJECT_DESCRIPTOR,
+    OBJECT_IDENTIFIER, OID_IRI, PRINTABLE_STRING, REAL, RELATIVE_OID, RELATIVE_OID_IRI, TIME,
+    TIME_OF_DAY, UNIVERSAL_STRING, UTC_TIME, UTF8_STRING, VISIBLE_STRING,
 };
 use asn1_leaves::contents::text::are_printable;
-use asn1_leaves::contents::{generalized_time, utc_time};
+
+// The control functions by which ISO 2022 changes the sets of characters.
+const SHIFT_OUT: u8 = 0x0E;
+
+const SHIFT_IN: u8 = 0x0F;
+
+const ESCAPE: u8 = 0x1B;
+
+const SINGLE_SHIFT_2: u8 = 0x8E;
+
+const SINGLE_SHIFT_3: u8 = 0x8F;
 
 // Whether contents octets are those that DER has with the tag number.
 pub fn has_der_contents(tag: u64, contents: &[u8]) -> bool
@@ -34,15 +48,18 @@ fn has_der_octets(tag: u64, contents: &[u8]) -> bool
         OBJECT_IDENTIFIER | RELATIVE_OID => are_subidentifiers(contents),
         REAL => is_real(contents),
         UTF8_STRING => is_utf8(contents),
-        TIME | DURATION => are_of_time(contents),
+        OBJECT_DESCRIPTOR | GRAPHIC_STRING => are_graphic(contents),
+        TIME => is_time(contents),
         NUMERIC_STRING => are_numeric(contents),
         PRINTABLE_STRING => are_printable(contents),
         IA5_STRING => are_ascii(contents),
         VISIBLE_STRING => are_visible(contents),
         UNIVERSAL_STRING => are_universal(contents),
         BMP_STRING => are_bmp(contents),
+        TIME_OF_DAY => is_time_of_day(contents),
+        DURATION => is_duration(contents),
         OID_IRI => is_iri(contents),
-        RELATIVE_OID_IRI => !contents.is_empty() && is_utf8(contents),
+        RELATIVE_OID_IRI => are_labels(contents),
         _ => true,
     }
 }
@@ -74,7 +91,7 @@ fn is_boolean(contents: &[u8]) -> bool
     }
 }
 
-fn is_bit_string(contents: &[u8]) -> bool
+pub fn is_bit_string(contents: &[u8]) -> bool
     ensures { result ≡ is_bit_string_is contents.now }
 {
     match contents {
@@ -84,7 +101,7 @@ fn is_bit_string(contents: &[u8]) -> bool
     }
 }
 
-fn are_subidentifiers(contents: &[u8]) -> bool
+pub fn are_subidentifiers(contents: &[u8]) -> bool
     ensures { result ≡ are_subidentifiers_is contents.now }
 {
     !contents.is_empty() && last_octet(contents) < 128 && !has_padded_component(contents)
@@ -99,43 +116,20 @@ fn is_utf8(contents: &[u8]) -> bool
     }
 }
 
-fn are_of_time(contents: &[u8]) -> bool
-    ensures { result ≡ are_of_time_is contents.now }
-{
-    !contents.is_empty() && are_all_of_time(contents)
-}
-
-fn are_all_of_time(contents: &[u8]) -> bool
-    ensures { result ≡ list_all is_of_time_is contents.now }
-{
-    contents.iter().all(|c| is_of_time(*c))
-}
-
-#[tactic(auto, unfolding(crate::specs::Contents::is_of_time))]
-fn is_of_time(c: u8) -> bool
-    ensures { result ≡ is_of_time_is c }
+#[tactic(auto, unfolding(crate::specs::Contents::is_graphic))]
+fn is_graphic(c: u8) -> bool
+    ensures { result ≡ is_graphic_is c }
 {
     matches!(
         c,
-        b'0'..=b'9'
-            | b'+'
-            | b'-'
-            | b'.'
-            | b','
-            | b':'
-            | b'/'
-            | b'C'
-            | b'D'
-            | b'H'
-            | b'M'
-            | b'P'
-            | b'R'
-            | b'S'
-            | b'T'
-            | b'W'
-            | b'Y'
-            | b'Z'
+        0x20..=0x7F | 0xA0..=0xFF | SHIFT_OUT | SHIFT_IN | ESCAPE | SINGLE_SHIFT_2 | SINGLE_SHIFT_3
     )
+}
+
+fn are_graphic(contents: &[u8]) -> bool
+    ensures { result ≡ list_all is_graphic_is contents.now }
+{
+    contents.iter().all(|c| is_graphic(*c))
 }
 
 fn is_scalar_value(n: u32) -> bool
@@ -171,15 +165,6 @@ fn are_bmp(contents: &[u8]) -> bool
     rest.is_empty()
 }
 
-fn is_iri(contents: &[u8]) -> bool
-    ensures { result ≡ is_iri_is contents.now }
-{
-    match contents {
-        [b'/', ..] => is_utf8(contents),
-        _ => false,
-    }
-}
-
 // Whether contents octets are those of a time, where the tag number is that of one.
 fn has_der_time(tag: u64, contents: &[u8]) -> bool
     ensures { IsTrue result ↔ HasDerTime tag contents.now }
@@ -188,65 +173,7 @@ fn has_der_time(tag: u64, contents: &[u8]) -> bool
         UTC_TIME => is_utc_time(contents),
         GENERALIZED_TIME => is_generalized_time(contents),
         DATE => is_date(contents),
-        TIME_OF_DAY => is_time_of_day(contents),
         DATE_TIME => is_date_time(contents),
         _ => true,
-    }
-}
-
-fn is_utc_time(contents: &[u8]) -> bool
-    ensures { IsTrue result ↔ IsUtcTime contents.now }
-{
-    utc_time::moment(contents).is_some()
-}
-
-fn is_moment(contents: &[u8]) -> bool
-    ensures { IsTrue result ↔ IsMoment contents.now }
-{
-    match generalized_time::moment(contents) {
-        Some(_) => true,
-        None => false,
-    }
-}
-
-fn is_generalized_time(contents: &[u8]) -> bool
-    ensures { IsTrue result ↔ IsGeneralizedTime contents.now }
-{
-    is_moment(contents) && !has_padded_fraction(contents)
-}
-
-// Whether YYYYMMDD are a date.
-fn is_date(contents: &[u8]) -> bool
-    ensures { IsTrue result ↔ IsWithinMoment 8 [] contents.now (codes "000000Z") }
-{
-    match contents {
-        [a, b, c, d, e, f, g, h] => is_moment(&[
-            *a, *b, *c, *d, *e, *f, *g, *h, b'0', b'0', b'0', b'0', b'0', b'0', b'Z',
-        ]),
-        _ => false,
-    }
-}
-
-// Whether hhmmss are a time of day.
-fn is_time_of_day(contents: &[u8]) -> bool
-    ensures { IsTrue result ↔ IsWithinMoment 6 (codes "20000101") contents.now (codes "Z") }
-{
-    match contents {
-        [a, b, c, d, e, f] => is_moment(&[
-            b'2', b'0', b'0', b'0', b'0', b'1', b'0', b'1', *a, *b, *c, *d, *e, *f, b'Z',
-        ]),
-        _ => false,
-    }
-}
-
-// Whether YYYYMMDDhhmmss are a moment.
-fn is_date_time(contents: &[u8]) -> bool
-    ensures { IsTrue result ↔ IsWithinMoment 14 [] contents.now (codes "Z") }
-{
-    match contents {
-        [a, b, c, d, e, f, g, h, i, j, k, l, m, n] => is_moment(&[
-            *a, *b, *c, *d, *e, *f, *g, *h, *i, *j, *k, *l, *m, *n, b'Z',
-        ]),
-        _ => false,
     }
 }

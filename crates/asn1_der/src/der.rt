@@ -17,7 +17,9 @@ use std::alloc::{AllocError, Global};
 /// into.
 ///
 /// Some rules need a schema, and are not checked: values that are those of DEFAULT (11.5), named bits with zeros at the
-/// end (11.2.2), and sizes. A SET may be ordered by tags (10.3) or by octets (11.6), since only a schema says which.
+/// end (11.2.2), and sizes. A SET may be ordered by tags (10.3) or by octets (11.6), since only a schema says which. Of
+/// those that need none, a few are not checked, such as which escape sequences strings have and which of its notations
+/// a TIME has: GRAMMAR.md lists all of them in section 6, each with an input and the answer.
 ///
 /// It takes memory for each encoding that is open at a time, and no stack. Its time grows in proportion to the input,
 /// or as n log n where SETs inside SETs are ordered by octets.

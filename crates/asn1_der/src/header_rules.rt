@@ -1,12 +1,13 @@
 // What DER asks of an encoding by its header, beside what it holds.
-ghost use Rattle.std.specs.Prelude.{◌≡◌, ◌↔◌, ◌-◌, ◌≤◌, ◌++◌, IsTrue, length, slice_range, true};
+ghost use Rattle.std.specs.Prelude.{◌≡◌, ◌↔◌, ◌-◌, ◌≤◌, ◌++◌, ℕ, List, IsTrue, length, slice_range, true};
 ghost use Rattle.asn1_headers.specs.declared.header.ASN1Class.TheVariants.{Universal};
 ghost use Rattle.asn1_headers.specs.Header.{shortest_identifier, shortest_length};
 ghost use Rattle.asn1_blocks.specs.Places.{HeaderFound};
-ghost use Rattle.asn1_der.specs.Der.{IsRightAlone, is_constructed_type as is_constructed_type_is, is_reserved as is_reserved_is};
+ghost use Rattle.asn1_der.specs.Der.{AreDerEncodings, AreOfType, IsRightAlone, is_constructed_type as is_constructed_type_is, is_reserved as is_reserved_is};
 ghost use Rattle.asn1_der.specs.Steps.{AreDer, IsDerAlone, IsHeaderOf, IsWhole, is_short as is_short_is};
 
 use crate::contents::has_der_contents;
+use crate::external::{is_external, is_identified};
 use crate::order::is_in_order;
 use asn1_blocks::parsed::PlacedHeader;
 use asn1_headers::header::{ASN1Class, identifier_size, length_size, push_identifier, push_length};
@@ -101,9 +102,22 @@ fn is_right_type(constructed: bool, tag: u64, contents: &[u8]) -> bool
         → (constructed ≡ true → AreDer contents.now) → IsTrue result }
 {
     if constructed {
-        is_constructed_type(tag) && (tag != SET || is_in_order(contents))
+        is_constructed_type(tag) && are_of_type(tag, contents)
     } else {
         !is_reserved(tag) && !is_constructed_type(tag) && has_der_contents(tag, contents)
+    }
+}
+
+// Whether encodings are those that the constructed type with the tag number has, if they are DER.
+pub fn are_of_type(tag: u64, contents: &[u8]) -> bool
+    ensures { (items : List (List ℕ)) → AreDerEncodings contents.now items →
+        IsTrue result ↔ AreOfType tag contents.now items }
+{
+    match tag {
+        SET => is_in_order(contents),
+        EXTERNAL => is_external(contents),
+        EMBEDDED_PDV | CHARACTER_STRING => is_identified(contents),
+        _ => true,
     }
 }
 

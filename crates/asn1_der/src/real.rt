@@ -2,7 +2,7 @@
 ghost use Rattle.std.specs.Prelude.{◌≡◌, ◌≤◌, ◌∷◌, length};
 ghost use Rattle.std.specs.Char.{is_ascii_digit};
 ghost use Rattle.std.specs.List.{list_all};
-ghost use Rattle.asn1_der.specs.Real.{behind_minus as behind_minus_is, digit_count as digit_count_is, ends_in_exponent as ends_in_exponent_is, is_binary as is_binary_is, is_decimal as is_decimal_is, is_decimal_exponent as is_decimal_exponent_is, is_decimal_mantissa as is_decimal_mantissa_is, is_odd_mantissa as is_odd_mantissa_is, is_real as is_real_is, is_scaled as is_scaled_is, is_unpadded as is_unpadded_is};
+ghost use Rattle.asn1_der.specs.Real.{behind_digits as behind_digits_is, behind_minus as behind_minus_is, digit_count as digit_count_is, ends_in_exponent as ends_in_exponent_is, is_binary as is_binary_is, is_decimal as is_decimal_is, is_decimal_exponent as is_decimal_exponent_is, is_decimal_mantissa as is_decimal_mantissa_is, is_odd_mantissa as is_odd_mantissa_is, is_real as is_real_is, is_scaled as is_scaled_is, is_unpadded as is_unpadded_is};
 
 use crate::padding::{is_padded_number, last_octet};
 
@@ -82,7 +82,7 @@ fn behind_minus(text: &[u8]) -> &[u8]
 }
 
 // How many digits stand at the front.
-fn digit_count(text: &[u8]) -> usize
+pub fn digit_count(text: &[u8]) -> usize
     ensures count { result ≡ digit_count_is text.now }
     ensures within { result ≤ length text.now }
 {
@@ -94,6 +94,13 @@ fn digit_count(text: &[u8]) -> usize
         count += 1;
     }
     count
+}
+
+// What stands behind the digits at the front.
+pub fn behind_digits(text: &[u8]) -> &[u8]
+    ensures { result.now ≡ behind_digits_is text.now }
+{
+    text.split_at(digit_count(text)).1
 }
 
 fn is_decimal_mantissa(digits: &[u8]) -> bool
@@ -111,7 +118,7 @@ fn is_unpadded(text: &[u8]) -> bool
     }
 }
 
-fn are_digits(text: &[u8]) -> bool
+pub fn are_digits(text: &[u8]) -> bool
     ensures { result ≡ list_all is_ascii_digit text.now }
 {
     text.iter().all(|c| c.is_ascii_digit())

@@ -1,4 +1,5 @@
--- Octets that are DER have no first fault but that of a string or of too many bits, for `laws::law_der_is_read`.
+-- Octets that are DER have no first fault but that of a string, of too many bits or of second 60, for
+-- `laws::law_der_is_read`.
 use Rattle.std.proofs.Common.{◌≡◌, ℕ, ◌+◌, ◌<◌, ◌≤◌, ◌^◌, true, false, List, [], ◌∷◌, ◌++◌, inl, inr, length, refl, ap, ◌∙◌, subst, arith, length-append, append_assoc}
 use Rattle.std.proofs.lemmas.Str.{IsUtf8-from_is_utf8}
 use Rattle.asn1_headers.specs.Fault.{DecodeFault}
@@ -14,11 +15,12 @@ use Rattle.asn1_leaves.proofs.Leaves.ObjectIdentifier.{ObjectIdentifierContents-
 use Rattle.asn1_blocks.specs.Contents.{LeafFault, group_tag, of_bit_string, of_boolean, of_generalized_time, of_object_identifier, of_text, of_utc_time, string_tag}
 use Rattle.asn1_blocks.specs.Grammar.{AreBlocks, BlocksFaultAt, FirstFault, in_contents, in_header, in_item, more_blocks, no_blocks}
 use Rattle.asn1_blocks.proofs.Faults.{IsEncoding-block, HeaderFault-not_encoding}
-use Rattle.asn1_der.specs.Contents.{HasDerContents, IsMoment, are_subidentifiers, is_bit_string, is_boolean}
+use Rattle.asn1_der.specs.Contents.{HasDerContents, are_subidentifiers, is_bit_string, is_boolean}
 use Rattle.asn1_der.specs.Der.{IsDer, is_constructed_type, more_encodings, no_encodings}
 use Rattle.asn1_der.specs.Steps.{AreDer}
 use Rattle.asn1_der.proofs.Encodings.{Encoding-der, IsWhole-der, AreDer-first}
-use Rattle.asn1_laws.specs.Refused.{IsFaultOfDer, of_bits, of_string}
+use Rattle.asn1_der.specs.Times.{IsMoment}
+use Rattle.asn1_laws.specs.Refused.{IsFaultOfDer, of_bits, of_second_60, of_string}
 use Rattle.asn1_laws.proofs.Encodings.{length-contents-le, length-contents-lt, IsRightAlone-group, IsRightAlone-primitive}
 use Rattle.asn1_leaves.proofs.Fractions.{get_or-last_cons}
 use Rattle.asn1_laws.proofs.Leaves.{EndUnpadded-subidentifiers, is_bit_string-few_unused}
@@ -27,6 +29,7 @@ use Rattle.asn1_laws.proofs.Leaves.{EndUnpadded-subidentifiers, is_bit_string-fe
 IsFaultOfDer-longer : (x y : List ℕ) (e : DecodeFault) → length x ≤ length y → IsFaultOfDer x e → IsFaultOfDer y e
 IsFaultOfDer-longer x y e more (of_string kind contents other f) = of_string kind contents other f
 IsFaultOfDer-longer x y e more (of_bits size many f) = of_bits size (omega (arith, many, more)) f
+IsFaultOfDer-longer x y e more (of_second_60 contents second f) = of_second_60 contents second f
 
 -- the contents octets of a BOOLEAN of DER are one octet
 length-is_boolean : (contents : List ℕ) → is_boolean contents ≡ true → length contents ≡ 1
@@ -74,7 +77,7 @@ IsFaultOfDer-text ia5 contents e d f = absurd f
 IsFaultOfDer-text universal contents e d f = of_string universal contents refl f
 IsFaultOfDer-text bmp contents e d f = of_string bmp contents refl f
 
--- contents octets that are DER have no fault but that of a string or of too many bits
+-- contents octets that are DER have no fault but that of a string, of too many bits or of second 60
 IsFaultOfDer-leaf : (n : ℕ) (contents : List ℕ) (e : DecodeFault) → HasDerContents n contents → LeafFault n contents e →
     IsFaultOfDer contents e
 IsFaultOfDer-leaf n contents e d (of_boolean t f) =
@@ -87,8 +90,10 @@ IsFaultOfDer-leaf n contents e d (of_object_identifier t f) =
 IsFaultOfDer-leaf n contents e d (of_utc_time t f) = let (m, means) = (subst (λ z. HasDerContents z contents) t d).1 in
     absurd (f.0 m means)
 IsFaultOfDer-leaf n contents e d (of_generalized_time t f) =
-    let (_, (moment, _)) = subst (λ z. HasDerContents z contents) t d in
-    absurd (IsMoment-contents ⊥ contents moment f.0)
+    elim (subst (λ z. HasDerContents z contents) t d).1.0 [
+      | inl moment ↦ absurd (IsMoment-contents ⊥ contents moment f.0)
+      | inr second ↦ of_second_60 contents second f
+    ]
 IsFaultOfDer-leaf n contents e d (of_text kind t f) =
     IsFaultOfDer-text kind contents e (subst (λ z. HasDerContents z contents) t d) f
 
@@ -133,7 +138,7 @@ AreDer-no_header_fault o x e small some f (items, more_encodings {first = first}
     let (c, k, n, v, h, F) = Encoding-der first (omega (arith, small, ap length w, length-append first rest)) d in
     HeaderFault-not_encoding o x first rest e c k n v h f small w F
 
--- encodings of DER have no fault but that of a string or of too many bits
+-- encodings of DER have no fault but that of a string, of too many bits or of second 60
 IsFaultOfDer-blocks : (x : List ℕ) (e : DecodeFault) (o : ℕ) → length x < 2 ^ 64 → AreDer x → BlocksFaultAt x e o →
     IsFaultOfDer x e
 IsFaultOfDer-blocks x e o small d (in_header front rest w bs some f) =
@@ -163,8 +168,8 @@ IsFaultOfDer-blocks x e o small d
     (IsFaultOfDer-blocks v e i (length-contents-lt y Universal k (group_tag g) v h F part)
     (whole.items (IsRightAlone-group g k v whole.alone.1)) f)
 
--- the first fault of octets that are DER, but no document, is one that DER has: of a string in another code, or of a
--- BIT STRING of too many bits
+-- the first fault of octets that are DER, but no document, is one that DER has: of a string in another code, of a BIT
+-- STRING of too many bits, or of a GeneralizedTime with second 60
 pub IsFaultOfDer-document : (x : List ℕ) (e : DecodeFault) → length x < 2 ^ 64 → IsDer x → FirstFault x e →
     IsFaultOfDer x e
 IsFaultOfDer-document x e small d (o, inl f) = absurd (omega (arith, d.some, ap length f.0))

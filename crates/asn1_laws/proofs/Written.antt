@@ -8,7 +8,7 @@ use Rattle.asn1_blocks.specs.Contents.{leaf_contents, leaf_tag}
 use Rattle.asn1_blocks.specs.Faithful.{AreFaithful, IsFaithful}
 use Rattle.asn1_blocks.specs.Tree.{Leaf, Tree, Trees, leaf, group, explicit, unknown, no_trees, more_trees, boolean, integer, bit_string, octet_string, null, object_identifier, text, utc_time, generalized_time}
 use Rattle.asn1_blocks.specs.declared.block.GroupKind.TheVariants.{Sequence, Set}
-use Rattle.asn1_der.specs.Der.{AreDerEncodings, IsDer, IsDerEncoding, IsShortest, is_constructed_type, is_reserved, more_encodings, no_encodings, of_constructed_not_universal, of_primitive_type, of_sequence, of_set}
+use Rattle.asn1_der.specs.Der.{AreDerEncodings, IsDer, IsDerEncoding, IsShortest, is_constructed_type, is_reserved, more_encodings, no_encodings, of_constructed_not_universal, of_constructed_type, of_primitive_type}
 use Rattle.asn1_der.specs.Steps.{AreDer, IsWhole}
 use Rattle.asn1_der.proofs.Encodings.{IsWhole-der, IsDerEncoding-whole, AreDer-first}
 use Rattle.simple_asn1.specs.Canonical.{all_canonical, canonical, shortest_encoding}
@@ -48,11 +48,11 @@ mutual
       of_primitive_type (IsShortest-shortest_encoding Universal false (leaf_tag l) (leaf_contents l)) r.0 r.1
       (HasDerContents-leaf_contents l f t)
   IsDerEncoding-canonical (group o Sequence bs) f t =
-      of_sequence (IsShortest-shortest_encoding Universal true SEQUENCE (all_canonical bs)) refl
-      (λ e. absurd (omega (arith, e))) (each_canonical bs) (AreDerEncodings-all_canonical bs f t)
+      of_constructed_type (IsShortest-shortest_encoding Universal true SEQUENCE (all_canonical bs)) refl
+      (each_canonical bs) (AreDerEncodings-all_canonical bs f t) tt
   IsDerEncoding-canonical (group o Set bs) f t =
-      of_set (IsShortest-shortest_encoding Universal true SET (all_canonical bs)) (each_canonical bs)
-      (AreDerEncodings-all_canonical bs f t.0) t.1
+      of_constructed_type (IsShortest-shortest_encoding Universal true SET (all_canonical bs)) refl
+      (each_canonical bs) (AreDerEncodings-all_canonical bs f t.0) t.1
   IsDerEncoding-canonical (explicit c o n b) f t =
       of_constructed_not_universal f.0 (IsShortest-shortest_encoding c true n (canonical b)) (canonical b ∷ [])
       (more_encodings (sym (append-nil (canonical b))) (IsDerEncoding-canonical b f.1 t) no_encodings)
@@ -103,7 +103,7 @@ mutual
       AreDerTrees-all_canonical bs
       (omega (arith, small, length-le_shortest_encoding Universal true SET (all_canonical bs))) f (w.items refl) in
       let (_, (_, in_order)) = w.alone in
-      (t, in_order refl (each_canonical bs) (AreDerEncodings-all_canonical bs f t))
+      (t, in_order (each_canonical bs) (AreDerEncodings-all_canonical bs f t))
   IsDerTree-canonical (explicit c o n b) small f d =
       let w = IsWhole-shortest_encoding c true n (canonical b) small d in
       let inner : length (canonical b) < 2 ^ 64 =

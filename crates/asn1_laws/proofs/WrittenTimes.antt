@@ -9,8 +9,8 @@ use Rattle.asn1_leaves.specs.Contents.GeneralizedTime.{fraction_digits, generali
 use Rattle.asn1_leaves.specs.Contents.Moment.{Moment, IsValid}
 use Rattle.asn1_leaves.proofs.Leaves.Digits.{div-unit-le, fraction_digits-zero, fraction_digits-step, pow-positive}
 use Rattle.asn1_leaves.proofs.Leaves.GeneralizedTime.{GeneralizedTimeContents-written, written_fraction-some}
-use Rattle.asn1_der.specs.Contents.{IsGeneralizedTime, IsMoment}
 use Rattle.asn1_der.specs.Padding.{has_padded_fraction, last_octet}
+use Rattle.asn1_der.specs.Times.{IsGeneralizedTime, IsMoment}
 use Rattle.asn1_leaves.proofs.Fractions.{get_or-last_cons, get_or-before_last}
 use Rattle.asn1_leaves.proofs.CanonicalTimes.{get_or-to_second}
 
@@ -100,4 +100,4 @@ has_padded_fraction-written_fraction m n small = elim (cases_lt 0 n) [
 pub IsGeneralizedTime-written : (m : Moment) → IsValid m → IsGeneralizedTime (generalized_time_contents m)
 unfolding IsMoment
 IsGeneralizedTime-written m v =
-    ((m, GeneralizedTimeContents-written m v), has_padded_fraction-written_fraction m m.nanosecond v.nanosecond)
+    (inl (m, GeneralizedTimeContents-written m v), has_padded_fraction-written_fraction m m.nanosecond v.nanosecond)

@@ -1,17 +1,17 @@
 // Laws over the definitions alone: where DER by X.690 and what this library reads and writes are the same.
 ghost use Rattle.asn1_laws.specs.Laws.{DerIsCanonical, DerIsRead, WrittenIsDer};
 
-/// A law, with no code. All DER that a slice can hold is read, with two exceptions. A TeletexString, a UniversalString
-/// or a BMPString, which have codes of their own in DER (X.690 8.23), is rejected where it is no UTF-8. A BIT STRING is
-/// rejected where a `usize` cannot count its bits. Inside a block of another class than Universal neither is rejected:
-/// that block is read, as `Unknown`.
+/// A law, with no code. All DER that a slice can hold is read, with three exceptions. A TeletexString, a
+/// UniversalString or a BMPString, which have codes of their own in DER (X.690 8.23), is rejected where it is no UTF-8.
+/// A BIT STRING is rejected where a `usize` cannot count its bits, and a GeneralizedTime where its second is 60. Inside
+/// a block of another class than Universal none of them is rejected: that block is read, as `Unknown`.
 ///
 /// ```rust
 /// use simple_asn1::{ASN1DecodeErr, Document, is_der};
 /// use std::alloc::Global;
 ///
 /// // Blocks of DER. By the law, `None` is returned for what is not DER, and errors are `UTF8DecodeFailure`,
-/// // `LengthTooLarge` or `OutOfMemory`.
+/// // `LengthTooLarge`, `InvalidDateValue` or `OutOfMemory`.
 /// fn der_blocks(alloc: Global, octets: &[u8]) -> Result<Option<Document>, ASN1DecodeErr> {
 ///     if is_der(alloc, octets)? {
 ///         return Ok(Some(Document::from_der(alloc, octets)?));

@@ -5,7 +5,7 @@ use Rattle.std.specs.Prelude.{Option, None, Some, codes, decimal, unwrap_or}
 use Rattle.std.specs.List.{list_all}
 use Rattle.asn1_departures.specs.Rules.{text_of}
 use Rattle.asn1_departures.specs.declared.rule.Rule.{Rule}
-use Rattle.asn1_departures.specs.declared.rule.Rule.TheVariants.{LongIdentifier, PaddedTag, IndefiniteLength, LongLength, ReservedTag, NotConstructed, NotPrimitive, ConstructedString, BooleanSize, BooleanValue, NoInteger, PaddedInteger, SpecialReal, BinaryReal, DecimalReal, UnusedCount, UnusedOfNone, UnusedBits, NullContents, Subidentifiers, Iri, Characters, UtcTime, GeneralizedTime, Time, Order, NotEncodings}
+use Rattle.asn1_departures.specs.declared.rule.Rule.TheVariants.{LongIdentifier, PaddedTag, IndefiniteLength, LongLength, ReservedTag, NotConstructed, NotPrimitive, ConstructedString, BooleanSize, BooleanValue, NoInteger, PaddedInteger, SpecialReal, BinaryReal, DecimalReal, UnusedCount, UnusedOfNone, UnusedBits, NullContents, Subidentifiers, Iri, Characters, UtcTime, GeneralizedTime, Time, Order, NotEncodings, External, Identification}
 use Rattle.asn1_headers.specs.Names.{type_name, universal_names}
 use Rattle.asn1_headers.specs.declared.header.ASN1Class.{ASN1Class}
 use Rattle.asn1_headers.specs.declared.header.ASN1Class.TheVariants.{Universal, Application, ContextSpecific, Private}
@@ -47,6 +47,8 @@ IsPlain-text_of GeneralizedTime = refl
 IsPlain-text_of Time = refl
 IsPlain-text_of Order = refl
 IsPlain-text_of NotEncodings = refl
+IsPlain-text_of External = refl
+IsPlain-text_of Identification = refl
 
 -- what separates two breaches is plain
 IsPlain-separator : (later : Bool) → IsPlain (separator later)

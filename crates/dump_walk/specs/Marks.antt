@@ -2,7 +2,7 @@
 use Rattle.std.specs.Prelude.{Bool, true, false, ℕ, List, [], ◌∷◌, ◌++◌, codes, map}
 use Rattle.asn1_departures.specs.Rules.{section_of, text_of}
 use Rattle.asn1_departures.specs.declared.rule.Rule.{Rule}
-use Rattle.asn1_departures.specs.declared.rule.Rule.TheVariants.{LongIdentifier, PaddedTag, IndefiniteLength, LongLength, ReservedTag, NotConstructed, NotPrimitive, ConstructedString, BooleanSize, BooleanValue, NoInteger, PaddedInteger, SpecialReal, BinaryReal, DecimalReal, UnusedCount, UnusedOfNone, UnusedBits, NullContents, Subidentifiers, Iri, Characters, UtcTime, GeneralizedTime, Time, Order, NotEncodings}
+use Rattle.asn1_departures.specs.declared.rule.Rule.TheVariants.{LongIdentifier, PaddedTag, IndefiniteLength, LongLength, ReservedTag, NotConstructed, NotPrimitive, ConstructedString, BooleanSize, BooleanValue, NoInteger, PaddedInteger, SpecialReal, BinaryReal, DecimalReal, UnusedCount, UnusedOfNone, UnusedBits, NullContents, Subidentifiers, Iri, Characters, UtcTime, GeneralizedTime, Time, Order, NotEncodings, External, Identification}
 use Rattle.dump_walk.specs.declared.marks.BrokenRule.{BrokenRule}
 
 -- a rule that is broken: its name in a program, the clauses that say it, and what is wrong
@@ -39,6 +39,8 @@ name_of GeneralizedTime = codes "GeneralizedTime"
 name_of Time = codes "Time"
 name_of Order = codes "Order"
 name_of NotEncodings = codes "NotEncodings"
+name_of External = codes "External"
+name_of Identification = codes "Identification"
 
 abbrev pub rule_breach : Rule → Breach
 rule_breach rule = record { name = name_of rule; section = section_of rule; text = text_of rule }

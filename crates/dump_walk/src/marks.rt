@@ -183,5 +183,7 @@ fn name_of(rule: Rule) -> &'static str
         Rule::Time => "Time",
         Rule::Order => "Order",
         Rule::NotEncodings => "NotEncodings",
+        Rule::External => "External",
+        Rule::Identification => "Identification",
     }
 }

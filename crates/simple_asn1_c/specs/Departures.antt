@@ -3,7 +3,7 @@ use Rattle.std.specs.Prelude.{◌≡◌, ◌↔◌, ℕ, List, [], map}
 use Rattle.asn1_departures.specs.Departures.{AreDepartures, NoEncodingsFault}
 use Rattle.asn1_departures.specs.declared.rule.Departure.{Departure}
 use Rattle.asn1_departures.specs.declared.rule.Rule.{Rule}
-use Rattle.asn1_departures.specs.declared.rule.Rule.TheVariants.{LongIdentifier, PaddedTag, IndefiniteLength, LongLength, ReservedTag, NotConstructed, NotPrimitive, ConstructedString, BooleanSize, BooleanValue, NoInteger, PaddedInteger, BinaryReal, DecimalReal, SpecialReal, UnusedCount, UnusedOfNone, UnusedBits, NullContents, Subidentifiers, Iri, Characters, UtcTime, GeneralizedTime, Time, Order, NotEncodings}
+use Rattle.asn1_departures.specs.declared.rule.Rule.TheVariants.{LongIdentifier, PaddedTag, IndefiniteLength, LongLength, ReservedTag, NotConstructed, NotPrimitive, ConstructedString, BooleanSize, BooleanValue, NoInteger, PaddedInteger, BinaryReal, DecimalReal, SpecialReal, UnusedCount, UnusedOfNone, UnusedBits, NullContents, Subidentifiers, Iri, Characters, UtcTime, GeneralizedTime, Time, Order, NotEncodings, External, Identification}
 use Rattle.asn1_der.specs.Der.{IsDer}
 use Rattle.simple_asn1.specs.Fault.{DecodeFault}
 use Rattle.simple_asn1_c.specs.Answers.{IsNoMemory}
@@ -41,6 +41,8 @@ rule_number GeneralizedTime = 24
 rule_number Time = 25
 rule_number Order = 26
 rule_number NotEncodings = 27
+rule_number External = 28
+rule_number Identification = 29
 
 -- the record of a departure
 abbrev pub departure_record : Departure → DepartureRecord

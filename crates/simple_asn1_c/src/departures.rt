@@ -80,5 +80,7 @@ fn rule_number(rule: Rule) -> u32
         Rule::Time => 25,
         Rule::Order => 26,
         Rule::NotEncodings => 27,
+        Rule::External => 28,
+        Rule::Identification => 29,
     }
 }

@@ -46,7 +46,7 @@ pub enum Rule {
     NullContents,
     /// An OBJECT IDENTIFIER or RELATIVE-OID has one subidentifier or more, each whole and in the fewest bytes.
     Subidentifiers,
-    /// An OID-IRI or RELATIVE-OID-IRI is some UTF-8, and an OID-IRI begins with a solidus.
+    /// An OID-IRI or RELATIVE-OID-IRI is labels with solidi between them, before which an OID-IRI has one more.
     Iri,
     /// A string has only characters of its type.
     Characters,
@@ -54,21 +54,25 @@ pub enum Rule {
     UtcTime,
     /// A GeneralizedTime is YYYYMMDDhhmmss of a moment that exists, perhaps a fraction that does not end in 0, and Z.
     GeneralizedTime,
-    /// A TIME, DATE, TIME-OF-DAY, DATE-TIME or DURATION has its characters, and is a date or a time that exists.
+    /// A DATE, TIME-OF-DAY, DATE-TIME or DURATION is one, and a TIME has its characters in an order that there is.
     Time,
     /// The items of a SET ascend by their tags or by their bytes.
     Order,
     /// The contents of a constructed encoding are encodings.
     NotEncodings,
+    /// An EXTERNAL has one reference or both, perhaps a descriptor, and an encoding.
+    External,
+    /// An EMBEDDED PDV or CHARACTER STRING has an identification and a value.
+    Identification,
     /// A rule of a later library, by its number there.
     Unknown(u32),
 }
 
 /// The rules, each with what is wrong and the clauses that say it.
-const RULES: [(Rule, &str, &str); 27] = [
+const RULES: [(Rule, &str, &str); 29] = [
     (Rule::LongIdentifier, "tag number below 31 in more than one byte", "8.1.2.2"),
     (Rule::PaddedTag, "tag number not in the fewest bytes", "8.1.2.4.2"),
-    (Rule::IndefiniteLength, "indefinite length", "10.1"),
+    (Rule::IndefiniteLength, "indefinite length", "8.1.3.2, 10.1"),
     (Rule::LongLength, "length not in the fewest bytes", "10.1"),
     (Rule::ReservedTag, "reserved tag", "X.680 8.4"),
     (Rule::NotConstructed, "primitive, but the type is constructed", "8.9.1, 8.11.1, 8.17, 8.18, 8.24"),
@@ -96,7 +100,9 @@ const RULES: [(Rule, &str, &str); 27] = [
     (Rule::GeneralizedTime, "not YYYYMMDDhhmmss[.f]Z of a moment that exists", "11.7"),
     (Rule::Time, "no date or time of the type", "8.26"),
     (Rule::Order, "SET out of order", "10.3, 11.6"),
-    (Rule::NotEncodings, "contents that are not encodings", "8.1.2.5"),
+    (Rule::NotEncodings, "contents that are not encodings", "8.9.2, 8.10.2, 8.11.2, 8.12.2, 8.14"),
+    (Rule::External, "not a reference and an encoding", "8.18"),
+    (Rule::Identification, "not an identification and a value", "8.17, 8.24"),
 ];
 
 impl Rule {
@@ -156,7 +162,7 @@ mod tests {
 
     #[test]
     fn a_number_is_that_of_a_rule_or_stays_one() {
-        assert_eq!([1, 27].map(Rule::numbered), [Rule::LongIdentifier, Rule::NotEncodings]);
+        assert_eq!([1, 29].map(Rule::numbered), [Rule::LongIdentifier, Rule::Identification]);
         for number in [0, 28, u32::MAX] {
             let rule = Rule::numbered(number);
             assert_eq!(rule, Rule::Unknown(number));

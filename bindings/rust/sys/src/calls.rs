@@ -47,6 +47,8 @@ pub const RULE_GENERALIZED_TIME: u32 = 24;
 pub const RULE_TIME: u32 = 25;
 pub const RULE_ORDER: u32 = 26;
 pub const RULE_NOT_ENCODINGS: u32 = 27;
+pub const RULE_EXTERNAL: u32 = 28;
+pub const RULE_IDENTIFICATION: u32 = 29;
 
 /// A block as the library has it.
 #[repr(C)]

@@ -6,8 +6,8 @@ use Rattle.std.proofs.lemmas.Bool.{cases_lt}
 use Rattle.asn1_headers.specs.declared.header.ASN1Class.TheVariants.{Universal}
 use Rattle.asn1_der.specs.Der.{IsRightAlone, is_constructed_type, is_reserved}
 use Rattle.asn1_departures.specs.Departures.{Found, TypeFound, broken}
-use Rattle.asn1_departures.specs.Rules.{contents_rule, form_rule, is_string}
-use Rattle.asn1_departures.specs.declared.rule.Rule.TheVariants.{ConstructedString, NotConstructed, NotPrimitive, Order, ReservedTag}
+use Rattle.asn1_departures.specs.Rules.{contents_rule, form_rule, is_string, items_rule}
+use Rattle.asn1_departures.specs.declared.rule.Rule.TheVariants.{ConstructedString, NotConstructed, NotPrimitive, ReservedTag}
 use Rattle.asn1_departures.proofs.own.type_found.Goals as goal
 
 -- a number that is not below 2 ^ 64 is above 36
@@ -44,7 +44,7 @@ TypeFound-above_36 : (b k : Bool) (n : ℕ) (v : List ℕ) → 36 < n → TypeFo
 TypeFound-above_36 true k n v large = sym (form_rule-above_36 k n large)
 TypeFound-above_36 false k n v large =
     subst (λ z. Found (IsRightAlone Universal k n v) z (Some ReservedTag))
-    (sym (ap (λ z. unwrap_or z (if k then Order else contents_rule n v)) (form_rule-above_36 k n large)))
+    (sym (ap (λ z. unwrap_or z (if k then items_rule n else contents_rule n v)) (form_rule-above_36 k n large)))
     (broken (IsRightAlone-not_above_36 k n v large))
 
 pub returns-in-Universal-None : goal.returns-in-Universal-None

@@ -1,8 +1,8 @@
--- For `contents::is_moment`: what it returns is right.
+-- For `times::is_moment`: what it returns is right.
 use Rattle.std.proofs.Common.{refl}
 use Rattle.asn1_leaves.specs.Contents.Moment.{moment_of}
-use Rattle.asn1_der.specs.Contents.{IsMoment}
-use Rattle.asn1_der.proofs.contents.is_moment.Goals as goal
+use Rattle.asn1_der.specs.Times.{IsMoment}
+use Rattle.asn1_der.proofs.times.is_moment.Goals as goal
 
 pub returns-in-Some : goal.returns-in-Some
 unfolding IsMoment

@@ -1,7 +1,7 @@
--- For `contents::is_date`: what it returns is right.
+-- For `times::is_day`: what it returns is right.
 use Rattle.std.proofs.Common.{◌≡◌, [], ◌++◌, ap, arith, codes, length}
 use Rattle.asn1_der.proofs.Elements.{IsWithinMoment-whole, octets_from-to_end}
-use Rattle.asn1_der.proofs.contents.is_date.Goals as goal
+use Rattle.asn1_der.proofs.times.is_day.Goals as goal
 
 pub returns-in-len8 : goal.returns-in-len8
 returns-in-len8 c =
