@@ -58,7 +58,7 @@ impl Show {
         ensures task { IfOk result (λ show. show.task ≡ options.now.task) }
         ensures page { IfOk result (λ show. options.now.is_html ≡ false → is_page show.format ≡ false) }
     {
-        let names = Names::with(alloc, own)?.with_fields(shapes_for(alloc, options)?);
+        let names = Names::with(alloc, own)?.with_fields(shapes_for(alloc, options.task)?);
         let named_type = match options.type_name {
             Some(name) => names.shapes.named_type(name),
             None => None,
@@ -347,10 +347,11 @@ pub fn both_verdicts(a: Verdict, b: Verdict) -> Verdict {
     }
 }
 
-// The shapes by which fields are named, and by which an account knows what a document is. Octets and values need none.
-fn shapes_for(alloc: Global, options: &Options<'_>) -> Result<Shapes, AllocError> {
-    match options.task {
-        Task::Dump | Task::At(_) if options.is_text || !options.is_plain => Shapes::new(alloc),
+// The shapes by which fields are named and values are read, and by which an account knows what a document is. Octets
+// and values that are written as they are need none.
+fn shapes_for(alloc: Global, task: Task) -> Result<Shapes, AllocError> {
+    match task {
+        Task::Dump | Task::At(_) => Shapes::new(alloc),
         _ => Ok(Shapes::none(alloc)),
     }
 }

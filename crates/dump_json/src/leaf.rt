@@ -81,7 +81,7 @@ fn with_components(
     members.with("value", Value::Text(&format!(in alloc; "{components}")?))
 }
 
-// With the value of these contents octets; null where they are no text of their type.
+// With the value of these contents octets of class Universal; null where they are no text of their type.
 pub fn with_value(
     alloc: Global,
     members: Members,
@@ -100,9 +100,8 @@ pub fn with_value(
         LeafValue::Moment(time) | LeafValue::BerTime(time) => {
             members.with("value", Value::Text(&time.text))
         }
-        LeafValue::Octets(_) | LeafValue::Other(_) | LeafValue::Tagged(_) => {
-            with_octets(alloc, members, "value", contents)
-        }
+        LeafValue::Octets(_) | LeafValue::Other(_) | LeafValue::Tagged(_) | LeafValue::Address(_) =>
+            with_octets(alloc, members, "value", contents),
         LeafValue::Null | LeafValue::NoText(_) => members.with("value", Value::Null),
     }
 }

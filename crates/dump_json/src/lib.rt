@@ -17,10 +17,11 @@
 //! | `of` | the name of its type where that is defined, if it is known |
 //! | `value` | what it holds: the next table |
 //! | `name` | the name of an object identifier, of a number, of bits that are set or of an alternative, if it has one |
-//! | `shown` | hex digits of a long INTEGER or OBJECT IDENTIFIER; printed text; an address; `truncated: 1 of 2 bytes` |
+//! | `shown` | hex digits of a long INTEGER or OBJECT IDENTIFIER; a value as text; `truncated: 1 of 2 bytes` |
 //! | `octets` | its contents octets in hex digits, where they have no value of its type: `value` is `null` |
 //! | `not_der` | the rules of DER that it breaks, if it breaks some: an array of the third table |
 //! | `fault` | what is wrong with it, if anything is |
+//! | `guessed` | `true`, where nothing says that its octets are encodings, but `blocks` has some |
 //! | `blocks` | such objects of the encodings inside its octets, where a dump shows some |
 //!
 //! | Block | `value` |

@@ -7,9 +7,8 @@ use crate::members::Members;
 use crate::value::Value;
 use asn1_headers::whole_header::Header;
 use dump_names::Names;
-use dump_shapes::Named;
 use dump_values::faults::Fault;
-use dump_values::tag::holds_encodings;
+use dump_values::tag::{holds_encodings, is_universal};
 use dump_values::value::LeafValue;
 use dump_walk::marks::BrokenRule;
 use dump_walk::piece::{Piece, PieceKind};
@@ -36,7 +35,16 @@ pub fn members_of(
     let members = with_names(alloc, members, names, piece)?;
     let members = with_digits(alloc, members, piece)?;
     let members = with_rules(alloc, members, rules)?;
-    with_fault(alloc, members, offset, &piece.fault)
+    let members = with_fault(alloc, members, offset, &piece.fault)?;
+    with_guess(members, piece)
+}
+
+// With `guessed`, where that octets hold the blocks which follow is a guess.
+fn with_guess(members: Members, piece: &Piece<'_>) -> Result<Members, AllocError> {
+    if piece.is_guess() {
+        return members.with("guessed", Value::Boolean(true));
+    }
+    Ok(members)
 }
 
 fn natural_or_null(number: Option<usize>) -> Value<'static> {
@@ -115,6 +123,9 @@ fn with_value_of(
         PieceKind::Opened(_, _, Some(joined)) if piece.fault.is_none() => {
             with_value(alloc, members, &joined.contents, &joined.value)
         }
+        PieceKind::Leaf(header, contents, Some(_)) if !is_universal(header) => {
+            with_octets(alloc, members, "value", contents)
+        }
         PieceKind::Leaf(_, contents, Some(value)) => with_value(alloc, members, contents, value),
         _ => members.with("value", Value::Null),
     }
@@ -128,7 +139,7 @@ fn with_names(
     piece: &Piece<'_>,
 ) -> Result<Members, AllocError> {
     let named = piece.names(&names.shapes);
-    let name = name_or(alloc, name_of(alloc, names, piece)?, named)?;
+    let name = name_of(alloc, names, piece, named)?;
     let shown = shown_of(alloc, piece)?;
     members
         .with_text("field", named.and_then(|named| named.field))?
@@ -137,25 +148,12 @@ fn with_names(
         .with_text("shown", shown.as_deref())
 }
 
-// A name, or else that of a number.
-fn name_or(
-    alloc: Global,
-    name: Option<String>,
-    named: Option<Named>,
-) -> Result<Option<String>, AllocError> {
-    match (name, named.and_then(|named| named.value)) {
-        (None, Some(value)) => Ok(Some(String::from_str(alloc, value)?)),
-        (name, _) => Ok(name),
-    }
-}
-
 // With the contents octets of a piece in hex digits, where they were read and have no value of their type: they are no
 // text of it, or a fault that has a name says so.
 fn with_digits(alloc: Global, members: Members, piece: &Piece<'_>) -> Result<Members, AllocError> {
     match (&piece.kind, &piece.fault) {
-        (PieceKind::Leaf(_, contents, Some(LeafValue::NoText(_))), _) => {
-            with_octets(alloc, members, "octets", contents)
-        }
+        (PieceKind::Leaf(header, contents, Some(LeafValue::NoText(_))), _)
+            if is_universal(header) => { with_octets(alloc, members, "octets", contents) }
         (PieceKind::Leaf(_, contents, None), Some(fault)) if fault.code.is_some() => {
             with_octets(alloc, members, "octets", contents)
         }

@@ -190,6 +190,7 @@ StandsInside-inside octets part base m further f at e s =
         indefinite = l.indefinite;
         type_name = l.type_name;
         rules = l.rules;
+        list = l.list;
       };
     }
 

@@ -115,6 +115,7 @@ module _ (place : Place) (octets : List ℕ) (fronts : List Front) (old new : Wa
         indefinite = refl;
         type_name = refl;
         rules = refl;
+        list = refl;
       } in
       inl (f, (fronts, [], refl), later)
 
@@ -126,8 +127,7 @@ module _ (place : Place) (octets : List ℕ) (fronts : List Front) (old new : Wa
       let rules = piece.breaches.rules.items in
       let spare = piece.breaches.has_spare_bits in
       ap (λ z. kind_front z piece.place.depth rules spare piece.kind) (omega (arith, base_is, no_base))
-      ∙ (ap (λ z. kind_front piece.offset z rules spare piece.kind) (omega (arith, p.depth, deep, no_depth))
-      ∙ ap (λ z. kind_front piece.offset p.levels rules z piece.kind) (p.no_list (inside_is ∙ out)))
+      ∙ ap (λ z. kind_front piece.offset z rules spare piece.kind) (omega (arith, p.depth, deep, no_depth))
 
   -- what stands inside the contents octets of the piece stands inside the octets
   IsSoFar-inside : (h : Front) → StandsInPiece p.left piece h → IsSoFar place.base octets one_more h
@@ -275,6 +275,7 @@ StandsInside-so_far base octets fronts faults p read (inl (f, (earlier, others, 
         indefinite = l.indefinite;
         type_name = l.type_name;
         rules = l.rules;
+        list = l.list;
       };
     }
 StandsInside-so_far base octets fronts faults p read (inr inside) = inside

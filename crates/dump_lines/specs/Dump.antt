@@ -38,8 +38,7 @@ pub record IsInsideLine (front : Front) (line : List ℕ) : Type 0 where
   pub line_is : line ≡ greater_than_sign ∷ shown
   pub block : IsBlockLine front shown
 
--- a front at an offset greater by so much, inside however many. Around octets of a string may stand what tells that
--- they are a list of named bits
+-- a front at an offset greater by so much, inside however many
 pub record IsLater (base : ℕ) (front later : Front) : Type 0 where
   pub offset : later.offset ≡ base + front.offset
   pub header : later.header ≡ front.header
@@ -47,6 +46,7 @@ pub record IsLater (base : ℕ) (front later : Front) : Type 0 where
   pub indefinite : later.indefinite ≡ front.indefinite
   pub type_name : later.type_name ≡ front.type_name
   pub rules : later.rules ≡ front.rules
+  pub list : later.has_spare_bits ≡ front.has_spare_bits
 
 -- the front is of an encoding in a part of the octets, at an offset greater by the base and by where the part stands
 pub record StandsInside (base : ℕ) (octets : List ℕ) (later : Front) : Type 0 where

@@ -8,15 +8,13 @@ ghost use Rattle.dump_lines.specs.Steps.{IsStart, IsWholeDump, earlier_fault, ke
 
 use crate::lines::mark_of;
 use crate::values::{
-    ValueStyle, cut_text, identifier_name, is_known_constructed, role_name, write_opened,
-    write_role, write_value, write_value_name,
+    ValueStyle, cut_text, identifier_name, is_known_constructed, write_alternative,
+    write_constructed, write_joined, write_number_name, write_value,
 };
-use asn1_headers::whole_header::Header;
 use der_io::StreamFault;
 use dump_names::Names;
 use dump_rows::{Printer, Row};
-use dump_shapes::Named;
-use dump_values::Role;
+use dump_shapes::{Named, bits_text};
 use dump_values::faults::Fault;
 use dump_values::scalars::write_after_space;
 use dump_values::tag::holds_encodings;
@@ -238,29 +236,11 @@ fn shown_of(
     type_name: &str,
 ) -> Result<Shown, AllocError> {
     let named = piece.names(&names.shapes);
-    let style = ValueStyle::of(piece);
-    let mut value = value_text(alloc, names, piece, style, field_of(named))?;
-    write_value_name(&mut value, value_name(piece, named))?;
     Ok(Shown {
         field: field_text(alloc, type_name, named)?,
-        value,
+        value: value_text(alloc, names, piece, named)?,
         fault: fault_text(alloc, piece)?,
     })
-}
-
-// The name of the value of a piece, unless it is a GeneralName, whose name stands behind its tag.
-fn value_name(piece: &Piece<'_>, named: Option<Named>) -> Option<&'static str> {
-    let name = named?.value?;
-    match &piece.kind {
-        PieceKind::Opened(header, _, _) | PieceKind::Leaf(header, _, _) => match piece
-            .place
-            .role(header)
-        {
-            Role::Name(_) => None,
-            Role::Plain | Role::Bits(_) => Some(name),
-        },
-        PieceKind::EndOfContents(_) | PieceKind::Unreadable(_) | PieceKind::Cut(_, _) => None,
-    }
 }
 
 // The field of a piece, as it stands before the name of its type: its name, or that of its type where it has none.
@@ -284,101 +264,64 @@ fn with_space(alloc: Global, name: &str) -> Result<String, AllocError> {
     Ok(text)
 }
 
-// The value of a piece, as it stands behind its type.
+// The value of a piece, as it stands behind its type: the alternative that its tag chooses before it, and the name of a
+// number behind it.
 fn value_text(
     alloc: Global,
     names: &Names,
     piece: &Piece<'_>,
-    style: ValueStyle,
-    field: Option<&'static str>,
+    named: Option<Named>,
 ) -> Result<String, AllocError> {
+    let mut text = String::new(alloc);
+    let style = ValueStyle::of(piece);
     match &piece.kind {
-        PieceKind::EndOfContents(_) | PieceKind::Cut(_, _) => Ok(String::new(alloc)),
+        PieceKind::EndOfContents(_) | PieceKind::Cut(_, _) => {}
         PieceKind::Unreadable(octets) | PieceKind::Leaf(_, octets, None) => {
-            octets_text(alloc, octets, style)
+            write_after_space(&mut text, octets, style.is_full)?;
         }
         PieceKind::Opened(header, _, joined) => {
-            let role = role_name(piece.place.role(header), field);
-            opened_text(alloc, names, header, joined, style, role)
+            write_alternative(&mut text, named)?;
+            write_constructed(&mut text, !is_known_constructed(header))?;
+            write_joined_of(alloc, names, piece, joined, style, &mut text)?;
         }
-        PieceKind::Leaf(header, contents, Some(value)) => {
-            let role = leaf_role_name(value, piece.place.role(header), field);
-            leaf_text(alloc, names, contents, value, style, role)
+        PieceKind::Leaf(_, contents, Some(value)) => {
+            write_alternative(&mut text, named)?;
+            let name = name_of_value(alloc, names, piece, value)?;
+            write_value(alloc, &mut text, &name, contents, value, style)?;
+            write_number_name(&mut text, named)?;
         }
     }
-}
-
-// Octets that have no value, behind a space.
-fn octets_text(alloc: Global, octets: &[u8], style: ValueStyle) -> Result<String, AllocError> {
-    let mut text = String::new(alloc);
-    write_after_space(&mut text, octets, style.is_full)?;
     Ok(text)
 }
 
-// What stands behind the type of an encoding that is gone into, which has the name of a GeneralName, if it is one.
-fn opened_text(
+// The value of the segments of a string, if they have one.
+fn write_joined_of(
     alloc: Global,
     names: &Names,
-    header: &Header,
+    piece: &Piece<'_>,
     joined: &Option<Joined>,
     style: ValueStyle,
-    role: Option<&'static str>,
-) -> Result<String, AllocError> {
-    let mut text = String::new(alloc);
-    write_role(&mut text, role)?;
-    let name = joined_name(alloc, names, joined)?;
-    write_opened(
-        alloc,
-        &mut text,
-        &name,
-        !is_known_constructed(header),
-        joined,
-        style,
-    )?;
-    Ok(text)
+    out: &mut String,
+) -> Result<(), AllocError> {
+    let Some(joined) = joined else {
+        return Ok(());
+    };
+    let name = name_of_value(alloc, names, piece, &joined.value)?;
+    write_joined(alloc, out, &name, joined, style)
 }
 
-fn joined_name(
+// The name of an object identifier with the standard that has it, or those of the bits of a piece that are set, if the
+// value is one that has names; else nothing.
+fn name_of_value(
     alloc: Global,
     names: &Names,
-    joined: &Option<Joined>,
-) -> Result<String, AllocError> {
-    match joined {
-        Some(joined) => identifier_name(alloc, names, &joined.value),
-        None => Ok(String::new(alloc)),
-    }
-}
-
-// The name of a GeneralName, which is of no value of class Universal.
-fn leaf_role_name(
+    piece: &Piece<'_>,
     value: &LeafValue,
-    role: Role,
-    field: Option<&'static str>,
-) -> Option<&'static str> {
-    match value {
-        LeafValue::Tagged(_) => role_name(role, field),
-        _ => None,
-    }
-}
-
-// The value of these contents octets, which has the name of a GeneralName, if it is one.
-fn leaf_text(
-    alloc: Global,
-    names: &Names,
-    contents: &[u8],
-    value: &LeafValue,
-    style: ValueStyle,
-    role: Option<&'static str>,
 ) -> Result<String, AllocError> {
-    let mut text = String::new(alloc);
-    write_role(&mut text, role)?;
-    let name = identifier_name(alloc, names, value)?;
-    write_value(&mut text, &name, contents, value, style)?;
-    Ok(text)
-}
-
-fn field_of(named: Option<Named>) -> Option<&'static str> {
-    named?.field
+    match bits_text(alloc, &piece.set_bits(alloc, &names.shapes)?)? {
+        Some(text) => Ok(text),
+        None => identifier_name(alloc, names, value),
+    }
 }
 
 // What is wrong with a piece, as it stands behind its value.

@@ -4,10 +4,10 @@ use asn1_headers::tags::{CHARACTER_STRING, EMBEDDED_PDV, EXTERNAL, SEQUENCE, SET
 use asn1_headers::whole_header::Header;
 use asn1_numbers::number::big_int::BigInt;
 use dump_names::Names;
+use dump_shapes::Named;
 use dump_values::scalars::{LEAST_HEX, write_after_space, write_as, write_hex, write_quoted};
 use dump_values::tag::{holds_encodings, universal_tag};
-use dump_values::value::{Bits, Identifier, LeafValue, TaggedValue};
-use dump_values::{Role, general_name};
+use dump_values::value::{Bits, Identifier, LeafValue};
 use dump_walk::piece::Piece;
 use dump_walk::strings::Joined;
 use std::alloc::{AllocError, Global};
@@ -20,6 +20,8 @@ const MOST_DECIMAL: usize = 16;
 pub struct ValueStyle {
     // whether what the octets hold is shown below it, and they are not written
     pub is_opened: bool,
+    // whether that they hold it is a guess
+    pub is_guess: bool,
     // whether octets are written whole
     pub is_full: bool,
 }
@@ -29,46 +31,30 @@ impl ValueStyle {
     pub fn of(piece: &Piece<'_>) -> ValueStyle {
         ValueStyle {
             is_opened: piece.nested.is_some(),
+            is_guess: piece.is_guess(),
             is_full: piece.place.is_full,
         }
     }
 }
 
-// What stands behind the type of an encoding that is gone into: that it is constructed, where that is shown, and the
-// value of the segments of a string. An object identifier has this name.
-pub fn write_opened(
-    alloc: Global,
-    out: &mut String,
-    name: &str,
-    is_shown: bool,
-    joined: &Option<Joined>,
-    style: ValueStyle,
-) -> Result<(), AllocError> {
-    write_constructed(out, is_shown)?;
-    write_joined(alloc, out, name, joined, style)
-}
-
-fn write_constructed(out: &mut String, is_shown: bool) -> Result<(), AllocError> {
+// That an encoding is constructed, where that is shown.
+pub fn write_constructed(out: &mut String, is_shown: bool) -> Result<(), AllocError> {
     if is_shown {
         return out.push_str(", constructed");
     }
     Ok(())
 }
 
-fn write_joined(
+// The value of the segments of a string behind a colon. An object identifier, or bits, have this name.
+pub fn write_joined(
     alloc: Global,
     out: &mut String,
     name: &str,
-    joined: &Option<Joined>,
+    joined: &Joined,
     style: ValueStyle,
 ) -> Result<(), AllocError> {
-    match joined {
-        Some(joined) => {
-            let text = joined_value_text(alloc, name, joined, style)?;
-            write_behind_colon(out, &text)
-        }
-        None => Ok(()),
-    }
+    let text = joined_value_text(alloc, name, joined, style)?;
+    write_behind_colon(out, &text)
 }
 
 fn joined_value_text(
@@ -78,7 +64,14 @@ fn joined_value_text(
     style: ValueStyle,
 ) -> Result<String, AllocError> {
     let mut text = String::new(alloc);
-    write_value(&mut text, name, &joined.contents, &joined.value, style)?;
+    write_value(
+        alloc,
+        &mut text,
+        name,
+        &joined.contents,
+        &joined.value,
+        style,
+    )?;
     Ok(text)
 }
 
@@ -120,30 +113,29 @@ pub fn cut_text(
     Ok(text)
 }
 
-// The name of a GeneralName, unless it is that of the field.
-pub fn role_name(role: Role, field: Option<&'static str>) -> Option<&'static str> {
-    match role {
-        Role::Name(tag) => match general_name(tag) {
-            Some(name) if field != Some(name) => Some(name),
-            _ => None,
-        },
-        Role::Plain | Role::Bits(_) => None,
+// A space and the alternative of a choice that the tag chooses, if it is named.
+pub fn write_alternative(out: &mut String, named: Option<Named>) -> Result<(), AllocError> {
+    match named {
+        Some(
+            Named {
+                alternative: Some(name),
+                ..
+            },
+        ) => write!(out, " {name}"),
+        _ => Ok(()),
     }
 }
 
-// A space and the name, if there is one.
-pub fn write_role(out: &mut String, name: Option<&'static str>) -> Result<(), AllocError> {
-    match name {
-        Some(name) => write!(out, " {name}"),
-        None => Ok(()),
-    }
-}
-
-// A space and the name in parentheses, if there is one.
-pub fn write_value_name(out: &mut String, name: Option<&'static str>) -> Result<(), AllocError> {
-    match name {
-        Some(name) => write!(out, " ({name})"),
-        None => Ok(()),
+// A space and the name of a number in parentheses, if it has one.
+pub fn write_number_name(out: &mut String, named: Option<Named>) -> Result<(), AllocError> {
+    match named {
+        Some(
+            Named {
+                value: Some(name),
+                ..
+            },
+        ) => write!(out, " ({name})"),
+        _ => Ok(()),
     }
 }
 
@@ -153,7 +145,13 @@ pub fn identifier_name(
     names: &Names,
     value: &LeafValue,
 ) -> Result<String, AllocError> {
-    let Some(dotted) = dotted_in(value) else {
+    let Some(
+        Identifier {
+            dotted: Some(dotted),
+            ..
+        },
+    ) = value.identifier()
+    else {
         return Ok(String::new(alloc));
     };
     match names.of(dotted) {
@@ -163,19 +161,9 @@ pub fn identifier_name(
     }
 }
 
-// The components of an object identifier in decimal, if the value is one and they can be so.
-fn dotted_in(value: &LeafValue) -> Option<&str> {
-    match value {
-        LeafValue::Identifier(identifier)
-        | LeafValue::Tagged(TaggedValue::Identifier(Some(identifier))) => {
-            identifier.dotted.as_deref()
-        }
-        _ => None,
-    }
-}
-
-// The value of contents octets. An object identifier has this name.
+// The value of contents octets. An object identifier, or bits, have this name.
 pub fn write_value(
+    alloc: Global,
     out: &mut String,
     name: &str,
     contents: &[u8],
@@ -185,8 +173,8 @@ pub fn write_value(
     match value {
         LeafValue::Boolean(is_true) => write!(out, " {is_true}"),
         LeafValue::Integer(number) => write_integer(out, number, style),
-        LeafValue::Bits(bits) => write_bits(out, bits, style),
-        LeafValue::Octets(_) if style.is_opened => out.push_str(", containing"),
+        LeafValue::Bits(bits) => write_bits(out, name, bits, style),
+        LeafValue::Octets(_) if style.is_opened => write_containing(out, style),
         LeafValue::Octets(text) | LeafValue::Other(text) | LeafValue::NoText(text) => {
             write_octets(out, contents, text, style)
         }
@@ -199,26 +187,21 @@ pub fn write_value(
         LeafValue::Notation(text) if contents.is_empty() && text.is_empty() => Ok(()),
         LeafValue::Notation(text) => write!(out, " {text}"),
         LeafValue::Moment(time) | LeafValue::BerTime(time) => write!(out, " {}", time.text),
-        LeafValue::Tagged(value) => write_tagged(out, name, contents, value, style),
+        LeafValue::Tagged(text) => write_octets(out, contents, text, style),
+        LeafValue::Address(address) => {
+            let text = address.text(alloc)?;
+            write!(out, " {text}")
+        }
     }
 }
 
-// The value of contents octets of another class.
-fn write_tagged(
-    out: &mut String,
-    name: &str,
-    contents: &[u8],
-    value: &TaggedValue,
-    style: ValueStyle,
-) -> Result<(), AllocError> {
-    match value {
-        TaggedValue::Octets(text) => write_octets(out, contents, text, style),
-        TaggedValue::Bits(bits) => write_bits(out, bits, style),
-        TaggedValue::Address(address) => write!(out, " {address}"),
-        TaggedValue::Identifier(Some(identifier)) => write_identifier(out, name, identifier),
-        TaggedValue::Identifier(None) => Ok(()),
-        TaggedValue::Text(text) => write_text(out, text),
+// That encodings stand below, and whether that is a guess.
+fn write_containing(out: &mut String, style: ValueStyle) -> Result<(), AllocError> {
+    out.push_str(", containing")?;
+    if style.is_guess {
+        return out.push_str(" (guessed)");
     }
+    Ok(())
 }
 
 // An integer in decimal, if it has few octets; and its two's complement octets, unless it has very few.
@@ -245,25 +228,26 @@ fn write_number_octets(
     out.push_str(")")
 }
 
-// The bits of a BIT STRING, and their names, if they have any.
-fn write_bits(out: &mut String, bits: &Bits, style: ValueStyle) -> Result<(), AllocError> {
+// The bits of a BIT STRING, and the names of those that are set, if they have any.
+fn write_bits(
+    out: &mut String,
+    names: &str,
+    bits: &Bits,
+    style: ValueStyle,
+) -> Result<(), AllocError> {
     let count = bits.count;
     let ending = if count == 1 { "" } else { "s" };
     write!(out, " {count} bit{ending}")?;
     write_bits_octets(out, bits, style)?;
-    write_bit_names(out, &bits.names)
-}
-
-fn write_bit_names(out: &mut String, names: &Option<String>) -> Result<(), AllocError> {
-    match names {
-        Some(names) => write!(out, " ({names})"),
-        None => Ok(()),
+    if names.is_empty() {
+        return Ok(());
     }
+    write!(out, " ({names})")
 }
 
 fn write_bits_octets(out: &mut String, bits: &Bits, style: ValueStyle) -> Result<(), AllocError> {
     if style.is_opened {
-        return out.push_str(", containing");
+        return write_containing(out, style);
     }
     write_unused(out, bits.unused)?;
     if bits.octets.is_empty() {

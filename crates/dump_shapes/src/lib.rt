@@ -3,7 +3,8 @@
 //! A shape says which fields a type of ASN.1 has: their names, types and tags, which of them are optional, and what
 //! the octets of a string hold. The shapes are text, in [`Shapes::new`] those of RFCs. A [`FieldWalk`] is told the
 //! elements of a document one behind another, and says of each which field of its shape it is, a [`Spot`];
-//! [`Shapes::names_of`] has the names.
+//! [`Shapes::names_of`] has the names, [`Shapes::leaf_type`] the type of its contents octets, and [`Shapes::set_bits`]
+//! the names of bits.
 //!
 //! ```rust
 //! use asn1_headers::header::ASN1Class;
@@ -31,6 +32,7 @@
 //! ```
 #![tactic(auto)]
 
+mod bits;
 mod field_walk;
 mod fit;
 mod headers;
@@ -41,9 +43,10 @@ mod shapes_text;
 mod tables;
 mod take;
 
+pub use bits::{SetBit, bits_text};
 pub use field_walk::FieldWalk;
 pub use fit::{DocumentType, TypeSource};
-pub use named::{Held, Named};
-pub use shapes::{Shapes, Tag};
+pub use named::{Held, LeafType, Named};
+pub use shapes::{Shapes, Tag, ValueRule};
 pub use shapes_text::ShapesFault;
 pub use take::Spot;

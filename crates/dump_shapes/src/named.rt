@@ -1,9 +1,14 @@
-// The names of an element, by which field it is.
+// The names of an element, by which field it is, and what its type says of its contents octets.
 ghost use Rattle.std.specs.Prelude.{IfSome};
 ghost use Rattle.dump_shapes.specs.Names.{IsNameAt, IsNameOf, IsNamed};
 
 use crate::shapes::{Shape, ShapeKind, Shapes, ValueRule};
 use crate::take::{Inside, Spot};
+use asn1_headers::tags;
+
+const INTEGER: u8 = tags::INTEGER as u8;
+
+const ENUMERATED: u8 = tags::ENUMERATED as u8;
 
 /// The names of an element.
 #[derive(Clone, Copy, Debug, Drop, PartialEq)]
@@ -12,8 +17,20 @@ pub struct Named {
     pub field: Option<&'static str>,
     /// The name of its type.
     pub of: &'static str,
-    /// The name of its value, where the type has names for numbers, or of the alternative that its tag chooses.
+    /// The alternative of a choice that its tag chooses, where it is a field with another name.
+    pub alternative: Option<&'static str>,
+    /// The name of its value, where the type has names for numbers.
     pub value: Option<&'static str>,
+}
+
+/// The type of an element that has no parts, by which its contents octets are read.
+#[derive(Clone, Copy, Debug, Drop, PartialEq)]
+pub struct LeafType {
+    pub(crate) shape: u16,
+    /// The tag of class Universal that it has, or has under an implicit tag (X.680 31.2.7).
+    pub tag: u8,
+    /// What else it says of its values.
+    pub rule: ValueRule,
 }
 
 /// What the octets of a string are.
@@ -36,14 +53,43 @@ impl Shapes {
         Some(Named {
             field: self.field_name(spot),
             of: shape.name,
-            value: self.value_name(shape, spot, contents),
+            alternative: self.alternative_name(spot),
+            value: self.value_name(spot, contents),
         })
+    }
+
+    /// The type of an element, by which field it is. `None` where a type of parts, or none, is known of it.
+    pub fn leaf_type(&self, spot: Spot) -> Option<LeafType> {
+        if !matches!(spot.of.inside, Inside::Nothing) {
+            return None;
+        }
+        match spot.of.alternative {
+            Some(alternative) => self.leaf_at(self.part(alternative)?.shape),
+            None => self.leaf_at(spot.of.shape),
+        }
+    }
+
+    /// The type without parts that has this name, if there is one.
+    pub fn leaf_named(&self, name: &str) -> Option<LeafType> {
+        self.leaf_at(self.named(name)?)
+    }
+
+    fn leaf_at(&self, place: u16) -> Option<LeafType> {
+        let shape = self.shape(place)?;
+        match shape.kind {
+            ShapeKind::Leaf(tag) => Some(LeafType {
+                shape: place,
+                tag,
+                rule: shape.rule,
+            }),
+            _ => None,
+        }
     }
 
     /// What a string holds, by which field it is.
     pub fn held_in(&self, spot: Spot) -> Held {
-        match (self.leaf_rule(spot), self.held_shape(spot)) {
-            (Some(ValueRule::Holding), _) => Held::Anything,
+        match (self.leaf_type(spot), self.held_shape(spot)) {
+            (Some(leaf), _) if leaf.rule == ValueRule::Holding => Held::Anything,
             (Some(_), _) => Held::Nothing,
             (None, Some(shape)) if shape.is_nothing() => Held::Nothing,
             (None, Some(_)) => Held::Type,
@@ -63,19 +109,6 @@ impl Shapes {
                 self.shape(row.shape)
             }
             _ => Some(shape),
-        }
-    }
-
-    // What the type of an element says of its value. `None` where it is not of a type without parts.
-    fn leaf_rule(&self, spot: Spot) -> Option<ValueRule> {
-        let place = match spot.of.alternative {
-            Some(alternative) => self.part(alternative)?.shape,
-            None => spot.of.shape,
-        };
-        let shape = self.shape(place)?;
-        match shape.kind {
-            ShapeKind::Leaf(_) => Some(shape.rule),
-            _ => None,
         }
     }
 
@@ -99,19 +132,23 @@ impl Shapes {
         }
     }
 
-    // The name of the value of an element: that of a number; or of an alternative by its tag, where the field has a
-    // name.
-    fn value_name(&self, shape: Shape, spot: Spot, contents: &[u8]) -> Option<&'static str> {
-        match (shape.kind, spot.of.inside) {
-            (ShapeKind::Leaf(_), Inside::Nothing) => self.number_name(
-                shape,
+    // The name of an alternative that has a tag of its own, where the field has a name.
+    fn alternative_name(&self, spot: Spot) -> Option<&'static str>
+        ensures { IfSome result (λ name. IsNameAt self.now spot.of.alternative name.now) }
+    {
+        self.name_at(spot.field)?;
+        self.part(spot.of.alternative?)?.tag?;
+        self.name_at(spot.of.alternative)
+    }
+
+    // The name of the number that the contents octets of an element are.
+    fn value_name(&self, spot: Spot, contents: &[u8]) -> Option<&'static str> {
+        let leaf = self.leaf_type(spot)?;
+        match leaf.tag {
+            INTEGER | ENUMERATED => self.number_name(
+                self.shape(leaf.shape)?,
                 small_number(contents)?,
             ),
-            (ShapeKind::Choice, _) => {
-                self.name_at(spot.field)?;
-                self.part(spot.of.alternative?)?.tag?;
-                self.name_at(spot.of.alternative)
-            }
             _ => None,
         }
     }

@@ -69,21 +69,25 @@ impl Shape {
     }
 }
 
-// What a shape of leaves says of their values, besides their tag and the names of numbers and bits.
+/// What a type without parts says of its values, besides their tag and the names of numbers and bits.
 #[derive(Clone, Copy, Debug, Drop, PartialEq)]
-pub(crate) enum ValueRule {
-    // nothing
+pub enum ValueRule {
+    /// Nothing.
     Any,
-    // numbers that have no name are none of the type
+    /// Numbers that have no name are none of the type.
     Closed,
-    // octets that may be encodings, of which the type is not known
+    /// Octets may be encodings, of which the type is not known.
     Holding,
+    /// Bits are a list of named bits (X.680 22.2), which has no 0 at its end in DER (X.690 11.2.2).
+    Named,
+    /// Octets are an address of IP.
+    Address,
 }
 
 // What elements of a shape are, and what its parts are.
 #[derive(Clone, Copy, Drop)]
 pub(crate) enum ShapeKind {
-    // with this tag of class Universal; numbers that have names
+    // with this tag of class Universal; numbers or bits that have names
     Leaf(u8),
     // a SEQUENCE or a SET of fields, with this tag; the fields
     Record(u8),
@@ -97,8 +101,8 @@ pub(crate) enum ShapeKind {
     Known,
 }
 
-// A part of a shape: a field, whose name may be empty, with its shape and its tag, if it has one of its own; a number
-// and its name; or an object identifier as a number, and the shape that it says.
+// A part of a shape: a field, whose name may be empty, with its shape and its tag, if it has one of its own; a number,
+// that of a value or of a bit, and its name; or an object identifier as a number, and the shape that it says.
 #[derive(Clone, Copy, Default, Drop)]
 pub(crate) struct Part {
     pub name: &'static str,

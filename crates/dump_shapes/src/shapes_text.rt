@@ -195,7 +195,8 @@ impl Reader {
         }
     }
 
-    // Reads a part of the last shape: a field; a number and its name; or an object identifier and what it says.
+    // Reads a part of the last shape: a field; a number, of a value or of a bit, and its name; or an object identifier
+    // and what it says.
     fn part(&mut self, line: &'static str) -> Result<(), ShapesFault> {
         let (first, text) = line.split_once(' ').ok_or(self.fault())?;
         if !first.starts_with(|c: char| c.is_ascii_digit()) {
@@ -277,6 +278,8 @@ fn rule_behind(text: &'static str) -> (&'static str, ValueRule) {
     match text.rsplit_once(' ') {
         Some((text, "CLOSED")) => (text, ValueRule::Closed),
         Some((text, "HOLDING")) => (text, ValueRule::Holding),
+        Some((text, "NAMED")) => (text, ValueRule::Named),
+        Some((text, "ADDRESS")) => (text, ValueRule::Address),
         _ => (text, ValueRule::Any),
     }
 }

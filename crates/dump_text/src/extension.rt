@@ -7,7 +7,8 @@ use asn1_headers::tags;
 use asn1_leaves::contents::bit_string;
 use asn1_numbers::number::big_int::signed_value;
 use asn1_outline::headers::Headers;
-use dump_values::{NamedBits, address_text, bit_names, text_beside};
+use dump_shapes::bits_text;
+use dump_values::{Address, text_beside};
 use std::alloc::AllocError;
 
 // Pushes the lines of the extensions that a SEQUENCE of them has.
@@ -47,15 +48,28 @@ fn push_key_usage(lines: &mut Lines<'_>, value: &Node<'_, '_>) -> Result<(), All
         return Ok(());
     }
     match bit_string::read(lines.alloc, value.contents()) {
-        Ok((count, octets)) => {
-            let names = bit_names(lines.alloc, NamedBits::KeyUsage, count, &octets)?;
-            if names.is_empty() {
-                return Ok(());
-            }
-            lines.line("key usage", &names)
-        }
+        Ok((count, octets)) => push_bits(lines, "key usage", "KeyUsage", count, &octets),
         Err(ASN1DecodeErr::OutOfMemory) => Err(AllocError),
         Err(_) => Ok(()),
+    }
+}
+
+// The names of those that are set of so many bits, if there are some, of the type with this name.
+fn push_bits(
+    lines: &mut Lines<'_>,
+    label: &'static str,
+    type_name: &str,
+    count: usize,
+    octets: &[u8],
+) -> Result<(), AllocError> {
+    let shapes = &lines.names.shapes;
+    let Some(leaf) = shapes.leaf_named(type_name) else {
+        return Ok(());
+    };
+    let bits = shapes.set_bits(lines.alloc, leaf, count, octets)?;
+    match bits_text(lines.alloc, &bits)? {
+        Some(names) => lines.line(label, &names),
+        None => Ok(()),
     }
 }
 
@@ -164,10 +178,10 @@ fn push_address(
     name: &Node<'_, '_>,
     text: &mut String,
 ) -> Result<(), AllocError> {
-    match address_text(lines.alloc, name.contents())? {
+    match Address::of(name.contents()) {
         Some(address) => {
             text.push_str("IP Address:")?;
-            text.push_str(&address)
+            text.push_str(&address.text(lines.alloc)?)
         }
         None => push_octets(lines, "IP Address:", name, text),
     }

@@ -3,7 +3,7 @@ use Rattle.std.proofs.Common.{◌≡◌, ◌≢◌, ◌⊎◌, inl, inr, ℕ, Bo
 use Rattle.std.proofs.lemmas.Bool.{false≢true}
 use Rattle.asn1_headers.specs.Header.{Encoding}
 use Rattle.asn1_headers.specs.declared.header.ASN1Class.{ASN1Class}
-use Rattle.asn1_headers.specs.declared.header.ASN1Class.TheVariants.{Universal}
+use Rattle.asn1_headers.specs.declared.header.ASN1Class.TheVariants.{Application, ContextSpecific, Private, Universal}
 use Rattle.asn1_blocks.specs.Contents.{group_tag, is_leaf_tag}
 use Rattle.asn1_blocks.specs.Grammar.{Encodes}
 use Rattle.asn1_blocks.specs.Tree.{Leaf, Tree, bit_string, boolean, generalized_time, integer, leaf, null, object_identifier, octet_string, text, unknown, utc_time}
@@ -11,9 +11,9 @@ use Rattle.asn1_blocks.specs.declared.block.GroupKind.{GroupKind}
 use Rattle.asn1_blocks.specs.declared.block.GroupKind.TheVariants.{Sequence, Set}
 use Rattle.asn1_blocks.proofs.Leaves.{TagKind-total, group_tag_of, leaf_tag_of, unknown_tag}
 use Rattle.dump_values.specs.Tags.{is_gone_into}
-use Rattle.dump_values.specs.Values.{IsBerTime, IsLeaf, IsValue, is_wide}
+use Rattle.dump_values.specs.Values.{HasValue, IsBerTime, IsLeaf, IsValue, is_wide}
 use Rattle.dump_values.specs.declared.value.LeafValue.{LeafValue}
-use Rattle.dump_values.specs.declared.value.LeafValue.TheVariants.{BerTime, Bits, Boolean, Identifier, Integer, Moment, NoText, Notation, Null, Octets, Other, OtherText, Tagged, Text, WideText}
+use Rattle.dump_values.specs.declared.value.LeafValue.TheVariants.{Address, BerTime, Bits, Boolean, Identifier, Integer, Moment, NoText, Notation, Null, Octets, Other, OtherText, Tagged, Text, WideText}
 
 -- an encoding that is not gone into is primitive
 pub is_gone_into-primitive : (class : ASN1Class) (constructed : Bool) (tag : ℕ) →
@@ -105,9 +105,30 @@ IsValue-encodes octets contents class k tag h (Moment shown) o e (inr (m, is, sa
 IsValue-encodes octets contents class k tag h (BerTime shown) o e time = inr (inl time)
 IsValue-encodes octets contents class k tag h (Other shown) o e ((u, none, has), other) =
     IsValue-encodes_unknown octets contents class k tag h e u none o
-IsValue-encodes octets contents class k tag h (Tagged value) o e other =
+IsValue-encodes octets contents class k tag h (Tagged shown) o e other =
+    inr (inr (unknown class k 0 tag contents, Encodes-tagged octets contents class k tag h e other o))
+IsValue-encodes octets contents class k tag h (Address address) o e other =
     inr (inr (unknown class k 0 tag contents, Encodes-tagged octets contents class k tag h e other o))
 IsValue-encodes octets contents class k tag h (NoText shown) o e (inl (wide, (kind, characters, is))) =
     IsValue-encodes_leaf octets contents class k tag h e (text kind characters) is
 IsValue-encodes octets contents class k tag h (NoText shown) o e (inr ((u, none, has), others)) =
     IsValue-encodes_unknown octets contents class k tag h e u none o
+
+-- contents octets that have a value, by their tag or by a type that a table says, are such
+pub HasValue-encodes :
+    (octets contents : List ℕ) (class : ASN1Class) (constructed : Bool) (tag header : ℕ) (value : LeafValue) →
+    is_gone_into class constructed tag ≡ false → Encoding octets class constructed tag contents header →
+    HasValue class tag contents value →
+    (is_wide class tag ≡ true) ⊎ (IsBerTime class tag contents ⊎ ((b : Tree ℕ) × Encodes 0 octets b))
+HasValue-encodes octets contents Universal k tag h value o e is =
+    IsValue-encodes octets contents Universal k tag h value o e (is refl)
+HasValue-encodes octets contents Application k tag h value o e is =
+    let other : Application ≢ Universal = λ z. absurd (cc z) in
+    inr (inr (unknown Application k 0 tag contents, Encodes-tagged octets contents Application k tag h e other o))
+HasValue-encodes octets contents ContextSpecific k tag h value o e is =
+    let other : ContextSpecific ≢ Universal = λ z. absurd (cc z) in
+    let unread = Encodes-tagged octets contents ContextSpecific k tag h e other o in
+    inr (inr (unknown ContextSpecific k 0 tag contents, unread))
+HasValue-encodes octets contents Private k tag h value o e is =
+    let other : Private ≢ Universal = λ z. absurd (cc z) in
+    inr (inr (unknown Private k 0 tag contents, Encodes-tagged octets contents Private k tag h e other o))

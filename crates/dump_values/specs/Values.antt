@@ -18,7 +18,7 @@ use Rattle.dump_values.specs.Faults.{IsFault, IsNamed}
 use Rattle.dump_values.specs.declared.faults.Fault.{Fault}
 use Rattle.dump_values.specs.declared.value.Identifier.{Identifier}
 use Rattle.dump_values.specs.declared.value.LeafValue.{LeafValue}
-use Rattle.dump_values.specs.declared.value.LeafValue.TheVariants.{BerTime, Bits, Boolean, Identifier as OfIdentifier, Integer, Moment as OfMoment, NoText, Notation, Null, Octets, Other, OtherText, Tagged, Text, WideText}
+use Rattle.dump_values.specs.declared.value.LeafValue.TheVariants.{Address, BerTime, Bits, Boolean, Identifier as OfIdentifier, Integer, Moment as OfMoment, NoText, Notation, Null, Octets, Other, OtherText, Tagged, Text, WideText}
 
 -- strings that the library takes for UTF-8 where X.690 has other characters: TeletexString, UniversalString, BMPString
 abbrev pub is_wide : ASN1Class → ℕ → Bool
@@ -88,15 +88,21 @@ IsValue class tag contents (Notation shown) = IsNoLeaf class tag true × (has_no
 IsValue class tag contents (OfMoment time) = IsMomentOf class tag contents (string_bytes time.text)
 IsValue class tag contents (BerTime time) = IsBerTime class tag contents
 IsValue class tag contents (Other shown) = IsNoLeaf class tag false × ((tag == ENUMERATED) ≡ false)
-IsValue class tag contents (Tagged value) = class ≢ Universal
+IsValue class tag contents (Tagged shown) = class ≢ Universal
+IsValue class tag contents (Address address) = class ≢ Universal
 IsValue class tag contents (NoText shown) =
     ((has_wide_characters class tag contents ≡ true)
     × ((kind : StringKind) × (characters : List ℕ) × IsLeaf class tag contents (text kind characters)))
     ⊎ (IsNoLeaf class tag true × (is_string tag contents ≡ false))
+
+-- contents octets with the tag of class Universal have the value. Under a tag of another class it is that of a type
+-- which a table says
+abbrev pub HasValue : ASN1Class → ℕ → List ℕ → LeafValue → Type 0
+HasValue class tag contents value = class ≡ Universal → IsValue class tag contents value
 
 -- the value of contents octets with the class and the tag, or what is wrong with them, at the offset
 abbrev pub IsMeaning : ASN1Class → ℕ → List ℕ → ℕ → Option LeafValue → Option Fault → Type 0
 IsMeaning class tag contents offset None fault =
     (class ≡ Universal)
     × ((found : DecodeFault) × LeafFault tag contents found × IsFault (IsNamed offset found) fault)
-IsMeaning class tag contents offset (Some value) fault = IsValue class tag contents value × (fault ≡ None)
+IsMeaning class tag contents offset (Some value) fault = HasValue class tag contents value × (fault ≡ None)

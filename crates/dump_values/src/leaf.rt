@@ -1,5 +1,5 @@
 // Contents octets of primitive encodings: their value, or what is wrong with them.
-ghost use Rattle.std.specs.Prelude.{◌≡◌, false, true, None, Some, IfErr, IfOk, IfSome};
+ghost use Rattle.std.specs.Prelude.{◌≡◌, ◌≢◌, false, true, None, Some, IfErr, IfOk, IfSome};
 ghost use Rattle.asn1_headers.specs.Fault.{OutOfMemoryOr};
 ghost use Rattle.asn1_headers.specs.declared.header.ASN1Class.TheVariants.{Universal};
 ghost use Rattle.asn1_headers.specs.declared.tags.TheConstants.{BIT_STRING, BMP_STRING, BOOLEAN, GENERALIZED_TIME, IA5_STRING, INTEGER, OBJECT_IDENTIFIER, OCTET_STRING, PRINTABLE_STRING, TELETEX_STRING, UNIVERSAL_STRING, UTC_TIME, UTF8_STRING};
@@ -9,11 +9,11 @@ ghost use Rattle.dump_values.specs.Values.{IsBerTime, IsMeaning, IsValue, has_wi
 ghost use Rattle.dump_values.specs.Strings.{has_text as has_text_is};
 
 use crate::faults::{Fault, leaf_fault};
-use crate::tag::{has_tag, universal_tag};
-use crate::value::{LeafValue, bits_of, identifier_of, likely_text, printed_text, tagged_value};
+use crate::tag::{has_tag, is_universal, universal_header, universal_tag};
+use crate::value::{LeafValue, bits_of, identifier_of, likely_text, printed_text};
 use crate::{
-    Characters, Role, Time, ber_time, fraction_digits, has_text, string_of, text_in_form, time_at,
-    value_text,
+    Address, Characters, Time, ber_time, fraction_digits, has_text, string_of, text_in_form,
+    time_at, value_text,
 };
 use asn1_blocks::contents::check_contents;
 use asn1_blocks::parsed::PlacedHeader;
@@ -39,14 +39,75 @@ pub struct Read {
     pub fault: Option<Fault>,
 }
 
-// The value of the contents octets of a primitive encoding with the header, which stands at the offset and has the role
-// in an extension, or what is wrong with them.
+// Of which type contents octets are.
+#[derive(Clone, Copy, Debug, Drop, PartialEq)]
+pub enum ContentsType {
+    // of the type that their tag says
+    OfTag,
+    // under a tag of another class, of the type with this tag of class Universal
+    Known(u8),
+    // under a tag of another class, octets that are an address
+    Address,
+}
+
+// The value of the contents octets of a primitive encoding with the header, which stands at the offset, or what is
+// wrong with them. Under a tag of another class than Universal, octets that are no value of their type are octets.
 pub fn read_contents(
     alloc: Global,
     header: &Header,
     contents: &[u8],
     offset: usize,
-    role: Role,
+    of: ContentsType,
+) -> Result<Read, AllocError>
+    ensures { IfOk result (λ read.
+        IsMeaning header.now.class header.now.tag contents.now offset read.value read.fault) }
+{
+    match told_value(alloc, header, contents, of)? {
+        Some(value) => Ok(right(value)),
+        None => read_by_tag(alloc, header, contents, offset),
+    }
+}
+
+// The value of contents octets of another class than Universal, if it is known of which type they are.
+fn told_value(
+    alloc: Global,
+    header: &Header,
+    contents: &[u8],
+    of: ContentsType,
+) -> Result<Option<LeafValue>, AllocError>
+    ensures { IfOk result (λ found. IfSome found (λ _. header.now.class ≢ Universal)) }
+{
+    if is_universal(header) {
+        return Ok(None);
+    }
+    match of {
+        ContentsType::OfTag => Ok(None),
+        ContentsType::Known(tag) => known_value(alloc, tag, contents),
+        ContentsType::Address => match Address::of(contents) {
+            Some(address) => Ok(Some(LeafValue::Address(address))),
+            None => Ok(None),
+        },
+    }
+}
+
+// The value of contents octets of the type with this tag of class Universal, if they have one. An IA5String has
+// characters of ASCII.
+fn known_value(alloc: Global, tag: u8, contents: &[u8]) -> Result<Option<LeafValue>, AllocError> {
+    if u64::from(tag) == IA5_STRING && !contents.is_ascii() {
+        return Ok(None);
+    }
+    let header = universal_header(alloc, tag, contents.len())?;
+    let Read { value, .. } = read_by_tag(alloc, &header, contents, 0)?;
+    Ok(value)
+}
+
+// The value of the contents octets of a primitive encoding with the header, which stands at the offset, or what is
+// wrong with them.
+pub fn read_by_tag(
+    alloc: Global,
+    header: &Header,
+    contents: &[u8],
+    offset: usize,
 ) -> Result<Read, AllocError>
     ensures { IfOk result (λ read.
         IsMeaning header.now.class header.now.tag contents.now offset read.value read.fault) }
@@ -54,7 +115,7 @@ pub fn read_contents(
     if let Some((form, text)) = characters_of(alloc, header, contents)? {
         return Ok(right(LeafValue::WideText(form, text)));
     }
-    let error = match value_of(alloc, header, contents, role) {
+    let error = match value_of(alloc, header, contents) {
         Ok(value) => return Ok(right(value)),
         Err(error) => error,
     };
@@ -81,39 +142,29 @@ fn right(value: LeafValue) -> Read
 }
 
 // The value of contents octets in which the library finds nothing wrong, where X.690 has no wider characters.
-fn value_of(
-    alloc: Global,
-    header: &Header,
-    contents: &[u8],
-    role: Role,
-) -> Result<LeafValue, ASN1DecodeErr>
+fn value_of(alloc: Global, header: &Header, contents: &[u8]) -> Result<LeafValue, ASN1DecodeErr>
     ensures found { IfOk result (IsValue header.now.class header.now.tag contents.now) }
     ensures refused { IfErr result (OutOfMemoryOr (λ e.
         (header.now.class ≡ Universal) × LeafFault header.now.tag contents.now e)) }
 {
     match header.class {
         ASN1Class::Universal => match header.tag.to_u64() {
-            Some(tag) => universal_value(alloc, tag, contents, role),
+            Some(tag) => universal_value(alloc, tag, contents),
             None => Ok(LeafValue::Other(likely_text(alloc, contents)?)),
         },
-        _ => Ok(LeafValue::Tagged(tagged_value(alloc, role, contents)?)),
+        _ => Ok(LeafValue::Tagged(likely_text(alloc, contents)?)),
     }
 }
 
-// The value of contents octets of class Universal, whose bits may have names.
-fn universal_value(
-    alloc: Global,
-    tag: u64,
-    contents: &[u8],
-    role: Role,
-) -> Result<LeafValue, ASN1DecodeErr>
+// The value of contents octets of class Universal.
+fn universal_value(alloc: Global, tag: u64, contents: &[u8]) -> Result<LeafValue, ASN1DecodeErr>
     ensures found { IfOk result (IsValue Universal tag contents.now) }
     ensures refused { IfErr result (OutOfMemoryOr (LeafFault tag contents.now)) }
 {
     match tag {
         BOOLEAN => boolean_value(contents),
         INTEGER => integer_value(alloc, contents),
-        BIT_STRING => bits_value(alloc, contents, role),
+        BIT_STRING => bits_value(alloc, contents),
         OCTET_STRING => octets_value(alloc, contents),
         NULL => Ok(LeafValue::Null),
         OBJECT_IDENTIFIER => identifier_value(alloc, contents),
@@ -143,11 +194,11 @@ fn integer_value(alloc: Global, contents: &[u8]) -> Result<LeafValue, ASN1Decode
     Ok(LeafValue::Integer(integer::read(alloc, contents)?))
 }
 
-fn bits_value(alloc: Global, contents: &[u8], role: Role) -> Result<LeafValue, ASN1DecodeErr>
+fn bits_value(alloc: Global, contents: &[u8]) -> Result<LeafValue, ASN1DecodeErr>
     ensures found { IfOk result (IsValue Universal BIT_STRING contents.now) }
     ensures refused { IfErr result (OutOfMemoryOr (LeafFault BIT_STRING contents.now)) }
 {
-    Ok(LeafValue::Bits(bits_of(alloc, role, contents)?))
+    Ok(LeafValue::Bits(bits_of(alloc, contents)?))
 }
 
 fn octets_value(alloc: Global, contents: &[u8]) -> Result<LeafValue, ASN1DecodeErr>

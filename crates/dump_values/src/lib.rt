@@ -1,8 +1,8 @@
-//! The values of contents octets, each worked out once, as data that lines and JSON show, and names of what extensions
-//! hold.
+//! The values of contents octets, each worked out once, as data that lines and JSON show.
 //!
-//! `leaf::read_contents` reads the contents octets of a primitive encoding to a `value::LeafValue`, or to the
-//! `faults::Fault` that says why they have none. `scalars` writes octets and characters, and `tag` compares tags.
+//! `leaf::read_contents` reads the contents octets of a primitive encoding, of the type that its tag says or of one
+//! that is known, to a `value::LeafValue`, or to the `faults::Fault` that says why they have none. An [`Address`] is
+//! one of IP. `scalars` writes octets and characters, and `tag` compares tags.
 //!
 //! Where X.690 has values that the library reads otherwise or not at all, they are read here: [`long_identifier`] is
 //! the object identifier of contents octets whose first subidentifier has more than one octet, and [`text_in_form`]
@@ -10,14 +10,11 @@
 //! Latin-1, which a TeletexString mostly has. [`string_of`] and [`value_text`] read types that the library does not,
 //! those that [`has_text`] tells. A [`Time`] is read by [`time_of`], in each form that BER has.
 //!
-//! [`extension_of`] finds the [`Extension`] of an object identifier, [`role_in`] what a block in it is; [`bit_names`]
-//! names bits, [`general_name`] an alternative of GeneralName, and [`address_text`] is an address.
-//!
 //! The only error is that memory ran out.
 #![tactic(auto)]
 
+mod address;
 mod characters;
-mod extensions;
 pub mod faults;
 mod identifier;
 pub mod leaf;
@@ -28,10 +25,8 @@ mod time;
 mod universal;
 pub mod value;
 
+pub use address::Address;
 pub use characters::{Characters, text_in_form};
-pub use extensions::{
-    Extension, NamedBits, Role, address_text, bit_names, extension_of, general_name, role_in,
-};
 pub use identifier::long_identifier;
 pub use moment::{Time, fraction_digits, time_at};
 pub use time::{ber_time, time_of};

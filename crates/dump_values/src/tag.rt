@@ -1,5 +1,5 @@
 // What the class and the tag of a header say.
-ghost use Rattle.std.specs.Prelude.{◌≡◌, ◌↔◌, ◌==◌, ◌≤◌, IfNone, IfSome, IsTrue};
+ghost use Rattle.std.specs.Prelude.{◌≡◌, ◌↔◌, ◌==◌, ◌≤◌, IfNone, IfOk, IfSome, IsTrue, false};
 ghost use Rattle.asn1_headers.specs.declared.header.ASN1Class.TheVariants.{Universal};
 ghost use Rattle.dump_values.specs.Tags.{is_gone_into};
 
@@ -7,6 +7,7 @@ use asn1_headers::header::ASN1Class;
 use asn1_headers::tags::{SEQUENCE, SET};
 use asn1_headers::whole_header::Header;
 use asn1_numbers::number::big_uint::BigUint;
+use std::alloc::{AllocError, Global};
 
 // Whether the contents octets are encodings: those of a constructed encoding, and of a SEQUENCE or SET.
 pub fn holds_encodings(header: &Header) -> bool
@@ -36,6 +37,23 @@ pub fn universal_tag(header: &Header) -> Option<u8>
         ASN1Class::Universal => header.tag.to_u8(),
         _ => None,
     }
+}
+
+// The header of a primitive encoding with this tag of class Universal, and so many contents octets, which has no octets
+// itself.
+pub fn universal_header(alloc: Global, tag: u8, announced: usize) -> Result<Header, AllocError>
+    ensures class { IfOk result (λ header. header.class ≡ Universal) }
+    ensures tag { IfOk result (λ header. header.tag ≡ tag) }
+    ensures primitive { IfOk result (λ header. header.constructed ≡ false) }
+{
+    Ok(Header {
+        class: ASN1Class::Universal,
+        constructed: false,
+        tag: BigUint::from_u64(alloc, u64::from(tag))?,
+        size: 0,
+        announced,
+        is_indefinite: false,
+    })
 }
 
 // Whether the tag number is this one.

@@ -7,10 +7,9 @@ ghost use Rattle.asn1_leaves.specs.DottedDecimal.{dotted_decimal};
 ghost use Rattle.dump_values.specs.Values.{HasShortFront, IsIdentifier};
 
 use crate::scalars::is_text;
-use crate::{Characters, Role, Time, address_text, bit_names, long_identifier};
+use crate::{Address, Characters, Time, long_identifier};
 use asn1_headers::error::ASN1DecodeErr;
 use asn1_leaves::contents::bit_string;
-use asn1_leaves::oid;
 use asn1_leaves::oid::OID;
 use asn1_numbers::number::big_int::BigInt;
 use std::alloc::{AllocError, Global};
@@ -19,7 +18,8 @@ use std::str;
 // How many octets of a string, or of another class, are shown as text at least: fewer may well be a number.
 const LEAST_TEXT: usize = 5;
 
-// The value of the contents octets of a primitive encoding in which nothing is wrong.
+// The value of the contents octets of a primitive encoding in which nothing is wrong. Under a tag of another class than
+// Universal it is that of the type which a table says, if that is known.
 #[derive(Drop)]
 pub enum LeafValue {
     // of a BOOLEAN
@@ -48,25 +48,30 @@ pub enum LeafValue {
     BerTime(Time),
     // of another type of class Universal: these octets, and their text where they may be some
     Other(Option<String>),
-    // of another class
-    Tagged(TaggedValue),
+    // of another class, of an unknown type, or none of its type: these octets, and their text where they may be some
+    Tagged(Option<String>),
+    // of another class, octets that are an address
+    Address(Address),
     // none, in octets that are no characters of the type; and their text where they may be some
     NoText(Option<String>),
 }
 
-// The value of contents octets of another class, as far as an extension tells of which type they are.
-#[derive(Drop)]
-pub enum TaggedValue {
-    // of an unknown type: these octets, and their text where they may be some
-    Octets(Option<String>),
-    // bits that have names
-    Bits(Bits),
-    // the text of an iPAddress
-    Address(String),
-    // of a registeredID, if it is an object identifier
-    Identifier(Option<Identifier>),
-    // the characters of another GeneralName
-    Text(String),
+impl LeafValue {
+    // The bits that it is, if it is some.
+    pub fn bits(&self) -> Option<&Bits> {
+        match self {
+            LeafValue::Bits(bits) => Some(bits),
+            _ => None,
+        }
+    }
+
+    // The object identifier that it is, if it is one.
+    pub fn identifier(&self) -> Option<&Identifier> {
+        match self {
+            LeafValue::Identifier(identifier) => Some(identifier),
+            _ => None,
+        }
+    }
 }
 
 // The value of a BIT STRING.
@@ -77,8 +82,6 @@ pub struct Bits {
     // how many more the octets have
     pub unused: usize,
     pub octets: Vec<u8>,
-    // the names of those that are set, if they have some
-    pub names: Option<String>,
 }
 
 // The value of an OBJECT IDENTIFIER.
@@ -131,8 +134,8 @@ fn dotted_of(alloc: Global, components: &OID) -> Result<Option<String>, AllocErr
     }
 }
 
-// The value of the contents octets of a BIT STRING, whose bits have names if the role says so.
-pub fn bits_of(alloc: Global, role: Role, contents: &[u8]) -> Result<Bits, ASN1DecodeErr>
+// The value of the contents octets of a BIT STRING.
+pub fn bits_of(alloc: Global, contents: &[u8]) -> Result<Bits, ASN1DecodeErr>
     ensures found { IfOk result (λ bits. BitStringContents bits.count bits.octets.items contents.now) }
     ensures refused { IfErr result (OutOfMemoryOr (BitStringFault contents.now)) }
 {
@@ -140,56 +143,8 @@ pub fn bits_of(alloc: Global, role: Role, contents: &[u8]) -> Result<Bits, ASN1D
     Ok(Bits {
         count,
         unused: octets.len().saturating_mul(8).saturating_sub(count),
-        names: names_of_bits(alloc, role, count, &octets)?,
         octets,
     })
-}
-
-// The names of those that are set of so many bits, if they have some.
-fn names_of_bits(
-    alloc: Global,
-    role: Role,
-    count: usize,
-    octets: &[u8],
-) -> Result<Option<String>, AllocError> {
-    let Role::Bits(kind) = role else {
-        return Ok(None);
-    };
-    let names = bit_names(alloc, kind, count, octets)?;
-    Ok(if names.is_empty() { None } else { Some(names) })
-}
-
-// The value of contents octets of another class, which have the role in an extension.
-pub fn tagged_value(alloc: Global, role: Role, contents: &[u8]) -> Result<TaggedValue, AllocError> {
-    match role {
-        Role::Plain => octets_value(alloc, contents),
-        Role::Bits(_) => match bits_of(alloc, role, contents) {
-            Ok(bits) => Ok(TaggedValue::Bits(bits)),
-            Err(ASN1DecodeErr::OutOfMemory) => Err(AllocError),
-            Err(_) => octets_value(alloc, contents),
-        },
-        Role::Name(7) => match address_text(alloc, contents)? {
-            Some(address) => Ok(TaggedValue::Address(address)),
-            None => octets_value(alloc, contents),
-        },
-        Role::Name(8) => Ok(TaggedValue::Identifier(registered_id(alloc, contents)?)),
-        Role::Name(_) => match text_from(alloc, contents, 0)? {
-            Some(text) => Ok(TaggedValue::Text(text)),
-            None => Ok(TaggedValue::Octets(None)),
-        },
-    }
-}
-
-fn octets_value(alloc: Global, contents: &[u8]) -> Result<TaggedValue, AllocError> {
-    Ok(TaggedValue::Octets(likely_text(alloc, contents)?))
-}
-
-fn registered_id(alloc: Global, contents: &[u8]) -> Result<Option<Identifier>, AllocError> {
-    match oid::read(alloc, contents) {
-        Ok(read) => Ok(Some(identifier_of(alloc, contents, read)?)),
-        Err(ASN1DecodeErr::OutOfMemory) => Err(AllocError),
-        Err(_) => Ok(None),
-    }
 }
 
 // The octets as text, where they are printed characters, and so many that they are hardly a number.

@@ -1,6 +1,7 @@
 -- What was read of the piece that begins octets, for the functions of `piece` and `strings::read_joined`.
 use Rattle.std.proofs.Common.{◌≡◌, inl, inr, ℕ, ◌+◌, ◌-◌, ◌<◌, ◌≤◌, Bool, true, false, List, [], ◌∷◌, ◌++◌, drop, length, take, slice_range, refl, sym, ap, ◌∙◌, subst, append_assoc, arith}
 use Rattle.std.proofs.Math.Seq.{take-add}
+use Rattle.std.proofs.lemmas.Bool.{false≢true}
 use Rattle.std.proofs.lemmas.List.{length-drop, length-take-le}
 use Rattle.std.specs.Prelude.{◌↔◌, ◌&&◌, IsTrue, Option, None, Some}
 use Rattle.asn1_departures.specs.declared.rule.Rule.{Rule}
@@ -13,6 +14,7 @@ use Rattle.dump_walk.specs.Fronts.{HasMeaning, IsFirst, IsJudged, Meaning, cut_s
 use Rattle.dump_walk.specs.Ends.{taken}
 use Rattle.asn1_headers.specs.Indefinite.{begins_with_end}
 use Rattle.dump_walk.specs.Headers.{is_stray_form}
+use Rattle.dump_walk.specs.Marks.{EndsWithZero}
 use Rattle.dump_values.specs.Tags.{is_gone_into}
 use Rattle.dump_walk.specs.Segments.{AreSegmentsOf}
 use Rattle.asn1_headers.specs.declared.header.ASN1Class.TheVariants.{Universal}
@@ -28,7 +30,7 @@ use Rattle.dump_values.specs.declared.faults.Fault.{Fault}
 use Rattle.dump_walk.specs.declared.piece.Piece.{Piece}
 use Rattle.dump_walk.specs.declared.place.Place.{Place}
 use Rattle.dump_values.specs.declared.value.LeafValue.{LeafValue}
-use Rattle.dump_values.proofs.Values.{IsValue-encodes}
+use Rattle.dump_values.proofs.Values.{HasValue-encodes}
 use Rattle.dump_walk.proofs.Seeking.{size-length_header}
 
 -- where no end-of-contents octets end what is left, what begins its octets comes next
@@ -52,7 +54,6 @@ IsPiece-first left offset place piece e some p = record {
   offset_is = p.offset_is;
   place_is = p.place_is;
   holding = p.holding;
-  no_list = p.no_list;
 }
 
 -- the offset of a fault at an offset is this offset
@@ -74,25 +75,39 @@ fault_offset-nameless offset fault = fault_offset-at (IsNameless offset) offset 
 
 -- the faults are what is wrong with the encoding with the header that begins the octets
 abbrev pub IsJudgedAs :
-    (left : List ℕ) → ℕ → ℕ → List Rule → Option Meaning → (header : Header) → IsAtFront left header → List ℕ → Type 0
-IsJudgedAs left offset depth rules meaning header h faults =
-    IsJudged left (header_front offset depth rules meaning header) header.class header.constructed header.tag
+    (left : List ℕ) → ℕ → ℕ → List Rule → Bool → Option Meaning → (header : Header) → IsAtFront left header → List ℕ →
+    Type 0
+IsJudgedAs left offset depth rules spare meaning header h faults =
+    IsJudged left (header_front offset depth rules spare meaning header) header.class header.constructed header.tag
     (is_stray_form header.constructed (drop (length h.identifier) left)) faults
 
 -- the octets have the meaning
-abbrev pub HasMeaningAs : List ℕ → ℕ → ℕ → List Rule → Option Meaning → Header → List ℕ → Type 0
-HasMeaningAs left offset depth rules meaning header faults =
-    HasMeaning left (header_front offset depth rules meaning header) header.class header.constructed header.tag faults
+abbrev pub HasMeaningAs : List ℕ → ℕ → ℕ → List Rule → Bool → Option Meaning → Header → List ℕ → Type 0
+HasMeaningAs left offset depth rules spare meaning header faults =
+    HasMeaning left (header_front offset depth rules spare meaning header) header.class header.constructed header.tag
+    faults
+
+-- where the encoding is marked as a list of named bits, it is a BIT STRING with a 0 at its end
+abbrev pub IsListAs : List ℕ → Bool → Header → Type 0
+IsListAs left spare header =
+    spare ≡ true → EndsWithZero (slice_range left header.size (header.size + header.announced))
+
+-- no encoding is marked that breaks no rule
+IsListAs-none : (left : List ℕ) (spare : Bool) (header : Header) → spare ≡ false → IsListAs left spare header
+IsListAs-none left spare header none is = absurd (false≢true (sym none ∙ is))
 
 -- a header at the front, with what is wrong, the meaning and the broken rules of its encoding, is an encoding that
 -- begins the octets
 IsFirst-begins :
-    (left : List ℕ) (offset depth : ℕ) (rules : List Rule) (meaning : Option Meaning) (header : Header) (opened : Bool)
-    (faults : List ℕ) (h : IsAtFront left header) → opened ≡ is_gone_into header.class header.constructed header.tag →
-    IsTrue header.is_indefinite ↔ HasIndefiniteForm left → IsJudgedAs left offset depth rules meaning header h faults →
-    HasMeaningAs left offset depth rules meaning header faults → AreFirstRules left header rules →
-    IsFirst left offset depth (header_front offset depth rules meaning header) opened faults
-IsFirst-begins left offset depth rules meaning header opened faults h o form judged means m = record {
+    (left : List ℕ) (offset depth : ℕ) (rules : List Rule) (spare : Bool) (meaning : Option Meaning)
+    (header : Header) (opened : Bool) (faults : List ℕ) (h : IsAtFront left header) →
+    opened ≡ is_gone_into header.class header.constructed header.tag →
+    IsTrue header.is_indefinite ↔ HasIndefiniteForm left →
+    IsJudgedAs left offset depth rules spare meaning header h faults →
+    HasMeaningAs left offset depth rules spare meaning header faults → AreFirstRules left header rules →
+    IsListAs left spare header →
+    IsFirst left offset depth (header_front offset depth rules spare meaning header) opened faults
+IsFirst-begins left offset depth rules spare meaning header opened faults h o form judged means m list = record {
   class = header.class;
   constructed = header.constructed;
   tag = header.tag;
@@ -104,7 +119,7 @@ IsFirst-begins left offset depth rules meaning header opened faults h o form jud
   form = form;
   judged = judged;
   rules = m h;
-  no_list = refl;
+  list = list;
   meaning = means;
 }
 
@@ -119,39 +134,49 @@ taken-cut false n there less = omega (arith, less)
 
 -- what begins the octets is an encoding that is cut short
 pub StartsWith-cut :
-    (left : List ℕ) (offset depth : ℕ) (header : Header) (step : Step) (faults : List ℕ) → IsAtFront left header →
+    (left : List ℕ) (offset depth : ℕ) (spare : Bool) (header : Header) (step : Step) (faults : List ℕ) →
+    spare ≡ false → IsAtFront left header →
     length left < header.size + header.announced → IsTrue header.is_indefinite ↔ HasIndefiniteForm left →
     IsTaken header (length left) step → faults ≡ offset ∷ [] →
-    StartsWith left offset depth (header_front offset depth [] None header) step faults
-StartsWith-cut left offset depth header (Into first all indefinite) faults h l form (o, p, q, i) e = (
+    StartsWith left offset depth (header_front offset depth [] spare None header) step faults
+StartsWith-cut left offset depth spare header (Into first all indefinite) faults none h l form (o, p, q, i) e = (
   p,
   q ∙ taken-cut header.is_indefinite (header.size + header.announced) (length left) l,
   i,
-  IsFirst-begins left offset depth [] None header true faults h (sym o) form (cut_short l e)
-      (inr (one_fault-not_empty faults offset e)) (λ f. of_cut l refl),
+  IsFirst-begins left offset depth [] spare None header true faults h (sym o) form (cut_short l e)
+      (inr (one_fault-not_empty faults offset e)) (λ f. of_cut l refl) (IsListAs-none left spare header none),
 )
-StartsWith-cut left offset depth header (Past all) faults h l form (o, q) e =
+StartsWith-cut left offset depth spare header (Past all) faults none h l form (o, q) e =
     inl (
       q ∙ taken-cut header.is_indefinite (header.size + header.announced) (length left) l,
-      IsFirst-begins left offset depth [] None header false faults h (sym o) form (cut_short l e)
-          (inr (one_fault-not_empty faults offset e)) (λ f. of_cut l refl),
+      IsFirst-begins left offset depth [] spare None header false faults h (sym o) form (cut_short l e)
+          (inr (one_fault-not_empty faults offset e)) (λ f. of_cut l refl) (IsListAs-none left spare header none),
     )
-StartsWith-cut left offset depth header (Out all) faults h l form none e = absurd none
+StartsWith-cut left offset depth spare header (Out all) faults none h l form no_step e = absurd no_step
 
 -- an encoding that is whole
 pub StartsWith-whole :
-    (left : List ℕ) (offset depth : ℕ) (rules : List Rule) (meaning : Option Meaning) (header : Header) (size : ℕ)
-    (step : Step) (faults : List ℕ) (h : IsAtFront left header) →
-    IsTrue header.is_indefinite ↔ HasIndefiniteForm left → IsJudgedAs left offset depth rules meaning header h faults →
-    HasMeaningAs left offset depth rules meaning header faults → AreFirstRules left header rules →
+    (left : List ℕ) (offset depth : ℕ) (rules : List Rule) (spare : Bool) (meaning : Option Meaning) (header : Header)
+    (size : ℕ) (step : Step) (faults : List ℕ) (h : IsAtFront left header) →
+    IsTrue header.is_indefinite ↔ HasIndefiniteForm left →
+    IsJudgedAs left offset depth rules spare meaning header h faults →
+    HasMeaningAs left offset depth rules spare meaning header faults → AreFirstRules left header rules →
+    IsListAs left spare header →
     IsTaken header size step → size ≡ taken header.is_indefinite (header.size + header.announced) (length left) →
-    StartsWith left offset depth (header_front offset depth rules meaning header) step faults
-StartsWith-whole left offset depth rules meaning header size (Into first all indefinite) faults h form judged means m
-    (o, p, q, i) is =
-    (p, q ∙ is, i, IsFirst-begins left offset depth rules meaning header true faults h (sym o) form judged means m)
-StartsWith-whole left offset depth rules meaning header size (Past all) faults h form judged means m (o, q) is =
-    inl (q ∙ is, IsFirst-begins left offset depth rules meaning header false faults h (sym o) form judged means m)
-StartsWith-whole left offset depth rules meaning header size (Out all) faults h form judged means m none is =
+    StartsWith left offset depth (header_front offset depth rules spare meaning header) step faults
+StartsWith-whole left offset depth rules spare meaning header size (Into first all indefinite) faults h form judged
+    means m list (o, p, q, i) is = (
+      p,
+      q ∙ is,
+      i,
+      IsFirst-begins left offset depth rules spare meaning header true faults h (sym o) form judged means m list,
+    )
+StartsWith-whole left offset depth rules spare meaning header size (Past all) faults h form judged means m list (o, q)
+    is = inl (
+      q ∙ is,
+      IsFirst-begins left offset depth rules spare meaning header false faults h (sym o) form judged means m list,
+    )
+StartsWith-whole left offset depth rules spare meaning header size (Out all) faults h form judged means m list none is =
     absurd none
 
 -- a header with all contents octets that it announces is an encoding at the front of the octets
@@ -177,61 +202,62 @@ Encoding-front left contents s n c k t h l e =
 
 -- what was found to be wrong with an encoding that is gone into is wrong with it
 pub IsJudgedAs-opened :
-    (left : List ℕ) (offset depth : ℕ) (rules : List Rule) (header : Header) (fault : Option Fault)
+    (left : List ℕ) (offset depth : ℕ) (rules : List Rule) (spare : Bool) (header : Header) (fault : Option Fault)
     (h : IsAtFront left header) → header.size + header.announced ≤ length left →
     is_gone_into header.class header.constructed header.tag ≡ true →
     IsOpenedFault (is_stray_form header.constructed (drop (length h.identifier) left)) offset fault →
-    IsJudgedAs left offset depth rules None header h (fault_offset fault)
-IsJudgedAs-opened left offset depth rules header fault h l o (inl (stray, is)) =
+    IsJudgedAs left offset depth rules spare None header h (fault_offset fault)
+IsJudgedAs-opened left offset depth rules spare header fault h l o (inl (stray, is)) =
     of_stray_form stray (fault_offset-nameless offset fault is)
-IsJudgedAs-opened left offset depth rules header fault h l o (inr (stray, none)) =
+IsJudgedAs-opened left offset depth rules spare header fault h l o (inr (stray, none)) =
     with_encodings l o stray (ap fault_offset none)
 
 -- what was found in contents octets judges a whole encoding that is not gone into and not of a stray form
 IsJudgedAs-meaning :
-    (left : List ℕ) (offset depth : ℕ) (rules : List Rule) (meaning : Option Meaning) (header : Header)
+    (left : List ℕ) (offset depth : ℕ) (rules : List Rule) (spare : Bool) (meaning : Option Meaning) (header : Header)
     (value : Option LeafValue) (fault : Option Fault) (h : IsAtFront left header) →
     header.size + header.announced ≤ length left →
     is_gone_into header.class header.constructed header.tag ≡ false →
     is_stray_form header.constructed (drop (length h.identifier) left) ≡ false →
     IsMeaning header.class header.tag (slice_range left header.size (header.size + header.announced)) offset value
     fault →
-    IsJudgedAs left offset depth rules meaning header h (fault_offset fault)
-IsJudgedAs-meaning left offset depth rules meaning header None fault h l o stray (u, (found, wrong, is)) =
+    IsJudgedAs left offset depth rules spare meaning header h (fault_offset fault)
+IsJudgedAs-meaning left offset depth rules spare meaning header None fault h l o stray (u, (found, wrong, is)) =
     with_no_value l o u found wrong (fault_offset-named offset found fault is)
-IsJudgedAs-meaning left offset depth rules meaning header (Some value) fault h l o stray (is, none) =
+IsJudgedAs-meaning left offset depth rules spare meaning header (Some value) fault h l o stray (is, none) =
     let contents = slice_range left header.size (header.size + header.announced) in
     with_value l o stray
-    (IsValue-encodes (take (header.size + header.announced) left) contents header.class header.constructed header.tag
+    (HasValue-encodes (take (header.size + header.announced) left) contents header.class header.constructed header.tag
     header.size value o
     (Encoding-front left contents header.size header.announced header.class header.constructed header.tag h l refl) is)
     (ap fault_offset none)
 
 -- what is wrong with an encoding that is not gone into
 pub IsJudgedAs-leaf :
-    (left : List ℕ) (offset depth : ℕ) (rules : List Rule) (meaning : Option Meaning) (header : Header)
+    (left : List ℕ) (offset depth : ℕ) (rules : List Rule) (spare : Bool) (meaning : Option Meaning) (header : Header)
     (value : Option LeafValue) (fault : Option Fault) (h : IsAtFront left header) →
     header.size + header.announced ≤ length left →
     is_gone_into header.class header.constructed header.tag ≡ false →
     IsLeafMeaning left header (drop (length h.identifier) left) offset value fault →
-    IsJudgedAs left offset depth rules meaning header h (fault_offset fault)
-IsJudgedAs-leaf left offset depth rules meaning header value fault h l o (inl (stray, none, is)) =
+    IsJudgedAs left offset depth rules spare meaning header h (fault_offset fault)
+IsJudgedAs-leaf left offset depth rules spare meaning header value fault h l o (inl (stray, none, is)) =
     of_stray_form stray (fault_offset-nameless offset fault is)
-IsJudgedAs-leaf left offset depth rules meaning header value fault h l o (inr (stray, is)) =
-    IsJudgedAs-meaning left offset depth rules meaning header value fault h l o stray is
+IsJudgedAs-leaf left offset depth rules spare meaning header value fault h l o (inr (stray, is)) =
+    IsJudgedAs-meaning left offset depth rules spare meaning header value fault h l o stray is
 
 -- the meaning of an encoding that is not gone into
 pub HasMeaningAs-leaf :
-    (left : List ℕ) (offset depth : ℕ) (rules : List Rule) (header : Header) (value : Option LeafValue)
+    (left : List ℕ) (offset depth : ℕ) (rules : List Rule) (spare : Bool) (header : Header) (value : Option LeafValue)
     (fault : Option Fault) (behind : List ℕ) → IsLeafMeaning left header behind offset value fault →
-    HasMeaningAs left offset depth rules
+    HasMeaningAs left offset depth rules spare
     (meaning_of (slice_range left header.size (header.size + header.announced)) value) header (fault_offset fault)
-HasMeaningAs-leaf left offset depth rules header None fault behind (inl (stray, none, is)) =
+HasMeaningAs-leaf left offset depth rules spare header None fault behind (inl (stray, none, is)) =
     inr (one_fault-not_empty (fault_offset fault) offset (fault_offset-nameless offset fault is))
-HasMeaningAs-leaf left offset depth rules header None fault behind (inr (stray, (u, (found, wrong, is)))) =
+HasMeaningAs-leaf left offset depth rules spare header None fault behind (inr (stray, (u, (found, wrong, is)))) =
     inr (one_fault-not_empty (fault_offset fault) offset (fault_offset-named offset found fault is))
-HasMeaningAs-leaf left offset depth rules header (Some value) fault behind (inl (stray, none, is)) = absurd (cc none)
-HasMeaningAs-leaf left offset depth rules header (Some value) fault behind (inr (stray, (is, none))) = (refl, is)
+HasMeaningAs-leaf left offset depth rules spare header (Some value) fault behind (inl (stray, none, is)) =
+    absurd (cc none)
+HasMeaningAs-leaf left offset depth rules spare header (Some value) fault behind (inr (stray, (is, none))) = (refl, is)
 
 -- the rules that were found for a whole encoding are those that it breaks
 pub AreFirstRules-whole :
@@ -257,5 +283,5 @@ IsValue-joined header whole contents joined value v fault u w t primitive closed
           (subst (λ z. is_gone_into whole.class false z ≡ false) t
           (subst (λ z. is_gone_into whole.class z whole.tag ≡ false) primitive closed)),
       subst (λ z. IsValue z header.tag joined v) class
-          (subst (λ z. IsValue whole.class z joined v) t meaning.0),
+          (subst (λ z. IsValue whole.class z joined v) t (meaning.0 w)),
     )

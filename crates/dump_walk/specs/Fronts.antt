@@ -14,9 +14,10 @@ use Rattle.dump_walk.specs.declared.cursor.End.{End}
 use Rattle.asn1_departures.specs.Departures.{AreBroken}
 use Rattle.asn1_departures.specs.declared.rule.Rule.{Rule}
 use Rattle.asn1_headers.specs.Names.{type_name}
-use Rattle.dump_values.specs.Values.{IsBerTime, IsValue, is_wide}
+use Rattle.dump_values.specs.Values.{HasValue, IsBerTime, is_wide}
 use Rattle.dump_values.specs.declared.value.LeafValue.{LeafValue}
 use Rattle.dump_walk.specs.Ends.{end_at, taken}
+use Rattle.dump_walk.specs.Marks.{EndsWithZero}
 use Rattle.asn1_headers.specs.Indefinite.{begins_with_end}
 
 -- a tag number in words: in decimal below 2^128
@@ -38,8 +39,8 @@ pub record Meaning : Type 0 where
 
 -- what the line of an encoding begins with: its offset, the sizes of its header and of the contents octets that it
 -- announces, whether its length is of the indefinite form, which announces none, how many encodings are around it, and
--- its tag in words; what its mark says: the rules of DER that it breaks, and whether it is a list of named bits with a
--- 0 at its end (X.690 11.2.2); and its contents octets with their value, if they have one
+-- its tag in words; what its mark says: the rules of DER that it breaks, and whether it is, by a type that is known, a
+-- list of named bits with a 0 at its end (X.690 11.2.2); and its contents octets with their value, if they have one
 pub record Front : Type 0 where
   pub offset : ℕ
   pub header : ℕ
@@ -123,7 +124,7 @@ HasMeaning octets front class constructed tag faults =
     MatchOption front.meaning
     ((is_gone_into class constructed tag ≡ true) ⊎ (0 < length faults))
     (λ meaning. (meaning.octets ≡ slice_range octets front.header (front.header + front.contents))
-    × IsValue class tag meaning.octets meaning.value)
+    × HasValue class tag meaning.octets meaning.value)
 
 -- an encoding begins the octets, which stand at the offset, inside so many others. Its contents octets may be cut short
 pub record IsFirst (octets : List ℕ) (offset depth : ℕ) (front : Front) (opened : Bool) (faults : List ℕ)
@@ -142,7 +143,8 @@ pub record IsFirst (octets : List ℕ) (offset depth : ℕ) (front : Front) (ope
       faults
   pub rules :
       AreRules octets header.identifier header.len front.header front.contents class constructed tag front.rules
-  pub no_list : front.has_spare_bits ≡ false
+  pub list :
+      front.has_spare_bits ≡ true → EndsWithZero (slice_range octets front.header (front.header + front.contents))
   pub meaning : HasMeaning octets front class constructed tag faults
 
 -- how many of the octets the encoding takes at most that begins them

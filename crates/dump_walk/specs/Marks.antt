@@ -1,5 +1,5 @@
 -- What a mark says: which rules of DER an encoding breaks, with their sections and in words.
-use Rattle.std.specs.Prelude.{Bool, true, false, ℕ, List, [], ◌∷◌, ◌++◌, codes, map}
+use Rattle.std.specs.Prelude.{◌≡◌, Bool, true, false, ℕ, ◌/◌, ◌%◌, ◌^◌, List, [], ◌∷◌, ◌++◌, codes, map}
 use Rattle.asn1_departures.specs.Rules.{section_of, text_of}
 use Rattle.asn1_departures.specs.declared.rule.Rule.{Rule}
 use Rattle.asn1_departures.specs.declared.rule.Rule.TheVariants.{LongIdentifier, PaddedTag, IndefiniteLength, LongLength, ReservedTag, NotConstructed, NotPrimitive, ConstructedString, BooleanSize, BooleanValue, NoInteger, PaddedInteger, SpecialReal, BinaryReal, DecimalReal, UnusedCount, UnusedOfNone, UnusedBits, NullContents, Subidentifiers, Iri, Characters, UtcTime, GeneralizedTime, Time, Order, NotEncodings, External, Identification}
@@ -44,6 +44,13 @@ name_of Identification = codes "Identification"
 
 abbrev pub rule_breach : Rule → Breach
 rule_breach rule = record { name = name_of rule; section = section_of rule; text = text_of rule }
+
+-- contents octets are those of a BIT STRING whose last bit is 0 (8.6.2): the first says how many bits of the last one
+-- are unused
+abbrev pub EndsWithZero : List ℕ → Type 0
+EndsWithZero contents =
+    (unused : ℕ) × (octets : List ℕ) × (last : ℕ) × (contents ≡ unused ∷ (octets ++ last ∷ []))
+    × (last / 2 ^ unused % 2 ≡ 0)
 
 -- a list of named bits has no 0 at its end (11.2.2). A schema alone tells which BIT STRING is one
 abbrev pub spare_breach : Breach

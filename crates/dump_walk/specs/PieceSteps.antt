@@ -1,5 +1,5 @@
 -- How the pieces of octets are gone over, step by step. Private contracts alone name these.
-use Rattle.std.specs.Prelude.{◌≡◌, ◌⊎◌, ◌&&◌, ℕ, ◌+◌, ◌<◌, true, false, List, [], ◌∷◌, length, slice_range, Option}
+use Rattle.std.specs.Prelude.{◌≡◌, ◌⊎◌, ◌&&◌, ℕ, ◌+◌, ◌<◌, Bool, true, false, List, [], ◌∷◌, length, slice_range, Option}
 use Rattle.dump_walk.specs.Fronts.{AreFronts, Front, IsFirst, Meaning, AreRules, size_in, tag_name, end_of_contents, unreadable}
 use Rattle.asn1_headers.specs.Indefinite.{begins_with_end}
 use Rattle.asn1_headers.specs.Front.{HasNoHeader, IsAtFront}
@@ -13,8 +13,8 @@ use Rattle.asn1_headers.specs.declared.whole_header.Header.{Header}
 use Rattle.dump_walk.specs.Steps.{ends_of}
 
 -- what the line of an encoding with the header and the meaning begins with
-abbrev pub header_front : ℕ → ℕ → List Rule → Option Meaning → Header → Front
-header_front offset depth rules meaning header = record {
+abbrev pub header_front : ℕ → ℕ → List Rule → Bool → Option Meaning → Header → Front
+header_front offset depth rules spare meaning header = record {
   offset = offset;
   header = header.size;
   contents = header.announced;
@@ -22,7 +22,7 @@ header_front offset depth rules meaning header = record {
   depth = depth;
   type_name = tag_name header.class header.tag;
   rules = rules;
-  has_spare_bits = false;
+  has_spare_bits = spare;
   meaning = meaning;
 }
 

@@ -136,10 +136,10 @@ kind_front offset depth rules spare kind = record {
   meaning = kind_meaning kind;
 }
 
--- what the line of a piece begins with in the octets that it is a piece of. These do not tell that it is a list of
--- named bits
+-- what the line of a piece begins with in the octets that it is a piece of
 abbrev pub front_of : ℕ → Piece → Front
-front_of depth piece = kind_front piece.offset depth piece.breaches.rules.items false piece.kind
+front_of depth piece =
+    kind_front piece.offset depth piece.breaches.rules.items piece.breaches.has_spare_bits piece.kind
 
 -- the encodings that a piece holds stand inside its contents octets
 abbrev pub IsHolding : List ℕ → PieceKind → Place → Option Nested → Type 0
@@ -155,7 +155,6 @@ pub record IsPieceAs (Starts : ℕ → Front → Step → List ℕ → Type 0) (
   pub offset_is : piece.offset ≡ offset
   pub place_is : piece.place ≡ place
   pub holding : IsHolding left piece.kind place piece.nested
-  pub no_list : place.is_inside ≡ false → piece.breaches.has_spare_bits ≡ false
 
 abbrev pub IsFirstPiece : List ℕ → ℕ → Place → Piece → Type 0
 IsFirstPiece left offset = IsPieceAs (StartsWith left offset) left offset
@@ -177,7 +176,6 @@ pub record Passes (old new : Walk) (piece : Piece) : Type 0 where
   pub documents : piece.place.documents ≡ old.place.documents
   pub most : piece.place.most_depth ≡ old.place.most_depth
   pub holding : IsHolding left piece.kind piece.place piece.nested
-  pub no_list : piece.place.is_inside ≡ false → piece.breaches.has_spare_bits ≡ false
   pub less : to_go new.cursor < to_go old.cursor
   pub same_octets : new.cursor.octets.now ≡ old.cursor.octets.now
   pub same_place : new.place ≡ old.place

@@ -6,7 +6,7 @@ ghost use Rattle.dump_walk.specs.declared.place.Around.TheVariants.{Nothing};
 use crate::cursor::Left;
 use crate::piece::{Piece, PieceKind};
 use crate::place::{Around, Place};
-use dump_shapes::{FieldWalk, Held, Shapes, Spot, Tag};
+use dump_shapes::{FieldWalk, Held, LeafType, Shapes, Spot, Tag};
 use std::alloc::{AllocError, Global};
 
 // How far the pieces of octets were gone over, as fields.
@@ -85,6 +85,11 @@ impl<'a> Fields<'a> {
         self.shape = None;
         self.walk = FieldWalk::over(alloc, self.shapes, root);
         Ok(())
+    }
+
+    // The type of the field, if it has no parts.
+    pub fn leaf_type(&self, spot: Spot) -> Option<LeafType> {
+        self.shapes.leaf_type(spot)
     }
 
     // What a string holds that is the field.

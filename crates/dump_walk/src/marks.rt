@@ -1,13 +1,12 @@
 // Which rules of DER an encoding breaks.
-ghost use Rattle.std.specs.Prelude.{◌≡◌, ◌++◌, ◌∷◌, ◌+◌, ◌<◌, ◌≤◌, [], IfOk, OnOk, false, length, map};
+ghost use Rattle.std.specs.Prelude.{◌≡◌, ◌++◌, ◌∷◌, ◌+◌, ◌≤◌, [], IfOk, OnOk, false, true, length, map, slice_range};
 ghost use Rattle.asn1_headers.specs.Front.{IsAtFront};
-ghost use Rattle.dump_walk.specs.Marks.{name_of as name_of_is, rule_breach as rule_breach_is, spare_if, breach_of, breaches_of, spare_breach as spare_breach_is};
+ghost use Rattle.dump_walk.specs.Marks.{EndsWithZero, name_of as name_of_is, rule_breach as rule_breach_is, spare_if, breach_of, breaches_of, spare_breach as spare_breach_is};
 ghost use Rattle.dump_walk.specs.PieceSteps.{AreRulesFound};
 
 use crate::place::Place;
 use asn1_departures::{Rule, broken_rules};
 use asn1_headers::whole_header::Header;
-use dump_values::{NamedBits, Role};
 use std::alloc::{AllocError, Global};
 
 // What of DER an encoding breaks.
@@ -15,7 +14,7 @@ use std::alloc::{AllocError, Global};
 pub struct Breaches {
     // the rules of the library that it breaks by itself
     pub rules: Vec<Rule>,
-    // whether it is a list of named bits that ends with a 0, as far as an extension tells that it is such a list
+    // whether it is a list of named bits that ends with a 0, as far as its type is known
     pub has_spare_bits: bool,
 }
 
@@ -110,7 +109,8 @@ pub fn find_breaches(
     requires front { IsAtFront left.now header.now }
     requires whole { header.now.size + header.now.announced ≤ length left.now }
     ensures rules { IfOk result (λ breaches. AreRulesFound left.now header.now breaches.rules.items) }
-    ensures spare { IfOk result (λ breaches. place.is_inside ≡ false → breaches.has_spare_bits ≡ false) }
+    ensures list { IfOk result (λ breaches. breaches.has_spare_bits ≡ true
+        → EndsWithZero (slice_range left.now header.now.size (header.now.size + header.now.announced))) }
 {
     let contents = &left[header.size..header.size + header.announced];
     Ok(Breaches {
@@ -121,33 +121,18 @@ pub fn find_breaches(
 
 // Whether contents octets at the place are a list of named bits that ends with a 0.
 fn has_spare_bits(place: Place, header: &Header, contents: &[u8]) -> bool
-    ensures { place.is_inside ≡ false → result ≡ false }
+    ensures { result ≡ true → EndsWithZero contents.now }
 {
-    if !place.is_inside {
-        return false;
-    }
-    match place.role(header) {
-        Role::Bits(NamedBits::KeyUsage | NamedBits::ReasonFlags) => {
-            !header.constructed && ends_with_zero(contents)
-        }
-        _ => false,
-    }
+    place.is_bit_list() && !header.constructed && ends_with_zero(contents)
 }
 
-// Whether the last bit of a BIT STRING is 0.
-fn ends_with_zero(contents: &[u8]) -> bool {
+// Whether contents octets are those of a BIT STRING whose last bit is 0.
+fn ends_with_zero(contents: &[u8]) -> bool
+    ensures { result ≡ true → EndsWithZero contents.now }
+{
     match contents {
-        [unused, octets @ ..] if *unused < 8 => has_zero(octets, *unused),
+        [unused, .., last] if *unused < 8 => *last / (1 << *unused) % 2 == 0,
         _ => false,
-    }
-}
-
-fn has_zero(octets: &[u8], unused: u8) -> bool
-    requires { unused < 8 }
-{
-    match octets.last() {
-        Some(octet) => *octet / (1 << unused) % 2 == 0,
-        None => false,
     }
 }
 

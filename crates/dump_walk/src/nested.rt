@@ -23,11 +23,13 @@ const OBJECT_IDENTIFIER: u8 = tags::OBJECT_IDENTIFIER as u8;
 
 const RELATIVE_OID: u8 = tags::RELATIVE_OID as u8;
 
-// Octets of a string which are encodings, and how many contents octets stand before them.
+// Octets of a string which are encodings, how many contents octets stand before them, and whether that they are
+// encodings is a guess, since nothing says it.
 #[derive(Clone, Copy)]
 pub struct Nested<'a> {
     pub octets: &'a [u8],
     pub before: usize,
+    pub is_guess: bool,
 }
 
 // The encodings inside contents octets of a string that stands at the place, if they are to be shown.
@@ -43,7 +45,7 @@ pub fn nested_in<'a>(
     if !place.shows_inside() {
         return Ok(None);
     }
-    match octets_inside(header, contents) {
+    match octets_inside(header, contents, place.held) {
         Some(nested) if hold(alloc, nested.octets, place.held)? => Ok(Some(nested)),
         _ => Ok(None),
     }
@@ -80,14 +82,23 @@ fn has_likely_type(header: &Header) -> bool {
         }
 }
 
-// The octets of a string in which encodings may stand: those of an OCTET STRING, and of a BIT STRING without unused
-// bits.
-fn octets_inside<'a>(header: &Header, contents: &'a [u8]) -> Option<Nested<'a>>
+// The octets of a string which holds this, in which encodings may stand: those of an OCTET STRING, and of a BIT STRING
+// without unused bits.
+fn octets_inside<'a>(header: &Header, contents: &'a [u8], held: Held) -> Option<Nested<'a>>
     ensures { IfSome result (λ h. StandAt contents.now h.before h.octets.now) }
 {
+    let is_guess = held == Held::Anything;
     match (universal_tag(header), contents) {
-        (Some(OCTET_STRING), octets) => Some(Nested { octets, before: 0 }),
-        (Some(BIT_STRING), [0, octets @ ..]) => Some(Nested { octets, before: 1 }),
+        (Some(OCTET_STRING), octets) => Some(Nested {
+            octets,
+            before: 0,
+            is_guess,
+        }),
+        (Some(BIT_STRING), [0, octets @ ..]) => Some(Nested {
+            octets,
+            before: 1,
+            is_guess,
+        }),
         _ => None,
     }
 }

@@ -18,12 +18,11 @@ use crate::tag::tag_name;
 use asn1_headers::error::ASN1DecodeErr;
 use asn1_headers::header::HeaderCount;
 use asn1_headers::whole_header::{Header, read_header};
-use dump_shapes::{Named, Shapes};
+use dump_shapes::{Named, SetBit, Shapes};
 use dump_values::faults::{Fault, fault_at};
-use dump_values::leaf::{Read, read_contents};
+use dump_values::leaf::{ContentsType, Read, read_contents};
 use dump_values::tag::holds_encodings;
-use dump_values::value::LeafValue;
-use dump_values::{Extension, Role};
+use dump_values::value::{Bits, LeafValue};
 use std::alloc::{AllocError, Global};
 
 // What stands at the front of octets.
@@ -118,10 +117,13 @@ impl<'a> Piece<'a> {
         }
     }
 
-    // The names of the field that it is, if it is one.
+    // The names of the field that it is, if it is one and they are shown.
     pub fn names(&self, shapes: &Shapes) -> Option<Named>
         ensures { IfSome result (AreNamesOf shapes.now self.now) }
     {
+        if self.place.is_plain {
+            return None;
+        }
         let spot = self.place.spot?;
         match &self.kind {
             PieceKind::EndOfContents(_) | PieceKind::Unreadable(_) => None,
@@ -138,11 +140,28 @@ impl<'a> Piece<'a> {
         }
     }
 
-    // The extension whose value a string is that comes next.
-    pub fn extension(&self) -> Extension {
+    // Whether that its octets hold encodings is a guess.
+    pub fn is_guess(&self) -> bool {
+        match &self.nested {
+            Some(nested) => nested.is_guess,
+            None => false,
+        }
+    }
+
+    // The bits of it that are set, with their names, if its type has names for bits.
+    pub fn set_bits(&self, alloc: Global, shapes: &Shapes) -> Result<Vec<SetBit>, AllocError> {
+        match (self.place.leaf, self.bits()) {
+            (Some(leaf), Some(bits)) => shapes.set_bits(alloc, leaf, bits.count, &bits.octets),
+            _ => Ok(Vec::new(alloc)),
+        }
+    }
+
+    // Its value, if that is bits.
+    fn bits(&self) -> Option<&Bits> {
         match &self.kind {
-            PieceKind::Leaf(header, contents, _) => self.place.next_after(header, contents),
-            _ => Extension::Other,
+            PieceKind::Leaf(_, _, Some(value)) => value.bits(),
+            PieceKind::Opened(_, _, Some(joined)) => joined.value.bits(),
+            _ => None,
         }
     }
 }
@@ -361,8 +380,8 @@ fn leaf<'a>(
     let contents = &left[header.size..header.size + header.announced];
     let breaches = find_breaches(alloc, left, &header, place)?;
     let nested = nested_in(alloc, &header, contents, place)?;
-    let role = place.role(&header);
-    let Read { value, fault } = read_leaf(alloc, left, &header, offset, role)?;
+    let of = place.contents_type();
+    let Read { value, fault } = read_leaf(alloc, left, &header, offset, of)?;
     let step = step_of(&header, size_of(left, &header));
     Ok(Piece {
         place,
@@ -375,13 +394,13 @@ fn leaf<'a>(
     })
 }
 
-// The value of the contents octets of a leaf, which has the role in an extension, or what is wrong with it.
+// The value of the contents octets of a leaf, which are of the type, or what is wrong with it.
 fn read_leaf(
     alloc: Global,
     left: &[u8],
     header: &Header,
     offset: usize,
-    role: Role,
+    of: ContentsType,
 ) -> Result<Read, AllocError>
     requires front { IsAtFront left.now header.now }
     requires whole { header.now.size + header.now.announced ≤ length left.now }
@@ -396,5 +415,5 @@ fn read_leaf(
         });
     }
     let contents = &left[header.size..header.size + header.announced];
-    read_contents(alloc, header, contents, offset, role)
+    read_contents(alloc, header, contents, offset, of)
 }

@@ -4,17 +4,9 @@ ghost use Rattle.dump_walk.specs.Fronts.{is_too_deep};
 
 use crate::style::Style;
 use crate::sum::checked_sum;
-use asn1_headers::header::ASN1Class;
-use asn1_headers::tags;
-use asn1_headers::whole_header::Header;
-use dump_shapes::{Held, Spot};
-use dump_values::tag::universal_tag;
-use dump_values::{Extension, Role, extension_of, role_in};
+use dump_shapes::{Held, LeafType, Spot, ValueRule};
+use dump_values::leaf::ContentsType;
 use std::alloc::AllocError;
-
-const BOOLEAN: u8 = tags::BOOLEAN as u8;
-
-const OBJECT_IDENTIFIER: u8 = tags::OBJECT_IDENTIFIER as u8;
 
 // How many documents are shown inside one another.
 const MOST_DOCUMENTS: usize = 8;
@@ -34,16 +26,15 @@ pub struct Place {
     pub is_full: bool,
     // the most levels that may be around a block that is shown, if there is a most
     pub most_depth: Option<usize>,
-    // the extension whose value they are, and how many levels are around that
-    pub extension: Extension,
-    pub value_depth: usize,
-    // the extension whose value the next string is
-    pub next: Extension,
+    // whether fields have no names
+    pub is_plain: bool,
     // whether they stand in a string that is constructed
     pub is_segment: bool,
     // which fields they are, as far as what is around them says it, and which field the one that stands here is
     pub around: Around,
     pub spot: Option<Spot>,
+    // its type, if that has no parts
+    pub leaf: Option<LeafType>,
     // what its octets are, if it is a string
     pub held: Held,
 }
@@ -74,16 +65,11 @@ pub fn outermost(style: Style) -> Place
         documents: if style.is_flat { 0 } else { MOST_DOCUMENTS },
         is_full: style.is_full,
         most_depth: style.most_depth,
-        extension: Extension::Other,
-        value_depth: 0,
-        next: Extension::Other,
+        is_plain: style.is_plain,
         is_segment: false,
-        around: if style.is_plain {
-            Around::Nothing
-        } else {
-            Around::Document(style.shape)
-        },
+        around: Around::Document(style.shape),
         spot: None,
+        leaf: None,
         held: Held::Anything,
     }
 }
@@ -100,14 +86,14 @@ impl Place {
         self.documents > 0 && !is_deep
     }
 
-    // The place of an encoding that stands so many levels further in, maybe in a string, and is this field, a string of
-    // which holds this; a string there is the value of the extension.
+    // The place of an encoding that stands so many levels further in, maybe in a string, and is this field of this
+    // type, a string of which holds this.
     pub fn deeper(
         self,
         levels: usize,
-        next: Extension,
         is_segment: bool,
         spot: Option<Spot>,
+        leaf: Option<LeafType>,
         held: Held,
     ) -> Result<Place, AllocError>
         ensures same { IfOk result (λ p. p.is_inside ≡ self.is_inside) }
@@ -119,9 +105,9 @@ impl Place {
     {
         Ok(Place {
             depth: checked_sum(self.depth, levels)?,
-            next,
             is_segment,
             spot,
+            leaf,
             held,
             ..self
         })
@@ -141,15 +127,13 @@ impl Place {
             base: offset,
             depth: checked_sum(self.depth, 1)?,
             documents: self.documents - 1,
-            extension: self.next,
-            value_depth: self.depth.saturating_add(1),
-            next: Extension::Other,
             is_segment: false,
             around: match self.spot {
                 Some(spot) => Around::String(spot),
                 None => Around::Nothing,
             },
             spot: None,
+            leaf: None,
             held: Held::Anything,
             ..self
         })
@@ -157,23 +141,20 @@ impl Place {
 }
 
 impl Place {
-    // What an encoding with the header is here.
-    pub fn role(self, header: &Header) -> Role {
-        let depth = self.depth.saturating_sub(self.value_depth);
-        match (header.class, header.tag.to_u64()) {
-            (ASN1Class::Universal, Some(tag)) => role_in(self.extension, depth, true, tag),
-            (ASN1Class::ContextSpecific, Some(tag)) => role_in(self.extension, depth, false, tag),
-            _ => Role::Plain,
+    // Of which type the contents octets of a primitive encoding here are.
+    pub fn contents_type(self) -> ContentsType {
+        match self.leaf {
+            Some(leaf) if leaf.rule == ValueRule::Address => ContentsType::Address,
+            Some(leaf) => ContentsType::Known(leaf.tag),
+            None => ContentsType::OfTag,
         }
     }
 
-    // The extension whose value a string is that comes after a primitive encoding here: of an object identifier its
-    // own, of a BOOLEAN that of what came before.
-    pub fn next_after(self, header: &Header, contents: &[u8]) -> Extension {
-        match universal_tag(header) {
-            Some(OBJECT_IDENTIFIER) => extension_of(contents),
-            Some(BOOLEAN) => self.next,
-            _ => Extension::Other,
+    // Whether a primitive encoding here is a list of named bits (X.680 22.2).
+    pub fn is_bit_list(self) -> bool {
+        match self.leaf {
+            Some(leaf) => leaf.rule == ValueRule::Named,
+            None => false,
         }
     }
 }

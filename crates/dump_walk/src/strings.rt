@@ -8,12 +8,9 @@ ghost use Rattle.dump_walk.specs.Pieces.{IsJoined};
 use crate::place::Place;
 use crate::segments::joined_segments;
 use crate::string_value::is_string_tag;
-use asn1_headers::header::ASN1Class;
 use asn1_headers::whole_header::Header;
-use asn1_numbers::number::big_uint::BigUint;
-use dump_values::Role;
-use dump_values::leaf::{Read, read_contents};
-use dump_values::tag::{holds_encodings, universal_tag};
+use dump_values::leaf::{Read, read_by_tag};
+use dump_values::tag::{holds_encodings, universal_header, universal_tag};
 use dump_values::value::LeafValue;
 use std::alloc::{AllocError, Global};
 
@@ -64,7 +61,7 @@ pub fn read_joined(
     let Some((whole, joined)) = joined_string(alloc, header, contents, place)? else {
         return Ok(None);
     };
-    let Read { value, .. } = read_contents(alloc, &whole, &joined, 0, Role::Plain)?;
+    let Read { value, .. } = read_by_tag(alloc, &whole, &joined, 0)?;
     match value {
         Some(value) => Ok(Some(Joined {
             contents: joined,
@@ -96,14 +93,7 @@ fn joined_string(
     let Some(joined) = joined_segments(alloc, tag, contents, header.is_indefinite)? else {
         return Ok(None);
     };
-    let whole = Header {
-        class: ASN1Class::Universal,
-        constructed: false,
-        tag: BigUint::from_u64(alloc, u64::from(tag))?,
-        size: 0,
-        announced: joined.len(),
-        is_indefinite: false,
-    };
+    let whole = universal_header(alloc, tag, joined.len())?;
     if holds_encodings(&whole) {
         return Ok(None);
     }

@@ -10,8 +10,7 @@ use crate::fields::Fields;
 use crate::piece::{Piece, read_piece};
 use crate::place::Place;
 use crate::strings::{is_in_string, string_around};
-use dump_shapes::{Held, Shapes, Spot};
-use dump_values::Extension;
+use dump_shapes::{Held, LeafType, Shapes, Spot};
 use std::alloc::{AllocError, Global};
 
 // How far the pieces of octets were gone over, which stand at the place.
@@ -19,8 +18,6 @@ use std::alloc::{AllocError, Global};
 pub struct Walk<'a> {
     pub cursor: Cursor<'a>,
     pub place: Place,
-    // the extension whose value the next string is
-    pub extension: Extension,
     // inside how many encodings the outermost string is that is open and constructed, if there is one
     pub string: Option<usize>,
     // which fields the pieces are, if they have names
@@ -44,7 +41,6 @@ impl<'a> Walk<'a> {
         Ok(Walk {
             cursor: Cursor::over(alloc, octets, false)?,
             place,
-            extension: Extension::Other,
             string: None,
             fields: Fields::at(alloc, shapes, place),
         })
@@ -64,13 +60,11 @@ impl<'a> Walk<'a> {
         let depth = self.cursor.depth();
         let is_segment = is_in_string(self.string, depth);
         let spot = spot_of(alloc, &mut self.fields, depth, left)?;
+        let leaf = leaf_type(&self.fields, spot);
         let held = held_in(&self.fields, spot);
-        let place = self
-            .place
-            .deeper(depth, self.extension, is_segment, spot, held)?;
+        let place = self.place.deeper(depth, is_segment, spot, leaf, held)?;
         let piece = read_piece(alloc, left, self.cursor.offset, place)?;
         self.cursor.go(piece.step)?;
-        self.extension = piece.extension();
         see(&mut self.fields, &piece);
         self.string = string_around(self.string, depth, piece.is_string());
         Ok(Some(piece))
@@ -90,6 +84,14 @@ fn spot_of(
     match fields {
         Some(fields) => fields.next(alloc, depth, left),
         None => Ok(None),
+    }
+}
+
+// The type of the field, if it is one, and has no parts.
+fn leaf_type(fields: &Option<Fields<'_>>, spot: Option<Spot>) -> Option<LeafType> {
+    match (fields, spot) {
+        (Some(fields), Some(spot)) => fields.leaf_type(spot),
+        _ => None,
     }
 }
 

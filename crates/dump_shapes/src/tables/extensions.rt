@@ -59,7 +59,16 @@ AuthorityKeyIdentifier ::= SEQUENCE
   authorityCertSerialNumber [2] CertificateSerialNumber OPTIONAL
 KeyIdentifier ::= OCTET STRING
 SubjectKeyIdentifier ::= OCTET STRING
-KeyUsage ::= BIT STRING
+KeyUsage ::= BIT STRING NAMED
+  0 digitalSignature
+  1 nonRepudiation
+  2 keyEncipherment
+  3 dataEncipherment
+  4 keyAgreement
+  5 keyCertSign
+  6 cRLSign
+  7 encipherOnly
+  8 decipherOnly
 -- RFC 3280, 4.2.1.4
 PrivateKeyUsagePeriod ::= SEQUENCE
   notBefore [0] GeneralizedTime OPTIONAL
@@ -108,7 +117,7 @@ GeneralName ::= CHOICE
   directoryName [4] EXPLICIT Name
   ediPartyName [5] EDIPartyName
   uniformResourceIdentifier [6] IA5String
-  iPAddress [7] OCTET STRING
+  iPAddress [7] Address.OCTET STRING
   registeredID [8] OBJECT IDENTIFIER
 AnotherName ::= SEQUENCE
   type-id OBJECT IDENTIFIER
@@ -161,7 +170,16 @@ DistributionPoint ::= SEQUENCE
 DistributionPointName ::= CHOICE
   fullName [0] GeneralNames
   nameRelativeToCRLIssuer [1] RelativeDistinguishedName
-ReasonFlags ::= BIT STRING
+ReasonFlags ::= BIT STRING NAMED
+  0 unused
+  1 keyCompromise
+  2 cACompromise
+  3 affiliationChanged
+  4 superseded
+  5 cessationOfOperation
+  6 certificateHold
+  7 privilegeWithdrawn
+  8 aACompromise
 InhibitAnyPolicy ::= INTEGER
 
 -- RFC 5280, 4.2.2
@@ -221,6 +239,13 @@ RootKeyThumb ::= SEQUENCE
 
 -- Netscape; MS-WCCE, 2.2.2.7.7; Entrust
 NetscapeCertType ::= BIT STRING
+  0 sslClient
+  1 sslServer
+  2 smime
+  3 objectSigning
+  5 sslCA
+  6 smimeCA
+  7 objectSigningCA
 CertificateTemplate ::= SEQUENCE
   templateID OBJECT IDENTIFIER
   templateMajorVersion INTEGER OPTIONAL

@@ -63,7 +63,7 @@ KDC-REQ ::= SEQUENCE
   padata [3] EXPLICIT SEQUENCE OF PA-DATA OPTIONAL
   req-body [4] EXPLICIT KDC-REQ-BODY
 KDC-REQ-BODY ::= SEQUENCE
-  kdc-options [0] EXPLICIT BIT STRING
+  kdc-options [0] EXPLICIT KDCOptions
   cname [1] EXPLICIT PrincipalName OPTIONAL
   realm [2] EXPLICIT Realm
   sname [3] EXPLICIT PrincipalName OPTIONAL
@@ -75,6 +75,22 @@ KDC-REQ-BODY ::= SEQUENCE
   addresses [9] EXPLICIT HostAddresses OPTIONAL
   enc-authorization-data [10] EXPLICIT Kerberos.EncryptedData OPTIONAL
   additional-tickets [11] EXPLICIT SEQUENCE OF Ticket OPTIONAL
+-- no list of named bits: the RFC has these names in comments, since there are 32 bits at least (5.2.8)
+KDCOptions ::= BIT STRING
+  1 forwardable
+  2 forwarded
+  3 proxiable
+  4 proxy
+  5 allow-postdate
+  6 postdated
+  8 renewable
+  11 opt-hardware-auth
+  15 canonicalize
+  26 disable-transited-check
+  27 renewable-ok
+  28 enc-tkt-in-skey
+  30 renew
+  31 validate
 KDC-REP ::= SEQUENCE
   pvno [0] EXPLICIT INTEGER
   msg-type [1] EXPLICIT MessageType.INTEGER
@@ -88,9 +104,12 @@ KDC-REP ::= SEQUENCE
 AP-REQ ::= SEQUENCE
   pvno [0] EXPLICIT INTEGER
   msg-type [1] EXPLICIT MessageType.INTEGER
-  ap-options [2] EXPLICIT BIT STRING
+  ap-options [2] EXPLICIT APOptions
   ticket [3] EXPLICIT Ticket
   authenticator [4] EXPLICIT Kerberos.EncryptedData
+APOptions ::= BIT STRING
+  1 use-session-key
+  2 mutual-required
 AP-REP ::= SEQUENCE
   pvno [0] EXPLICIT INTEGER
   msg-type [1] EXPLICIT MessageType.INTEGER
@@ -125,9 +144,17 @@ NegotiationToken ::= CHOICE
   negTokenResp [1] EXPLICIT NegTokenResp
 NegTokenInit ::= SEQUENCE
   mechTypes [0] EXPLICIT MechTypeList
-  reqFlags [1] EXPLICIT BIT STRING OPTIONAL
+  reqFlags [1] EXPLICIT ContextFlags OPTIONAL
   mechToken [2] EXPLICIT Held.OCTET STRING OPTIONAL
   mechListMIC [3] EXPLICIT OCTET STRING OPTIONAL
+ContextFlags ::= BIT STRING NAMED
+  0 delegFlag
+  1 mutualFlag
+  2 replayFlag
+  3 sequenceFlag
+  4 anonFlag
+  5 confFlag
+  6 integFlag
 MechTypeList ::= SEQUENCE OF MechType
 MechType ::= OBJECT IDENTIFIER
 NegTokenResp ::= SEQUENCE

@@ -254,7 +254,7 @@ BulkPDU ::= SEQUENCE
   variable-bindings VarBindList
 Trap-PDU ::= SEQUENCE
   enterprise OBJECT IDENTIFIER
-  agent-addr [APPLICATION 0] OCTET STRING
+  agent-addr [APPLICATION 0] IpAddress
   generic-trap GenericTrap
   specific-trap INTEGER
   time-stamp [APPLICATION 3] INTEGER
@@ -267,6 +267,8 @@ GenericTrap ::= INTEGER
   4 authenticationFailure
   5 egpNeighborLoss
   6 enterpriseSpecific
+-- RFC 2578, 2
+IpAddress ::= OCTET STRING ADDRESS
 VarBindList ::= SEQUENCE OF VarBind
 VarBind ::= SEQUENCE
   name OBJECT IDENTIFIER
@@ -276,7 +278,7 @@ VarBindValue ::= CHOICE
   string-value OCTET STRING
   objectID-value OBJECT IDENTIFIER
   unSpecified NULL
-  ipAddress-value [APPLICATION 0] OCTET STRING
+  ipAddress-value [APPLICATION 0] IpAddress
   counter-value [APPLICATION 1] INTEGER
   unsigned-integer-value [APPLICATION 2] INTEGER
   timeticks-value [APPLICATION 3] INTEGER

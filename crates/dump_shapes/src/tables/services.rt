@@ -105,7 +105,15 @@ PKIStatus ::= INTEGER
   4 revocationWarning
   5 revocationNotification
 PKIFreeText ::= SEQUENCE OF UTF8String
-PKIFailureInfo ::= BIT STRING
+PKIFailureInfo ::= BIT STRING NAMED
+  0 badAlg
+  2 badRequest
+  5 badDataFormat
+  14 timeNotAvailable
+  15 unacceptedPolicy
+  16 unacceptedExtension
+  17 addInfoNotAvailable
+  25 systemFailure
 TSTInfo ::= SEQUENCE
   version TSP.Version
   policy TSAPolicyId

@@ -29,6 +29,8 @@ NOTHING ::= KNOWN
 -- strings that may hold encodings, of which the type is not known
 Held.BIT STRING ::= BIT STRING HOLDING
 Held.OCTET STRING ::= OCTET STRING HOLDING
+-- octets that are an address of IP
+Address.OCTET STRING ::= OCTET STRING ADDRESS
 ANY ::= OPEN
 SEQUENCE OF INTEGER
 SEQUENCE OF OCTET STRING

@@ -11,13 +11,14 @@ returns c =
     let offset = c.args.offset in
     let header = c.args.header in
     let rules = c.in_ok-breaches.breaches.rules.items in
+    let spare = c.in_ok-breaches.breaches.has_spare_bits in
     let first = AreFirstRules-whole left header rules r.whole c.in_ok-breaches.ensures.rules in
     let fault = c.in_ok-fault.ensures r.front in
     record {
-      starts = λ depth. StartsWith-whole left offset depth rules None header c.size_of-size.result
+      starts = λ depth. StartsWith-whole left offset depth rules spare None header c.size_of-size.result
           c.step_of-step.result _ r.front r.form
-          (IsJudgedAs-opened left offset depth rules header _ r.front r.whole r.opened fault) (inl r.opened) first
-          c.step_of-step.ensures c.size_of-size.ensures;
+          (IsJudgedAs-opened left offset depth rules spare header _ r.front r.whole r.opened fault) (inl r.opened) first
+          c.in_ok-breaches.ensures.list c.step_of-step.ensures c.size_of-size.ensures;
       kind = (
         r.front,
         r.whole,
@@ -29,5 +30,4 @@ returns c =
       offset_is = refl;
       place_is = refl;
       holding = tt;
-      no_list = c.in_ok-breaches.ensures.spare;
     }

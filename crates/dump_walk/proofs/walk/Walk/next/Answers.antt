@@ -48,7 +48,6 @@ returns-clause-passes c =
       documents = ap (λ z. z.documents) p.place_is ∙ h.documents;
       most = ap (λ z. z.most_depth) p.place_is ∙ h.most;
       holding = subst (λ z. IsHolding left.octets.now piece.kind z piece.nested) (sym p.place_is) p.holding;
-      no_list = λ out. p.no_list (sym (ap (λ z. z.is_inside) p.place_is) ∙ out);
       less = omega (arith, less, no_more);
       same_octets = octets-step m n piece.step goes ∙ e.octets;
       same_place = refl;
