@@ -14,7 +14,7 @@ ghost use Rattle.der_forms.specs.Shown.{shown, shown_or};
 ghost use Rattle.der_forms.specs.declared.input.FormFault.TheVariants.{OutOfMemory};
 
 use crate::lines::{Lines, is_pem, without_mark};
-use crate::objects::{PemFault, fault_of_end, next_object};
+use crate::objects::{PemFault, PemObject, fault_of_end, next_object};
 use crate::text::text_of;
 use crate::unknown::{form_left_out, form_unknown};
 use crate::{base64_text, decoder};
@@ -297,31 +297,65 @@ pub fn document_of(alloc: Global, input: Vec<u8>) -> Result<Vec<u8>, FormFault>
     ensures octets { IfOk result (λ octets. document_is input.items ≡ Some octets.items) }
     ensures fault { IfErr result (λ e. (e ≡ OutOfMemory) ⊎ (document_is input.items ≡ None)) }
 {
+    match labelled_document_of(alloc, input) {
+        Ok(document) => Ok(document.octets),
+        Err(fault) => Err(fault),
+    }
+}
+
+/// A document of an input.
+#[derive(Debug, Drop)]
+pub struct LabelledDocument {
+    /// The label of its PEM object, if it is one.
+    pub label: Option<Vec<u8>>,
+    pub octets: Vec<u8>,
+}
+
+impl LabelledDocument {
+    // A document that is no object of PEM.
+    fn without(octets: Vec<u8>) -> LabelledDocument
+        ensures { result.octets ≡ octets }
+    {
+        LabelledDocument {
+            label: None,
+            octets,
+        }
+    }
+}
+
+/// The document whose octets [`document_of`] returns, with its label.
+///
+/// # Errors
+/// Those of `document_of`.
+pub fn labelled_document_of(alloc: Global, input: Vec<u8>) -> Result<LabelledDocument, FormFault>
+    ensures octets { IfOk result (λ document. document_is input.items ≡ Some document.octets.items) }
+    ensures fault { IfErr result (λ e. (e ≡ OutOfMemory) ⊎ (document_is input.items ≡ None)) }
+{
     match text_of(alloc, input) {
         Ok(text) => document_in(alloc, text),
         Err(_) => Err(FormFault::OutOfMemory),
     }
 }
 
-// The octets of a text's document.
-fn document_in(alloc: Global, text: Vec<u8>) -> Result<Vec<u8>, FormFault>
-    ensures octets { IfOk result (λ octets. document_in_text text.items ≡ Some octets.items) }
+// The document of a text.
+fn document_in(alloc: Global, text: Vec<u8>) -> Result<LabelledDocument, FormFault>
+    ensures octets { IfOk result (λ document. document_in_text text.items ≡ Some document.octets.items) }
     ensures fault { IfErr result (λ e. (e ≡ OutOfMemory) ⊎ (document_in_text text.items ≡ None)) }
 {
     match form_of(alloc, &text) {
         Ok(InputForm::Pem) => first_object(alloc, &text),
-        Ok(InputForm::Spelled(octets)) => Ok(octets),
+        Ok(InputForm::Spelled(octets)) => Ok(LabelledDocument::without(octets)),
         Ok(InputForm::OddDigits) => Err(FormFault::OddDigits),
         Ok(InputForm::OtherColumns) => Err(FormFault::OtherColumns),
         Ok(InputForm::LeftOut(line)) => Err(FormFault::LeftOut(line)),
         Ok(InputForm::Text(line)) => Err(FormFault::Text(line)),
-        Ok(InputForm::Der) => Ok(text),
+        Ok(InputForm::Der) => Ok(LabelledDocument::without(text)),
         Err(_) => Err(FormFault::OutOfMemory),
     }
 }
 
-fn first_object(alloc: Global, input: &[u8]) -> Result<Vec<u8>, FormFault>
-    ensures octets { IfOk result (λ octets. first_of (objects_of input.now) ≡ Some octets.items) }
+fn first_object(alloc: Global, input: &[u8]) -> Result<LabelledDocument, FormFault>
+    ensures octets { IfOk result (λ document. first_of (objects_of input.now) ≡ Some document.octets.items) }
     ensures fault { IfErr result (λ e. (e ≡ OutOfMemory) ⊎ (first_of (objects_of input.now) ≡ None)) }
 {
     let Ok(next) = next_object(alloc, Lines::of(input)) else {
@@ -331,13 +365,29 @@ fn first_object(alloc: Global, input: &[u8]) -> Result<Vec<u8>, FormFault>
         return Err(FormFault::Text(1));
     };
     let bad_end = fault_of_end(&object, after.before);
-    match object.octets {
+    let PemObject { label, octets, .. } = object;
+    match octets {
         Ok(octets) => match bad_end {
             Some((line, what)) => Err(FormFault::BadEnd(line, what)),
-            None => Ok(octets),
+            None => labelled(alloc, label, octets),
         },
         Err(PemFault::Encrypted) => Err(FormFault::Encrypted),
         Err(PemFault::OpenSsh) => Err(FormFault::OpenSsh),
         Err(PemFault::NoBase64(line)) => Err(FormFault::NoBase64(line)),
     }
+}
+
+// The octets of an object under its label.
+fn labelled(alloc: Global, label: &[u8], octets: Vec<u8>) -> Result<LabelledDocument, FormFault>
+    ensures octets { IfOk result (λ document. document.octets ≡ octets) }
+    ensures fault { IfErr result (λ e. e ≡ OutOfMemory) }
+{
+    let mut copy = Vec::new(alloc);
+    if copy.extend_from_slice(label).is_err() {
+        return Err(FormFault::OutOfMemory);
+    }
+    Ok(LabelledDocument {
+        label: Some(copy),
+        octets,
+    })
 }

@@ -14,7 +14,9 @@ mod objects;
 mod text;
 mod unknown;
 
-pub use input::{FormFault, InputForm, document_of, form_of};
+pub use input::{
+    FormFault, InputForm, LabelledDocument, document_of, form_of, labelled_document_of,
+};
 pub use lines::Lines;
 pub use objects::{Ending, PemFault, PemObject, fault_of_end, next_object};
 pub use text::text_of;

@@ -1,4 +1,3 @@
-mod Blocks
 mod Growing
 mod Printed
 mod Readers

@@ -11,9 +11,13 @@ use der_io::{StreamFault, write_part};
 use dump_lines::{Verdict, push_refusal};
 use dump_rows::{Look, Printer};
 use dump_shapes::DocumentType;
-use dump_text::{account_of, joined};
-use std::alloc::AllocError;
+use dump_text::{Account, account_of, joined};
+use dump_values::faults::Fault;
 use std::io::Write;
+
+// What is said of octets that have no account.
+const NO_ACCOUNT: &str =
+    "no certificate, certification request, list of revoked certificates or key";
 
 impl Show {
     // Writes the account of a document, or why it cannot be read.
@@ -25,33 +29,54 @@ impl Show {
         ensures refused { IfOk result (λ verdict. octets_in document.now.octets ≡ None → verdict ≡ Refused) }
         ensures grown { OnOk result (Grows (W.contents printer.old.out) (W.contents printer.new.out)) }
     {
+        printer.look = Look::Plain;
         match &document.octets {
-            Ok(octets) => self.write_account(self.type_of(document), octets, &mut printer.out),
-            Err(why) => {
-                printer.look = Look::Plain;
-                push_refusal(why, printer)
-            }
+            Ok(octets) => self.write_account(self.type_of(document), octets, printer),
+            Err(why) => push_refusal(why, printer),
         }
     }
 
-    // Writes the account of octets. They are rejected if they are of no known kind, and strictly if they are not DER.
+    // Writes the account of octets, or that they have none.
     fn write_account<W: Write>(
         &self,
         known: Option<DocumentType>,
         octets: &[u8],
-        out: &mut W,
+        printer: &mut Printer<W>,
     ) -> Result<Verdict, StreamFault>
-        ensures { OnOk result (Grows (W.contents out.old) (W.contents out.new)) }
+        ensures { OnOk result (Grows (W.contents printer.old.out) (W.contents printer.new.out)) }
     {
-        let account = account_of(self.alloc, &self.names, known, octets, self.time)?;
-        let text = joined(self.alloc, &account.lines)?;
-        write_part(out, text.as_bytes())?;
-        let verdict = self.verdict_of(account.is_known, octets)?;
-        Ok(verdict)
+        match account_of(self.alloc, &self.names, known, octets, self.time)? {
+            Some(account) => self.write_lines(account, octets, printer),
+            None => push_refusal(NO_ACCOUNT, printer),
+        }
     }
 
-    fn verdict_of(&self, is_known: bool, octets: &[u8]) -> Result<Verdict, AllocError> {
-        if !is_known {
+    // Writes an account of octets. They are rejected if they are no whole encodings, and strictly if they are not DER.
+    fn write_lines<W: Write>(
+        &self,
+        account: Account,
+        octets: &[u8],
+        printer: &mut Printer<W>,
+    ) -> Result<Verdict, StreamFault>
+        ensures { OnOk result (Grows (W.contents printer.old.out) (W.contents printer.new.out)) }
+    {
+        let Account { lines, fault } = account;
+        let text = joined(self.alloc, &lines)?;
+        write_part(&mut printer.out, text.as_bytes())?;
+        self.end_account(fault, octets, printer)
+    }
+
+    // Writes why the octets of an account are no whole encodings, if they are none. What came of them.
+    fn end_account<W: Write>(
+        &self,
+        fault: Option<Fault>,
+        octets: &[u8],
+        printer: &mut Printer<W>,
+    ) -> Result<Verdict, StreamFault>
+        ensures { OnOk result (Grows (W.contents printer.old.out) (W.contents printer.new.out)) }
+    {
+        if let Some(fault) = fault {
+            printer.push_fault(fault.offset, &fault.message)?;
             return Ok(Verdict::Refused);
         }
         if self.is_strict && !is_der(self.alloc, octets)? {

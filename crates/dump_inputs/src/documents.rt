@@ -1,11 +1,12 @@
-// The documents of an input, and the block that begins at an offset.
-ghost use Rattle.std.specs.Prelude.{◌≡◌, IfOk, MatchOption};
-ghost use Rattle.dump_inputs.specs.Blocks.{IsBlockAt, IsContentsAt, IsValueAt, octets_in};
-ghost use Rattle.dump_walk.specs.Elements.{HasContents, IsElement};
-ghost use Rattle.dump_walk.specs.StringOctets.{HoldsNoOctets, HoldsOctets};
+// The documents of an input.
+ghost use Rattle.std.specs.Prelude.{◌≡◌, IfErr, IfOk, None, Some};
+ghost use Rattle.der_forms.specs.Objects.{document_of};
 
-use der_forms::{FormFault, InputForm, PemFault, PemObject, document_of, form_of, text_of};
-use dump_walk::{NoBlock, NoString, behind_header, block_at, string_octets};
+use der_forms::{
+    FormFault, InputForm, LabelledDocument, PemFault, PemObject, form_of, labelled_document_of,
+    text_of,
+};
+use dump_shapes::Spot;
 use std::alloc::{AllocError, Global};
 
 // A document of an input: its octets, or why they cannot be read, under its label, if it has one.
@@ -13,6 +14,8 @@ use std::alloc::{AllocError, Global};
 pub struct Document {
     pub label: Option<Vec<u8>>,
     pub octets: Result<Vec<u8>, String>,
+    // the field that it is, if it is a block of another document, in which it has a name
+    pub field: Option<Spot>,
 }
 
 // What an input has: objects of PEM in this text, or one document.
@@ -48,6 +51,7 @@ pub fn unlabelled(octets: Result<Vec<u8>, String>) -> Document
     Document {
         label: None,
         octets,
+        field: None,
     }
 }
 
@@ -68,6 +72,7 @@ pub fn object_document(alloc: Global, object: PemObject<'_>) -> Result<Document,
     Ok(Document {
         label: Some(label),
         octets,
+        field: None,
     })
 }
 
@@ -90,102 +95,23 @@ fn octets_of(
     }
 }
 
-// The block that begins at the offset in the document of an input, the first one of PEM, or why there is none.
-pub fn block_of(
+// The document of an input, the first one of PEM, or why there is none.
+pub fn first_document(
     alloc: Global,
     input: Vec<u8>,
-    offset: usize,
-) -> Result<Result<Vec<u8>, String>, AllocError>
-    ensures { IfOk result (λ block. IsBlockAt offset input.items (octets_in block)) }
+) -> Result<Result<LabelledDocument, String>, AllocError>
+    ensures found { IfOk result (λ found. IfOk found (λ document.
+        document_of input.items ≡ Some document.octets.items)) }
+    ensures none { IfOk result (λ found. IfErr found (λ _. document_of input.items ≡ None)) }
 {
-    let document = match document_of(alloc, input) {
-        Ok(document) => document,
-        Err(FormFault::OutOfMemory) => return Err(AllocError),
-        Err(fault) => return Ok(Err(fault_text(alloc, &fault)?)),
-    };
-    match block_at(alloc, &document, offset)? {
-        Ok(block) => Ok(Ok(copy_of(alloc, block)?)),
-        Err(why) => Ok(Err(no_block_text(alloc, why, offset)?)),
+    match labelled_document_of(alloc, input) {
+        Ok(document) => Ok(Ok(document)),
+        Err(FormFault::OutOfMemory) => Err(AllocError),
+        Err(fault) => Ok(Err(fault_text(alloc, &fault)?)),
     }
 }
 
-// Why no block begins at the offset.
-fn no_block_text(alloc: Global, why: NoBlock, offset: usize) -> Result<String, AllocError> {
-    match why {
-        NoBlock::EndOfContents => {
-            format!(in alloc;
-                "no block begins at offset {offset}: it is the end of an indefinite length"
-            )
-        }
-        NoBlock::Unreadable => {
-            format!(in alloc; "no block begins at offset {offset}: the bytes there are no header")
-        }
-        NoBlock::CutShort => format!(in alloc; "the block at offset {offset} is cut short"),
-        NoBlock::Nothing => format!(in alloc; "no block begins at offset {offset}"),
-    }
-}
-
-// The contents octets of the block that begins at the offset, or why there are none.
-pub fn contents_of(
-    alloc: Global,
-    input: Vec<u8>,
-    offset: usize,
-) -> Result<Result<Vec<u8>, String>, AllocError>
-    ensures { IfOk result (λ contents. IsContentsAt offset input.items (octets_in contents)) }
-{
-    match block_of(alloc, input, offset)? {
-        Ok(block) => Ok(Ok(without_header(alloc, &block)?)),
-        Err(why) => Ok(Err(why)),
-    }
-}
-
-// The octets that the string at the offset holds, or why there are none.
-pub fn value_of(
-    alloc: Global,
-    input: Vec<u8>,
-    offset: usize,
-) -> Result<Result<Vec<u8>, String>, AllocError>
-    ensures { IfOk result (λ value. IsValueAt offset input.items (octets_in value)) }
-{
-    match block_of(alloc, input, offset)? {
-        Ok(block) => octets_held(alloc, &block, offset),
-        Err(why) => Ok(Err(why)),
-    }
-}
-
-// The octets that a string holds which begins at the offset, or why a block holds none.
-fn octets_held(
-    alloc: Global,
-    block: &[u8],
-    offset: usize,
-) -> Result<Result<Vec<u8>, String>, AllocError>
-    ensures { IfOk result (λ held. MatchOption (octets_in held)
-        (HoldsNoOctets block.now)
-        (HoldsOctets block.now)) }
-{
-    match string_octets(alloc, block)? {
-        Ok(octets) => Ok(Ok(octets)),
-        Err(NoString::OtherType) => {
-            Ok(Err(format!(in alloc; "the block at offset {offset} is no string")?))
-        }
-        Err(NoString::Malformed) => {
-            Ok(Err(format!(in alloc; "the string at offset {offset} is malformed")?))
-        }
-    }
-}
-
-// The contents octets of an element.
-fn without_header(alloc: Global, block: &[u8]) -> Result<Vec<u8>, AllocError>
-    requires { IsElement block.now }
-    ensures { IfOk result (λ contents. HasContents block.now contents.items) }
-{
-    match behind_header(alloc, block)? {
-        Some(contents) => copy_of(alloc, contents),
-        None => unreachable!(),
-    }
-}
-
-fn copy_of(alloc: Global, octets: &[u8]) -> Result<Vec<u8>, AllocError>
+pub fn copy_of(alloc: Global, octets: &[u8]) -> Result<Vec<u8>, AllocError>
     ensures { IfOk result (λ copy. copy.items ≡ octets.now) }
 {
     let mut copy = Vec::new(alloc);

@@ -15,6 +15,7 @@
 mod account;
 mod appended;
 mod before;
+mod blocks;
 mod documents;
 mod json;
 mod objects;

@@ -5,9 +5,7 @@ ghost use Rattle.dump_inputs.specs.Growing.{Grows};
 ghost use Rattle.dump_inputs.specs.declared.outcome.Outcome.TheVariants.{Written};
 ghost use Rattle.dump_lines.specs.declared.document.Verdict.TheVariants.{Refused};
 
-use crate::documents::{
-    Document, Documents, bad_end_document, documents_of, object_document, unlabelled,
-};
+use crate::documents::{Document, Documents, bad_end_document, documents_of, object_document};
 use crate::outcome::Outcome;
 use crate::show::{Show, both_verdicts};
 use der_forms::{Lines, PemObject, fault_of_end, next_object};
@@ -34,14 +32,14 @@ impl Show {
     pub fn push_block<W: Write>(
         &self,
         name: &str,
-        block: Result<Vec<u8>, String>,
+        block: Document,
         printer: &mut Printer<W>,
     ) -> Result<Outcome, StreamFault>
-        ensures refused { IfOk result (λ outcome. octets_in block ≡ None → outcome ≡ Written Refused) }
+        ensures refused { IfOk result (λ outcome. octets_in block.octets ≡ None → outcome ≡ Written Refused) }
         ensures grown { OnOk result (Grows (W.contents printer.old.out) (W.contents printer.new.out)) }
     {
         let file = self.push_file(name, printer)?;
-        self.push_document(file, &unlabelled(block), printer)
+        self.push_document(file, &block, printer)
     }
 
     // Writes the name of an input, and returns it, where names are shown.

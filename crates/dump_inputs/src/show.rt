@@ -13,6 +13,7 @@ use dump_names::{Names, OwnNames};
 use dump_options::{Color, Options, Task};
 use dump_rows::{Look, Printer, push_foot, push_head};
 use dump_shapes::{DocumentType, Shapes};
+use dump_walk::style::Known;
 use jiff::civil::DateTime;
 use std::alloc::{AllocError, Global};
 use std::io::Write;
@@ -58,7 +59,7 @@ impl Show {
         ensures task { IfOk result (λ show. show.task ≡ options.now.task) }
         ensures page { IfOk result (λ show. options.now.is_html ≡ false → is_page show.format ≡ false) }
     {
-        let names = Names::with(alloc, own)?.with_fields(shapes_for(alloc, options.task)?);
+        let names = Names::with(alloc, own)?.with_fields(Shapes::new(alloc)?);
         let named_type = match options.type_name {
             Some(name) => names.shapes.named_type(name),
             None => None,
@@ -76,7 +77,7 @@ impl Show {
                 is_flat: options.is_flat,
                 most_depth: options.most_depth,
                 is_plain: options.is_plain,
-                shape: None,
+                known: Known::Nothing,
             },
             named_type,
             time,
@@ -199,20 +200,35 @@ impl Show {
 
     // How a document is shown.
     pub fn style_of(&self, document: &Document) -> Style {
+        let known = match document.field {
+            Some(spot) => Known::Field(spot),
+            None => self.known_of(document.label.as_deref()),
+        };
         Style {
-            shape: self.type_of(document).map(|known| known.shape),
+            known,
             ..self.style
+        }
+    }
+
+    // What is known of a document with the label.
+    pub fn known_of(&self, label: Option<&[u8]>) -> Known {
+        match self.type_labelled(label) {
+            Some(known) => Known::Shape(known.shape),
+            None => Known::Nothing,
         }
     }
 
     // The type that a document is known to be of: the one that is named, or else the one that its label says.
     pub fn type_of(&self, document: &Document) -> Option<DocumentType> {
-        self.named_type.or_else(|| self.type_of_label(document))
+        self.type_labelled(document.label.as_deref())
     }
 
-    // The type that the label of a document says.
-    fn type_of_label(&self, document: &Document) -> Option<DocumentType> {
-        let label = document.label.as_deref()?;
+    fn type_labelled(&self, label: Option<&[u8]>) -> Option<DocumentType> {
+        self.named_type.or_else(|| self.type_of_label(label?))
+    }
+
+    // The type that a label says.
+    fn type_of_label(&self, label: &[u8]) -> Option<DocumentType> {
         self.names.shapes.labelled_type(str::from_utf8(label).ok()?)
     }
 
@@ -344,15 +360,6 @@ pub fn both_verdicts(a: Verdict, b: Verdict) -> Verdict {
     match a {
         Verdict::AllRead => b,
         Verdict::Refused => Verdict::Refused,
-    }
-}
-
-// The shapes by which fields are named and values are read, and by which an account knows what a document is. Octets
-// and values that are written as they are need none.
-fn shapes_for(alloc: Global, task: Task) -> Result<Shapes, AllocError> {
-    match task {
-        Task::Dump | Task::At(_) => Shapes::new(alloc),
-        _ => Ok(Shapes::none(alloc)),
     }
 }
 

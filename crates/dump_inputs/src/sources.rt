@@ -2,20 +2,17 @@
 ghost use Rattle.std.specs.Prelude.{◌≡◌, IfOk, IfErr, IfSome, IsErr, IsSome, map};
 ghost use Rattle.std.specs.Io.KnownBytes.{IsAtEnd};
 ghost use Rattle.der_io.specs.Output.{IsWritten};
-ghost use Rattle.dump_inputs.specs.Blocks.{octets_in};
 ghost use Rattle.dump_inputs.specs.Growing.{Grows};
-ghost use Rattle.dump_inputs.specs.Inputs.{AreReadToEnds, IsFramed, IsInputText, IsPart, IsReadToEnd, IsTaskText, is_page};
+ghost use Rattle.dump_inputs.specs.Inputs.{AreReadToEnds, IsFramed, IsInputText, IsReadToEnd, IsTaskText, is_page};
 ghost use Rattle.dump_inputs.specs.Outcomes.{greatest_status};
 ghost use Rattle.dump_inputs.specs.Texts.{AreTexts};
 ghost use Rattle.der_io.specs.declared.StreamFault.TheVariants.{Memory as memory_fault};
 
 use crate::appended::Appended;
 use crate::before::Before;
-use crate::documents::{block_of, contents_of, value_of};
 use crate::outcome::{Outcome, greatest};
 use crate::show::Show;
-use der_io::{StreamFault, flush, read_all, write_part};
-use dump_lines::Verdict;
+use der_io::{StreamFault, flush, read_all};
 use dump_names::OwnNames;
 use dump_options::{Options, Task};
 use dump_rows::{Look, Printer};
@@ -183,36 +180,10 @@ fn push_input<W: Write>(
 {
     match show.task {
         Task::Dump => show.push_named(name, input, printer),
-        Task::At(offset) => {
-            let block = block_of(show.alloc, input, offset)?;
-            show.push_block(name, block, printer)
-        }
-        Task::Extract(offset) => {
-            let part = block_of(show.alloc, input, offset)?;
-            push_part(part, &mut printer.out)
-        }
-        Task::Contents(offset) => {
-            let part = contents_of(show.alloc, input, offset)?;
-            push_part(part, &mut printer.out)
-        }
-        Task::Value(offset) => {
-            let part = value_of(show.alloc, input, offset)?;
-            push_part(part, &mut printer.out)
-        }
-    }
-}
-
-// Writes octets as they stand. Where there are none, the outcome says why.
-fn push_part<W: Write>(part: Result<Vec<u8>, String>, out: &mut W) -> Result<Outcome, StreamFault>
-    ensures { IfOk result (λ outcome. IsWritten (IsPart (octets_in part) outcome)
-        (W.contents out.old) (W.contents out.new)) }
-{
-    match part {
-        Ok(octets) => {
-            write_part(out, &octets)?;
-            Ok(Outcome::Written(Verdict::AllRead))
-        }
-        Err(why) => Ok(Outcome::Lacking(why)),
+        Task::At(offset) => show.push_at(name, input, offset, printer),
+        Task::Extract(offset) => show.push_extracted(input, offset, &mut printer.out),
+        Task::Contents(offset) => show.push_contents(input, offset, &mut printer.out),
+        Task::Value(offset) => show.push_value(input, offset, &mut printer.out),
     }
 }
 

@@ -1,6 +1,5 @@
 -- Lines are put after lines, for `document`, `encodings` and `lines::push_mark`.
-use Rattle.std.proofs.Common.{◌≡◌, ℕ, zero, suc, ◌+◌, ◌-◌, ◌<◌, List, [], ◌∷◌, ◌++◌, codes, drop, if◌then◌else◌, replicate, Bool, true, false, refl, sym, ap, ◌∙◌, subst, append_assoc, arith, length}
-use Rattle.std.proofs.lemmas.List.{drop-drop}
+use Rattle.std.proofs.Common.{◌≡◌, ℕ, ◌+◌, ◌-◌, ◌<◌, List, [], ◌∷◌, ◌++◌, codes, if◌then◌else◌, replicate, Bool, true, false, refl, sym, ap, ◌∙◌, subst, append_assoc, arith, length}
 use Rattle.std.specs.Fmt.{decimal}
 use Rattle.std.specs.Prelude.{Option}
 use Rattle.dump_lines.specs.Dump.{IsBlockLine, IsDump, StandsInside, block_line, down_to, inside_line, no_lines}
@@ -8,6 +7,7 @@ use Rattle.dump_walk.specs.Fronts.{Front, StandAt, is_too_deep}
 use Rattle.dump_walk.specs.Marks.{Breach, breaches_of}
 use Rattle.dump_lines.specs.MarkText.{mark_text, breaches_text}
 use Rattle.dump_lines.specs.Steps.{IsLineOf, IsLineUnless, outer}
+use Rattle.dump_walk.proofs.Positions.{StandAt-inside}
 use Rattle.dump_rows.proofs.Printed.{Prints-nil}
 use Rattle.dump_rows.specs.Printing.{IsPrinted, Prints}
 use Rattle.dump_rows.specs.Rows.{contents_column, fault_message, indentation, right_of, row_line}
@@ -148,22 +148,6 @@ row_line-front true row f q o h c i d w m =
     }
 row_line-front false row f q o h c i d w m =
     IsBlockLine-row row f o h c i d w m 7 (row_line row) (rw q (simp append_assoc))
-
--- what is left of joined octets is what is left of the first, and more
-drop-append : (n : ℕ) (xs ys : List ℕ) → (zs : List ℕ) × (drop n (xs ++ ys) ≡ drop n xs ++ zs)
-drop-append zero xs ys = (ys, refl)
-drop-append (suc n) [] ys = (drop (suc n) ys, refl)
-drop-append (suc n) (x ∷ xs) ys = drop-append n xs ys
-
--- what stands in a part of octets stands in the octets, later by as many as stand before the part
-pub StandAt-inside : (octets part inner : List ℕ) (m n : ℕ) → StandAt octets m part → StandAt part n inner →
-    StandAt octets (m + n) inner
-StandAt-inside octets part inner m n (rest, p) (after, q) =
-    let (zs, r) = drop-append n part rest in (
-      after ++ zs,
-      sym (drop-drop n m octets)
-          ∙ (ap (drop n) p ∙ (r ∙ (ap (λ z. z ++ zs) q ∙ append_assoc inner after zs))),
-    )
 
 -- what stands inside octets that stand at a place stands inside the whole
 pub StandsInside-inside :

@@ -124,6 +124,11 @@ abbrev pub document_of : Option ℕ → Inside
 document_of (Some shape) = Whole shape
 document_of None = Nothing
 
+-- what stands around an element that is the field, or else of the shape, and no other element
+abbrev pub around_alone : Option ℕ → ℕ → Inside
+around_alone (Some field) shape = Each field
+around_alone None shape = Whole shape
+
 -- the elements stand one inside the next, the last of them among those that stand around all
 abbrev pub IsPath : Shapes → Inside → List Spot → Type 0
 IsPath shapes all [] = ⊤

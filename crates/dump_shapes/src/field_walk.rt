@@ -1,6 +1,6 @@
 // Going over the elements of a document, one behind another, with the fields that they are.
 ghost use Rattle.std.specs.Prelude.{◌≡◌, ◌≤◌, ◌∷◌, length, IfOk, IfSome, OnOk};
-ghost use Rattle.dump_shapes.specs.Spots.{IsPath, StandsIn, document_of};
+ghost use Rattle.dump_shapes.specs.Spots.{IsPath, StandsIn, around_alone, document_of};
 ghost use Rattle.dump_shapes.specs.Walks.{GoesOn, IsReached, path_of};
 ghost use Rattle.dump_shapes.specs.declared.take.Inside.TheVariants.{Fields as FieldsOf};
 
@@ -82,6 +82,23 @@ impl<'a> FieldWalk<'a> {
             all: string.of.inside,
             frames: Vec::new(alloc),
             progress: Progress::start(string.identifier),
+        }
+    }
+
+    /// Before an element that is this field, and shown alone.
+    pub fn alone(alloc: Global, shapes: &'a Shapes, spot: Spot) -> FieldWalk<'a>
+        ensures shapes { result.shapes.now ≡ shapes.now }
+        ensures all { result.all ≡ around_alone spot.field spot.of.shape }
+    {
+        let all = match spot.field {
+            Some(field) => Inside::Each(field),
+            None => Inside::Whole(spot.of.shape),
+        };
+        FieldWalk {
+            shapes,
+            all,
+            frames: Vec::new(alloc),
+            progress: Progress::start(spot.identifier),
         }
     }
 

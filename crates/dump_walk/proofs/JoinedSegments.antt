@@ -17,7 +17,7 @@ use Rattle.dump_walk.specs.declared.cursor.End.{End}
 use Rattle.dump_walk.specs.declared.cursor.Left.{Left}
 use Rattle.dump_walk.specs.declared.cursor.Step.{Step}
 use Rattle.dump_walk.specs.declared.cursor.Step.TheVariants.{Into, Out, Past}
-use Rattle.dump_walk.proofs.Seeking.{BeginsWithHeader-some, BeginsWithHeader-unique, is_stray_form-unique}
+use Rattle.dump_walk.proofs.HeaderFronts.{BeginsWithHeader-some, BeginsWithHeader-unique, is_stray_form-unique}
 
 -- segments that a cursor has yet to come to
 abbrev pub AreLeft : ℕ → Cursor → List ℕ → List ℕ → Type 0

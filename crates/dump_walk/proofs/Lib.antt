@@ -2,10 +2,10 @@ pub mod FieldPaths
 pub mod Pieces
 pub mod Breach
 pub mod Walks
+pub mod Positions
+mod ByOffset
 pub mod Cursors
-mod Elements
-mod Headers
-pub mod Seeking
+pub mod HeaderFronts
 mod JoinedSegments
 mod StringOctets
 pub mod Lengths

@@ -31,7 +31,7 @@ use Rattle.dump_walk.specs.declared.piece.Piece.{Piece}
 use Rattle.dump_walk.specs.declared.place.Place.{Place}
 use Rattle.dump_values.specs.declared.value.LeafValue.{LeafValue}
 use Rattle.dump_values.proofs.Values.{HasValue-encodes}
-use Rattle.dump_walk.proofs.Seeking.{size-length_header}
+use Rattle.dump_walk.proofs.HeaderFronts.{size-length_header}
 
 -- where no end-of-contents octets end what is left, what begins its octets comes next
 pub StartsNext-first :

@@ -9,7 +9,7 @@ use Rattle.dump_walk.specs.Headers.{is_stray_form}
 use Rattle.dump_walk.specs.Segments.{AreSegmentsOf}
 use Rattle.dump_walk.specs.StringOctets.{AreInOnePiece, AreOctetsOf, HoldsNoOctets, HoldsOctets, IsString, is_string_tag}
 use Rattle.dump_walk.specs.StringSteps.{HasNoPiece, HasPiece, IsPiece}
-use Rattle.dump_walk.proofs.Seeking.{BeginsWithHeader-same, BeginsWithHeader-unique, HasNoHeader-begins, is_stray_form-unique}
+use Rattle.dump_walk.proofs.HeaderFronts.{BeginsWithHeader-same, BeginsWithHeader-unique, HasNoHeader-begins, is_stray_form-unique}
 use Rattle.dump_walk.proofs.JoinedSegments.{AreBits, AreBits-segments_of, IsTrue-unique}
 
 -- octets without a header are no string

@@ -11,7 +11,7 @@ use Rattle.dump_walk.specs.declared.cursor.End.{End}
 use Rattle.dump_walk.specs.declared.cursor.Left.{Left}
 use Rattle.dump_walk.specs.declared.cursor.Step.{Step}
 use Rattle.dump_walk.specs.declared.cursor.Step.TheVariants.{Into, Out, Past}
-use Rattle.dump_walk.proofs.Seeking.{BeginsWithHeader-some}
+use Rattle.dump_walk.proofs.HeaderFronts.{BeginsWithHeader-some}
 use Rattle.dump_walk.proofs.Cursors.{drop-ends_of, taken-some}
 use Rattle.std.proofs.lemmas.List.{take-append-drop}
 

@@ -1,11 +1,6 @@
--- What stands behind headers.
-use Rattle.std.specs.Prelude.{◌≡◌, Bool, List, ◌++◌, ◌&&◌, not, ℕ}
-use Rattle.asn1_headers.specs.Front.{IsHeader}
+-- The form of lengths.
+use Rattle.std.specs.Prelude.{Bool, List, ◌&&◌, not, ℕ}
 use Rattle.asn1_headers.specs.Indefinite.{is_indefinite}
-
--- the octets are a header, and then these
-abbrev pub StandsBehindHeader : List ℕ → List ℕ → Type 0
-StandsBehindHeader octets behind = (header : List ℕ) × (octets ≡ header ++ behind) × IsHeader header
 
 -- a primitive encoding has length octets of the indefinite form, which only a constructed one may have (X.690 8.1.3.2).
 -- Such length octets are read as a length of 0. The octets are those behind the identifier octets

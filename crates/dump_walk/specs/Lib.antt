@@ -7,9 +7,8 @@ pub mod Pieces
 pub mod Texts
 pub mod Headers
 pub mod Ends
-pub mod Elements
-pub mod Seek
-pub mod SeekSteps
+pub mod ByOffset
+pub mod ByOffsetSteps
 pub mod Segments
 pub mod StringOctets
 pub mod Steps

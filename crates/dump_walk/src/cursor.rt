@@ -89,10 +89,7 @@ impl<'a> Cursor<'a> {
     fn left_to(&self, end: usize) -> &'a [u8]
         ensures { result.now ≡ slice_range self.now.octets.now self.now.offset end }
     {
-        let (_, rest) = self.octets.split_at(self.offset.min(self.octets.len()));
-        let size = end.saturating_sub(self.offset);
-        let (left, _) = rest.split_at(size.min(rest.len()));
-        left
+        octets_between(self.octets, self.offset, end)
     }
 
     // What is left of the innermost contents octets that have not ended. It leaves those of definite length that have.
@@ -157,4 +154,14 @@ impl<'a> Cursor<'a> {
     {
         self.ends.pop();
     }
+}
+
+// The octets from an offset to before another, as far as they are there.
+pub fn octets_between(octets: &[u8], from: usize, to: usize) -> &[u8]
+    ensures { result.now ≡ slice_range octets.now from to }
+{
+    let (_, rest) = octets.split_at(from.min(octets.len()));
+    let size = to.saturating_sub(from);
+    let (between, _) = rest.split_at(size.min(rest.len()));
+    between
 }

@@ -43,6 +43,12 @@ impl<'a> Fields<'a> {
                 around,
                 shape: None,
             }),
+            Around::Alone(spot) => Some(Fields {
+                shapes,
+                walk: FieldWalk::alone(alloc, shapes, spot),
+                around,
+                shape: None,
+            }),
         }
     }
 

@@ -6,21 +6,20 @@
 //! same pieces.
 //!
 //! An element is an encoding, or what has a length of the indefinite form of BER (X.690 8.1.3.6), with its
-//! end-of-contents octets. [`block_at`] finds one by its offset, [`behind_header`] its contents octets, and
+//! end-of-contents octets. [`block_at`] finds the one whose row stands at an offset, by the same walk, and
 //! [`string_octets`] the octets that a string holds.
 //!
 //! The only error is that memory ran out.
 #![tactic(auto)]
 
+mod block;
 pub mod cursor;
-mod element;
 pub mod element_header;
 pub mod fields;
 pub mod marks;
 pub mod nested;
 pub mod piece;
 pub mod place;
-mod seek;
 pub mod segments;
 pub mod string_value;
 pub mod strings;
@@ -29,6 +28,5 @@ pub mod sum;
 pub mod tag;
 pub mod walk;
 
-pub use element::behind_header;
-pub use seek::{NoBlock, block_at};
+pub use block::{Block, NoBlock, block_at};
 pub use string_value::{NoString, string_octets};

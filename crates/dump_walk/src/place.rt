@@ -2,7 +2,7 @@
 ghost use Rattle.std.specs.Prelude.{◌≡◌, ◌+◌, ◌<◌, suc, IfOk, false, true, if◌then◌else◌};
 ghost use Rattle.dump_walk.specs.Fronts.{is_too_deep};
 
-use crate::style::Style;
+use crate::style::{Known, Style};
 use crate::sum::checked_sum;
 use dump_shapes::{Held, LeafType, Spot, ValueRule};
 use dump_values::leaf::ContentsType;
@@ -48,6 +48,19 @@ pub enum Around {
     Document(Option<u16>),
     // a string that is this field
     String(Spot),
+    // nothing: there is one block, which is this field
+    Alone(Spot),
+}
+
+impl Around {
+    // What says which fields the blocks of a document are.
+    fn of(style: Style) -> Around {
+        match style.known {
+            Known::Nothing => Around::Document(None),
+            Known::Shape(shape) => Around::Document(Some(shape)),
+            Known::Field(spot) => Around::Alone(spot),
+        }
+    }
 }
 
 // The place of the document itself.
@@ -67,7 +80,7 @@ pub fn outermost(style: Style) -> Place
         most_depth: style.most_depth,
         is_plain: style.is_plain,
         is_segment: false,
-        around: Around::Document(style.shape),
+        around: Around::of(style),
         spot: None,
         leaf: None,
         held: Held::Anything,

@@ -1,5 +1,7 @@
 // How documents are shown.
 
+use dump_shapes::Spot;
+
 /// What is shown of a document. By default octets are cut off after some, and documents inside octets are shown, blocks
 /// of any depth.
 #[derive(Clone, Copy, Debug, Default, Drop, PartialEq)]
@@ -13,6 +15,18 @@ pub struct Style {
     pub most_depth: Option<usize>,
     /// Fields have no names.
     pub is_plain: bool,
-    /// The shape of the document, where it is known; where it is not, the first shape that fits.
-    pub shape: Option<u16>,
+    /// What is known of the document.
+    pub known: Known,
+}
+
+/// What is known of a document before it is read.
+#[derive(Clone, Copy, Debug, Default, Drop, PartialEq)]
+pub enum Known {
+    /// Nothing. It has the first shape that fits.
+    #[default]
+    Nothing,
+    /// Its shape.
+    Shape(u16),
+    /// It is this field of another document, and shown alone.
+    Field(Spot),
 }

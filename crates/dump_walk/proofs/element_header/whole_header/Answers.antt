@@ -2,7 +2,7 @@
 use Rattle.std.proofs.Common.{◌≡◌, true, false, length, drop, sym, ◌∙◌, arith}
 use Rattle.asn1_headers.specs.Front.{HasNoHeader, IsAtFront}
 use Rattle.dump_walk.specs.Headers.{is_stray_form}
-use Rattle.dump_walk.proofs.Seeking.{BeginsWithHeader-unique, HasNoHeader-begins, is_stray_form-unique}
+use Rattle.dump_walk.proofs.HeaderFronts.{BeginsWithHeader-unique, HasNoHeader-begins, is_stray_form-unique}
 use Rattle.dump_walk.proofs.element_header.whole_header.Goals as goal
 
 pub returns-in_default-clause-none : goal.returns-in_default-clause-none

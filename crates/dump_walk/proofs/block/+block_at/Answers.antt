@@ -1,0 +1,66 @@
+-- For `block::block_at`: its loop begins with its invariant, keeps it and ends, and what it returns is right.
+use Rattle.std.proofs.Common.{[], ◌≡◌, ap, arith, suc}
+use Rattle.std.proofs.lemmas.Result.{IfOk-weaker}
+use Rattle.dump_walk.specs.ByOffsetSteps.{StandsInside}
+use Rattle.dump_walk.specs.PieceSteps.{IsAhead}
+use Rattle.dump_walk.specs.Pieces.{Passes}
+use Rattle.dump_walk.proofs.ByOffset.{Finds-here, Finds-inside, Finds-none, Finds-passed, HasPassed-none, SearchedTo-next}
+use Rattle.dump_walk.proofs.block.+block_at.Goals as goal
+
+pub loop-walk-init : goal.loop-walk-init
+loop-walk-init t c =
+    let o = c.in_ok-walk.ensures in
+    record {
+      same_place = o.place;
+      fronts = [];
+      has_passed = HasPassed-none c.args.octets.now c.in_ok-walk.walk o.octets o.ahead;
+      elsewhere = tt;
+    }
+
+pub returns-then-has_row_at : goal.returns-then-has_row_at
+returns-then-has_row_at t c =
+    let piece = c.in-Some.piece in
+    let p : Passes c.loop-walk.walk c.next.new.self piece = rw c.in-Some.is at c.in_ok-piece.ensures.passes in
+    let there = c.has_row_at.ensures.there c.if-has_row_at.true in
+    IfOk-weaker c.block_of.result _ _
+    (λ found is. Finds-here c.args.place c.args.octets.now c.args.offset c.loop-walk.walk c.next.new.self
+    c.loop-walk.invariant piece p found there is) c.block_of.ensures
+
+pub returns-then-offset-piece : goal.returns-then-offset-piece
+returns-then-offset-piece t c =
+    let piece = c.in-Some.piece in
+    let p : Passes c.loop-walk.walk c.next.new.self piece = rw c.in-Some.is at c.in_ok-piece.ensures.passes in
+    Finds-passed c.args.place c.args.octets.now c.args.offset c.loop-walk.walk c.next.new.self c.loop-walk.invariant
+    piece p c.if-offset-piece.true
+
+pub block_at-requires : goal.block_at-requires
+block_at-requires t c =
+    let piece = c.in-Some.piece in
+    let p : Passes c.loop-walk.walk c.next.new.self piece = rw c.in-Some.is at c.in_ok-piece.ensures.passes in
+    let inside = c.in-Some-2.inside in
+    let fewer : piece.place.documents ≡ suc inside.place.documents = rw c.in-Some-2.is at c.in_ok-inside.ensures.fewer in
+    let same = ap (λ z. z.documents) c.loop-walk.invariant.same_place in
+    omega (arith, fewer, p.documents, same)
+
+pub returns-in-Some-2 : goal.returns-in-Some-2
+returns-in-Some-2 t c =
+    let piece = c.in-Some.piece in
+    let p : Passes c.loop-walk.walk c.next.new.self piece = rw c.in-Some.is at c.in_ok-piece.ensures.passes in
+    let inside = c.in-Some-2.inside in
+    let stands : StandsInside piece c.args.offset inside = rw c.in-Some-2.is at c.in_ok-inside.ensures.inside in
+    IfOk-weaker c.block_at.result _ _
+    (λ found is. Finds-inside c.args.place c.args.octets.now c.args.offset c.loop-walk.walk c.next.new.self
+    c.loop-walk.invariant piece p inside found stands is) c.block_at.ensures
+
+pub loop-walk-preserved : goal.loop-walk-preserved
+loop-walk-preserved t c =
+    let piece = c.in-Some.piece in
+    let p : Passes c.loop-walk.walk c.next.new.self piece = rw c.in-Some.is at c.in_ok-piece.ensures.passes in
+    SearchedTo-next c.args.place c.args.octets.now c.args.offset c.loop-walk.walk c.next.new.self c.loop-walk.invariant
+    piece p (c.has_row_at.ensures.elsewhere c.if-has_row_at.false)
+
+pub returns : goal.returns
+returns t c =
+    let ended : IsAhead c.loop-walk.walk.cursor [] [] = rw c.in_default.is at c.in_ok-piece.ensures.passes in
+    Finds-none c.args.place c.args.octets.now c.args.offset c.loop-walk.walk c.loop-walk.walk c.loop-walk.invariant
+    ended

@@ -1,0 +1,11 @@
+-- For `block::whole_block`: what it returns is right.
+use Rattle.std.proofs.Common.{sym, ◌∙◌}
+use Rattle.dump_walk.proofs.ByOffset.{IsElementAt-sized}
+use Rattle.dump_walk.proofs.block.whole_block.Goals as goal
+
+pub returns : goal.returns
+returns c = λ before h.
+    let block = c.in_ok-sized_block.field-0 in
+    let is = c.in_ok-sized_block.ensures in
+    IsElementAt-sized c.args.octets.now before c.args.walk.now c.args.piece.now h block.octets.now block.contents.now
+    c.requires (sym c.is_indefinite.ensures ∙ c.if-is_indefinite.false) is.octets is.contents
