@@ -15,44 +15,44 @@
 //!   SHA-256             5A6B..
 //! ```
 //!
-//! Names are written as RFC 4514 writes them. What a document is, `dump_shapes` says. It is read by its headers: a
-//! certificate in which a value is malformed has an account as well.
+//! It is a view of the pieces that lines and JSON show, too, with the same names of fields and the same values. The
+//! tables in `forms` say of which types there are accounts, and by the path of its fields what each line shows:
+//! `tbsCertificate.validity.notAfter` a time, with the label `not after`. Names are written as RFC 4514 writes them.
 #![tactic(auto)]
 
-mod document;
-mod extension;
+mod forms;
+mod leaf;
 mod lines;
 mod name;
-mod node;
-mod value;
+mod open_line;
+mod reader;
 
-use crate::document::Document;
-use crate::lines::Lines;
+use crate::forms::form_of;
 pub use crate::lines::{Line, joined};
-use crate::node::Node;
-use asn1_departures::departures;
-use asn1_headers::error::ASN1DecodeErr;
-use asn1_outline::headers::Headers;
+use crate::reader::{Reader, read_pieces};
 use dump_names::Names;
 use dump_shapes::DocumentType;
+use dump_values::faults::Fault;
+use dump_walk::place::outermost;
+use dump_walk::style::{Known, Style};
 use jiff::civil::DateTime;
 use std::alloc::{AllocError, Global};
 
 /// The account of a document.
-#[derive(Debug, Drop)]
+#[derive(Drop)]
 pub struct Account {
-    /// The document is of a kind that is known.
-    pub is_known: bool,
     /// The lines, of which the first is the title.
     pub lines: Vec<Line>,
+    /// Why the octets are no whole encodings, if they are none.
+    pub fault: Option<Fault>,
 }
 
 /// The account of a document: a certificate, a certification request, a list of revoked certificates, or a key. What it
-/// is, is `known`, or else the shape says that fits ([`Shapes::type_of`]). Of other octets it is a line that says that
-/// they are none of these; octets that are no encodings by their headers are among them. If the time `now` is given, in
-/// UTC, the account says how many days are left.
+/// is, is `known`, or else the shape says that fits ([`Shapes::type_of`]). `None` of other types, and where a field is
+/// missing that an account shows of each. Of a document that is cut short the account has what is whole. If the time
+/// `now` is given, in UTC, the account says how many days are left.
 ///
-/// It takes memory for the headers of the document.
+/// It takes memory for what the account shows, and for one piece of the document at a time.
 ///
 /// # Errors
 /// Memory ran out.
@@ -64,76 +64,18 @@ pub fn account_of(
     known: Option<DocumentType>,
     octets: &[u8],
     now: Option<DateTime>,
-) -> Result<Account, AllocError> {
-    match known_account(alloc, names, known, octets, now)? {
-        Some(lines) => Ok(Account {
-            is_known: true,
-            lines,
-        }),
-        None => unknown_account(alloc),
-    }
-}
-
-// The line that says that octets are of no kind that is known.
-fn unknown_account(alloc: Global) -> Result<Account, AllocError> {
-    let mut lines = Vec::new(alloc);
-    let text = "! no certificate, certification request, list of revoked certificates or key";
-    lines.push(Line::shown(alloc, text)?)?;
-    Ok(Account {
-        is_known: false,
-        lines,
-    })
-}
-
-// The lines of the account of a document, if it is of a type that has accounts. Only memory that ran out is an error.
-fn known_account(
-    alloc: Global,
-    names: &Names,
-    known: Option<DocumentType>,
-    octets: &[u8],
-    now: Option<DateTime>,
-) -> Result<Option<Vec<Line>>, AllocError> {
+) -> Result<Option<Account>, AllocError> {
     let Some(document_type) = names.shapes.type_of(alloc, known, octets)? else {
         return Ok(None);
     };
-    let headers = match Headers::read(alloc, octets) {
-        Ok(headers) => headers,
-        Err(e) => {
-            return match e.error {
-                ASN1DecodeErr::OutOfMemory => Err(AllocError),
-                _ => Ok(None),
-            };
-        }
-    };
-    let Some(document) = Document::of(document_type.name, &Node::first(&headers)) else {
+    let Some(form) = form_of(document_type.name) else {
         return Ok(None);
     };
-    let mut lines = Lines {
-        alloc,
-        names,
-        pushed: Vec::new(alloc),
+    let style = Style {
+        known: Known::Shape(document_type.shape),
+        ..Style::default()
     };
-    document.push(&mut lines, now)?;
-    push_departures(&mut lines, octets)?;
-    Ok(Some(lines.pushed))
-}
-
-// Pushes a line for each rule of DER that is broken.
-fn push_departures(lines: &mut Lines<'_>, octets: &[u8]) -> Result<(), AllocError> {
-    let found = match departures(lines.alloc, octets) {
-        Ok(found) => found,
-        Err(e) => {
-            return match e.error {
-                ASN1DecodeErr::OutOfMemory => Err(AllocError),
-                _ => Ok(()),
-            };
-        }
-    };
-    for departure in &found {
-        let offset = departure.offset;
-        let rule = departure.rule.text();
-        let text = format!(in lines.alloc; "{rule}, at offset {offset}")?;
-        lines.line("not DER", &text)?;
-    }
-    Ok(())
+    let mut reader = Reader::new(alloc, names, form, now);
+    read_pieces(&mut reader, octets, outermost(style))?;
+    reader.finish(octets)
 }

@@ -3,7 +3,6 @@ ghost use Rattle.std.specs.Prelude.{IfOk, string_bytes};
 ghost use Rattle.dump_text.specs.Shown.{AreLines, IsShown};
 
 use der_io::push_shown;
-use dump_names::Names;
 use std::alloc::{AllocError, Global};
 
 // How many characters a label takes, with the spaces behind it.
@@ -27,6 +26,12 @@ impl Line {
         Ok(Line { text: shown })
     }
 
+    // The line of a label and a value.
+    pub(crate) fn labelled(alloc: Global, label: &str, value: &str) -> Result<Line, AllocError> {
+        let text = format!(in alloc; "  {label:<LABEL_WIDTH$}{value}")?;
+        Line::shown(alloc, &text)
+    }
+
     /// Its characters. Each is shown as it is, on one line.
     pub fn as_str(&self) -> &str
         ensures { IsShown result.now }
@@ -48,26 +53,4 @@ pub fn joined(alloc: Global, lines: &[Line]) -> Result<String, AllocError>
         text.push_str("\n")?;
     }
     Ok(text)
-}
-
-// What lines are pushed to, and what their values are made with.
-#[derive(Drop)]
-pub struct Lines<'a> {
-    pub alloc: Global,
-    pub names: &'a Names,
-    pub pushed: Vec<Line>,
-}
-
-impl Lines<'_> {
-    // Pushes the first line of an account.
-    pub fn title(&mut self, title: &str) -> Result<(), AllocError> {
-        self.pushed.push(Line::shown(self.alloc, title)?)?;
-        Ok(())
-    }
-
-    // Pushes a line of a label and a value.
-    pub fn line(&mut self, label: &str, value: &str) -> Result<(), AllocError> {
-        let text = format!(in self.alloc; "  {label:<LABEL_WIDTH$}{value}")?;
-        self.title(&text)
-    }
 }
