@@ -47,8 +47,8 @@ SECTIONS = [
      " encode_base127 encode_class"),
     ("Laws", "simple_asn1", "law_*"),
     ("Laws of DER", "asn1_laws", "law_*"),
-    ("PEM, base64 and hex digits", "der_forms", "document_of FormFault text_of form_of InputForm next_object PemObject"
-     " PemFault Ending fault_of_end Lines"),
+    ("PEM, base64 and hex digits", "der_forms", "document_of labelled_document_of LabelledDocument FormFault"
+     " text_of form_of InputForm next_object PemObject PemFault Ending fault_of_end Lines"),
     ("Names of object identifiers", "dump_names", "Names OwnNames NamesFault"),
 ]
 

@@ -1,5 +1,5 @@
-// Documents into entries, straight from their octets: no block is made. No more entries are kept than there is room for,
-// so that what is held is bounded by that room and by the frames that are open.
+// Documents into entries, straight from their octets: no block is made. No more entries are kept than there is room
+// for, so that what is held is bounded by that room and by the frames that are open.
 ghost use Rattle.std.specs.Prelude.{◌≡◌, ◌+◌, ◌⊎◌, ◌++◌, ◌^◌, ◌<◌, ◌≤◌, ◌∷◌, [], ℕ, List, IfErr, IfOk, IsTrue, MatchResult, OnOk, false, length, suc, take, vec_capacity, vec_len};
 ghost use Rattle.asn1_headers.specs.Reading.{OutOfMemoryOrAt};
 ghost use Rattle.asn1_headers.specs.declared.error.ASN1DecodeErr.TheVariants.{OutOfMemory};

@@ -14,8 +14,8 @@ pub struct Form {
     pub has_fingerprint: bool,
 }
 
-// A line: the path of the field that it shows, its label, and how what is inside the field is shown, by the paths there.
-// Without a label, the lines of the extensions whose values stand at the path, in their order.
+// A line: the path of the field that it shows, its label, and how what is inside the field is shown, by the paths
+// there. Without a label, the lines of the extensions whose values stand at the path, in their order.
 pub type Row = (&'static str, &'static str, Parts);
 
 type Parts = &'static [(&'static str, Part)];

@@ -52,8 +52,8 @@ impl NameText {
         Ok(())
     }
 
-    // Pushes the value of the attribute that was begun last: its characters, if it has some and its type has a name, and
-    // else a number sign and its encoding in hex digits (RFC 4514, section 2.4); `?` of one of the indefinite form.
+    // Pushes the value of the attribute that was begun last: its characters, if it has some and its type has a name,
+    // and else a number sign and its encoding in hex digits (RFC 4514, section 2.4); `?` of one of the indefinite form.
     pub fn push_value(
         &mut self,
         alloc: Global,

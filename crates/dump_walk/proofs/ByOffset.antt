@@ -141,7 +141,8 @@ module _ (place : Place) (octets : List ℕ) (offset : ℕ) (old new : Walk) (s 
         fronts = s.fronts ++ front_of p.levels piece ∷ [];
         has_passed = HasPassed-next octets s.fronts old new piece p s.has_passed;
         elsewhere =
-            AllByRecursion-one_more (IsElsewhere offset) s.fronts (front_of p.levels piece) s.elsewhere (other p.levels);
+            AllByRecursion-one_more (IsElsewhere offset) s.fronts (front_of p.levels piece) s.elsewhere
+            (other p.levels);
       }
 
 -- a whole encoding has the line of one, and some octets, which are all there
@@ -195,7 +196,8 @@ module _ (octets : List ℕ) (before : List Front) (walk : Walk) (piece : Piece)
     IsElementAt-sized block contents whole definite octets_are contents_are =
         let w = IsWhole-kind h.left piece.offset piece.kind piece.fault whole h.kind in
         let there = StandAt-bound octets h.left piece.offset h.position (omega (arith, w.some, w.within)) in
-        of_definite_length before (front_of h.levels piece) (BeginWith-passed octets _ walk h.passed) refl w.line definite
+        of_definite_length before (front_of h.levels piece) (BeginWith-passed octets _ walk h.passed) refl w.line
+        definite
         (omega (arith, there, w.within)) octets_are contents_are
 
     -- an element of the indefinite form ends where the walk comes to its end

@@ -172,7 +172,8 @@ AnswersOutline-refused octets before o status offset (s, p, c) (inr (fault, firs
     had_header_fault (fault, subst (FirstHeaderFaultAt octets fault) (sym p) first, s ∙ e) c refl
 
 -- where there is no room for all values, their number is answered
-pub AnswersValues-counted : (octets steps : List ℕ) (paths : List Path) (before : List Value) (o : Outcome) (all : Shapes) →
+pub AnswersValues-counted : (octets steps : List ℕ) (paths : List Path) (before : List Value) (o : Outcome)
+    (all : Shapes) →
     HasShapes octets all → length before < length paths →
     (o.status ≡ no_room) × (o.count ≡ length paths) × (o.offset ≡ 0) → AnswersValues octets steps paths before before o
 AnswersValues-counted octets steps paths before o all has few (status, count, offset) =

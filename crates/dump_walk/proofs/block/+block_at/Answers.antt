@@ -38,7 +38,8 @@ block_at-requires t c =
     let piece = c.in-Some.piece in
     let p : Passes c.loop-walk.walk c.next.new.self piece = rw c.in-Some.is at c.in_ok-piece.ensures.passes in
     let inside = c.in-Some-2.inside in
-    let fewer : piece.place.documents ≡ suc inside.place.documents = rw c.in-Some-2.is at c.in_ok-inside.ensures.fewer in
+    let fewer : piece.place.documents ≡ suc inside.place.documents =
+    rw c.in-Some-2.is at c.in_ok-inside.ensures.fewer in
     let same = ap (λ z. z.documents) c.loop-walk.invariant.same_place in
     omega (arith, fewer, p.documents, same)
 

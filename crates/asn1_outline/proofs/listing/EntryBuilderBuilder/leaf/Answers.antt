@@ -17,7 +17,8 @@ returns-clause-built c =
     let i = c.args.items.now in
     let (limit, found, within) = c.requires.found in
     let single = c.in_ok-check_contents.ensures.encoded o (slice_range x o h.end) (h.start - o) found.encoding in
-    let built = HasLeaf-entry_builder x h o limit c.args.depth a b i c.encoding_entry-block.result c.count-entry.result found
+    let built = HasLeaf-entry_builder x h o limit c.args.depth a b i c.encoding_entry-block.result c.count-entry.result
+    found
     c.requires.leaf single c.encoding_entry-block.ensures c.count-entry.ensures.count c.in_ok-add.ensures in
     subst (λ z. HasLeaf builder_holds x o h.end c.args.depth a i b z) (sym c.in_ok-add-2.ensures) built
 
