@@ -163,8 +163,10 @@ class Looks:
         told = {it[2:2 + LABEL].strip(): re.sub(r" \([^()]*\)$", "", it[2 + LABEL:]) for it in self.account[1:]}
         lines = account_of(blocks[0])
         self.values = len(lines)
+        # of what is cut short an account has the fields that are whole
+        is_cut = self.account[-1].startswith("! error")
         for label, text in lines.items():
-            if told.get(label) != text:
+            if told.get(label) != text and not (is_cut and label not in told):
                 yield f"--text: {label}: {told.get(label)!r}, and JSON has {text!r}"
 
 

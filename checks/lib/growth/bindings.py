@@ -8,7 +8,8 @@ in microseconds and a status; or `json`, for `der_dump`. It fails where twice th
 long, or where 100 kB take more than a second. With PATIENCE=N in the environment, for a machine that does other work,
 each call is timed once, may take N seconds, and sizes are not compared. Of `memory`, PROGRAM is given a call alone, and
 prints how many kB it takes for 100 MB without room for what it writes, a status and a count. Of `signed`, PROGRAM is
-`der_signed`, which may take twice its input. `der_dump` may take its input and 20 MiB, as lines, as JSON and on a page.
+`der_signed`, which may take twice its input. `der_dump` may take its input and 20 MiB, as lines, as JSON, on a
+page, and in an account.
 """
 import filecmp
 import json
@@ -103,6 +104,11 @@ SIGNED_SIZE, MOST_TIMES = 20_000_000, 2
 
 # the words for the forms of a dump, and how many bytes it may take beside its input
 DUMPS = [], ["--json"], ["--html"]
+# the words for a list of revoked certificates
+LIST_DUMPS = (["--text"],)
+# the fields before those that are revoked (RFC 5280, 5.1), and one of these
+LIST_FRONT = bytes.fromhex("020101 300506032b6570 300c310a300806035504030c0161 170d3236303130313030303030305a")
+REVOKED = bytes.fromhex("3021 0210" + 16 * "5a") + bytes.fromhex("170d3236303130313030303030305a")
 DUMPED_SIZE, MOST_BESIDE = 20_000_000, 20 * 2**20
 
 
@@ -168,15 +174,34 @@ def signed_memory(program, work):
     return int(not good)
 
 
-def dump_memory(program, work):
-    """How many forms of a dump of many items took more memory than the input and some."""
-    path, wrong = os.path.join(work, "items.der"), 0
-    # piece by piece, as above
+def write_items(path):
+    """Writes a SEQUENCE of many OCTET STRINGs, piece by piece, as above."""
     with open(path, "wb") as file:
         file.write(header(0x30, DUMPED_SIZE))
         for _ in range(DUMPED_SIZE // 40_000):
             file.write((header(0x04, 38) + bytes(range(38))) * 1_000)
-    for words in DUMPS:
+
+
+def write_list(path):
+    """Writes a list of many revoked certificates, piece by piece."""
+    count = DUMPED_SIZE // len(REVOKED) // 1_000 * 1_000
+    algorithm, signature = bytes.fromhex("300506032b6570"), bytes.fromhex("030200ab")
+    revoked = header(0x30, count * len(REVOKED))
+    size = len(LIST_FRONT) + len(revoked) + count * len(REVOKED)
+    content = header(0x30, size) + LIST_FRONT + revoked
+    with open(path, "wb") as file:
+        file.write(header(0x30, len(content) + count * len(REVOKED) + len(algorithm) + len(signature)) + content)
+        for _ in range(count // 1_000):
+            file.write(REVOKED * 1_000)
+        file.write(algorithm + signature)
+
+
+def dump_memory(program, work):
+    """How many forms of a dump of many items took more memory than the input and some."""
+    items, revoked, wrong = os.path.join(work, "items.der"), os.path.join(work, "list.der"), 0
+    write_items(items)
+    write_list(revoked)
+    for path, words in [(items, words) for words in DUMPS] + [(revoked, words) for words in LIST_DUMPS]:
         with open(path, "rb") as source:
             child = subprocess.Popen([program, *words], stdin=source, stdout=subprocess.DEVNULL)
             _, status, used = os.wait4(child.pid, 0)
@@ -199,7 +224,7 @@ def main():
         tried += 1
     if "json" in programs:
         wrong += dump_memory(programs["json"], work)
-        tried += len(DUMPS)
+        tried += len(DUMPS) + len(LIST_DUMPS)
     for shape, make in SHAPES.items():
         paths = [os.path.join(work, f"{size}.der") for size in SIZES]
         for path, size in zip(paths, SIZES):
