@@ -60,6 +60,20 @@ loop-walk-preserved t c =
     SearchedTo-next c.args.place c.args.octets.now c.args.offset c.loop-walk.walk c.next.new.self c.loop-walk.invariant
     piece p (c.has_row_at.ensures.elsewhere c.if-has_row_at.false)
 
+pub loop-walk-preserved-in_default-2 : goal.loop-walk-preserved-in_default-2
+loop-walk-preserved-in_default-2 t c =
+    let piece = c.in-Some.piece in
+    let p : Passes c.loop-walk.walk c.next.new.self piece = rw c.in-Some.is at c.in_ok-piece.ensures.passes in
+    SearchedTo-next c.args.place c.args.octets.now c.args.offset c.loop-walk.walk c.next.new.self c.loop-walk.invariant
+    piece p (c.has_row_at.ensures.elsewhere c.if-has_row_at.false)
+
+pub loop-walk-preserved-in_default-2-2 : goal.loop-walk-preserved-in_default-2-2
+loop-walk-preserved-in_default-2-2 t c =
+    let piece = c.in-Some.piece in
+    let p : Passes c.loop-walk.walk c.next.new.self piece = rw c.in-Some.is at c.in_ok-piece.ensures.passes in
+    SearchedTo-next c.args.place c.args.octets.now c.args.offset c.loop-walk.walk c.next.new.self c.loop-walk.invariant
+    piece p (c.has_row_at.ensures.elsewhere c.if-has_row_at.false)
+
 pub returns : goal.returns
 returns t c =
     let ended : IsAhead c.loop-walk.walk.cursor [] [] = rw c.in_default.is at c.in_ok-piece.ensures.passes in
