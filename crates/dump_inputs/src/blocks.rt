@@ -1,7 +1,7 @@
 // The block at an offset of an input: shown alone, or its octets.
 ghost use Rattle.std.specs.Prelude.{IfOk, MatchOption, Some};
 ghost use Rattle.der_io.specs.Output.{IsWritten};
-ghost use Rattle.dump_inputs.specs.Blocks.{IsFoundIn, octets_in};
+ghost use Rattle.dump_inputs.specs.Blocks.{IsBlockAt, IsFoundIn, octets_in};
 ghost use Rattle.dump_inputs.specs.Inputs.{IsPart, IsTaskText};
 ghost use Rattle.dump_options.specs.declared.options.Task.TheVariants.{At, Contents, Extract, Value};
 ghost use Rattle.dump_walk.specs.StringOctets.{HoldsNoOctets, HoldsOctets};
@@ -30,19 +30,29 @@ impl Show {
         ensures { IfOk result (λ outcome. IsWritten (IsTaskText (At offset) input.items outcome)
             (W.contents printer.old.out) (W.contents printer.new.out)) }
     {
+        let block = self.block_alone(input, offset)?;
+        self.push_block(name, block, printer)
+    }
+
+    // The block that begins at the offset in the document of an input, as a document, or why there is none.
+    fn block_alone(&self, input: Vec<u8>, offset: usize) -> Result<Document, AllocError>
+        ensures { IfOk result (λ block. IsBlockAt offset input.items (octets_in block.octets)) }
+    {
         let document = match first_document(self.alloc, input)? {
             Ok(document) => document,
-            Err(why) => return self.push_block(name, unlabelled(Err(why)), printer),
+            Err(why) => return Ok(unlabelled(Err(why))),
         };
-        let block = match self.block_in(&document, offset)? {
-            Ok(block) => Document {
-                label: None,
-                octets: Ok(copy_of(self.alloc, block.octets)?),
-                field: block.place.spot,
-            },
-            Err(why) => unlabelled(Err(why)),
-        };
-        self.push_block(name, block, printer)
+        match self.block_in(&document, offset)? {
+            Ok(block) => {
+                let octets = copy_of(self.alloc, block.octets)?;
+                Ok(Document {
+                    label: None,
+                    octets: Ok(octets),
+                    field: block.place.spot,
+                })
+            }
+            Err(why) => Ok(unlabelled(Err(why))),
+        }
     }
 
     // Writes the octets of the block that begins at the offset in the document of an input.

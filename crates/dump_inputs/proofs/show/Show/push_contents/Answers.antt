@@ -28,4 +28,6 @@ returns-in-Ok-2 g c =
     let has : HasElementAt document c.args.offset block.octets.now block.contents.now =
     rw c.in-Ok-2.is at c.in_ok-block.ensures in
     IfOk-weaker c.write_octets.result _ _
-    (λ outcome written. (written.0, written.1, (Some block.contents.now, (block.octets.now, (document, is, has)), written.2))) c.write_octets.ensures
+    (λ outcome written.
+    (written.0, written.1, (Some block.contents.now, (block.octets.now, (document, is, has)), written.2)))
+    c.write_octets.ensures
