@@ -87,18 +87,35 @@ pub fn write_rows<W: Write>(
     let mut is_later = false;
     let mut walk = Walk::over(alloc, &names.shapes, octets, place)?;
     'pieces: while let Some(piece) = walk.next(alloc)? {
-        let offset = piece.document_offset()?;
-        let rules = piece.breaches.describe(alloc)?;
         write_part(out, comma(is_later))?;
-        let inside = write_row(alloc, names, &piece, offset, &rules, is_strict, out)?;
-        if is_strict {
-            found.list(offset, &rules, inside)?;
-        }
-        found.see(offset, piece.fault);
+        write_piece(alloc, names, piece, is_strict, &mut found, out)?;
         is_later = true;
     }
     write_part(out, b"]")?;
     Ok(found)
+}
+
+// Writes the object of a piece, and adds what is wrong with it to what was found.
+#[cycle(rows)]
+fn write_piece<W: Write>(
+    alloc: Global,
+    names: &Names,
+    piece: Piece<'_>,
+    is_strict: bool,
+    found: &mut Problems,
+    out: &mut W,
+) -> Result<(), StreamFault>
+    requires { IfSome piece.nested (λ _. 0 < piece.place.documents) }
+    ensures { OnOk result (IsWritten IsValue (W.contents out.old) (W.contents out.new)) }
+{
+    let offset = piece.document_offset()?;
+    let rules = piece.breaches.describe(alloc)?;
+    let inside = write_row(alloc, names, &piece, offset, &rules, is_strict, out)?;
+    if is_strict {
+        found.list(offset, &rules, inside)?;
+    }
+    found.see(offset, piece.fault);
+    Ok(())
 }
 
 // A comma, unless nothing stands before it.

@@ -33,7 +33,7 @@ write_rows-pieces-preserved g t c =
       same_place = p.same_place ∙ c.pieces.invariant.same_place;
       begun =
           IsWritten-more c.pieces.is_later _ _ _ _ c.pieces.invariant.begun
-          (subst (Appends _ _) c.comma.ensures c.in_ok-write_part-2.ensures.written) c.in_ok-inside.ensures;
+          (subst (Appends _ _) c.comma.ensures c.in_ok-write_part-2.ensures.written) c.in_ok-write_piece.ensures;
     }
 
 pub write_rows-returns : goal.write_rows-returns

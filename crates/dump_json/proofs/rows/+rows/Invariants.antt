@@ -5,13 +5,16 @@ use Rattle.dump_json.proofs.Walk.{RowsTo}
 use Rattle.dump_json.proofs.rows.+rows.Given as goal
 
 abbrev pub decreases-write_nested : goal.decreases-write_nested
-decreases-write_nested g l = 3 * l.place.documents
+decreases-write_nested g l = 4 * l.place.documents
 
 abbrev pub decreases-write_row : goal.decreases-write_row
-decreases-write_row g l = 3 * l.piece.now.place.documents + 1
+decreases-write_row g l = 4 * l.piece.now.place.documents + 1
+
+abbrev pub decreases-write_piece : goal.decreases-write_piece
+decreases-write_piece g l = 4 * l.piece.place.documents + 2
 
 abbrev pub decreases-write_rows : goal.decreases-write_rows
-decreases-write_rows g l = 3 * l.place.documents + 2
+decreases-write_rows g l = 4 * l.place.documents + 3
 
 -- the objects of the pieces before the walk were written
 abbrev pub invariant-write_rows-pieces : goal.invariant-write_rows-pieces
