@@ -11,12 +11,12 @@ returns-in-Err c =
     let none : document_of c.args.input.items ≡ None = rw c.in-Err.is at c.in_ok-document.ensures.none in
     subst (λ z. IsBlockAt c.args.offset c.args.input.items (octets_in z)) (sym c.unlabelled.ensures) (inl none)
 
-pub returns-in-Err-2 : goal.returns-in-Err-2
-returns-in-Err-2 c =
+pub returns : goal.returns
+returns c =
     let document = c.in-Ok.document.octets.items in
     let is : document_of c.args.input.items ≡ Some document = rw c.in-Ok.is at c.in_ok-document.ensures.found in
     let lacks : IsFoundIn c.args.offset document (Err c.in-Err-2.why) = rw c.in-Err-2.is at c.in_ok-block.ensures in
-    subst (λ z. IsBlockAt c.args.offset c.args.input.items (octets_in z)) (sym c.unlabelled-2.ensures)
+    subst (λ z. IsBlockAt c.args.offset c.args.input.items (octets_in z)) (sym c.unlabelled-in-Err-2.ensures)
     (inr (document, is, lacks))
 
 pub returns-in-Ok-2 : goal.returns-in-Ok-2
@@ -30,6 +30,6 @@ returns-in-Ok-2 c =
       (
         document,
         is,
-        subst (λ z. HasElementAt document c.args.offset z block.contents.now) (sym c.in_ok-octets.ensures) has,
+        subst (λ z. HasElementAt document c.args.offset z block.contents.now) (sym c.in_ok-octets-in-Ok-2.ensures) has,
       ),
     )
