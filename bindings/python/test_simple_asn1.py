@@ -268,13 +268,13 @@ class Objects(unittest.TestCase):
             self.assertRaises(ValueError, Status, number)
 
     def test_a_rule_of_a_later_library_is_its_number(self):
-        with unittest.mock.patch.object(simple_asn1._calls, "departures", lambda _: [(3, 28)]):
+        with unittest.mock.patch.object(simple_asn1._calls, "departures", lambda _: [(3, 99)]):
             found = simple_asn1.departures(DOCUMENT)
         self.assertEqual(pickle.loads(pickle.dumps(found)), found)
-        self.assertEqual(found, [(3, 28, "", "unknown rule 28")])
-        self.assertEqual((found[0].rule.name, found[0].rule.value), ("UNKNOWN_28", 28))
-        self.assertEqual(str(found[0]), "unknown rule 28, at 3")
-        for number in (-1, "28"):
+        self.assertEqual(found, [(3, 99, "", "unknown rule 99")])
+        self.assertEqual((found[0].rule.name, found[0].rule.value), ("UNKNOWN_99", 99))
+        self.assertEqual(str(found[0]), "unknown rule 99, at 3")
+        for number in (-1, "99"):
             self.assertRaises(ValueError, Rule, number)
 
     def test_a_block_crosses_to_other_processes_with_its_document(self):
