@@ -132,7 +132,8 @@ static void list_departures(const uint8_t *octets, size_t size)
     for (size_t index = 0; index < asked.count; index++) {
         const simple_asn1_departure *departure = &departures[index];
         CHECK(departure->offset < size && (index == 0 || departures[index - 1].offset <= departure->offset));
-        CHECK(SIMPLE_ASN1_RULE_LONG_IDENTIFIER <= departure->rule && departure->rule <= SIMPLE_ASN1_RULE_NOT_ENCODINGS);
+        CHECK(departure->rule >= SIMPLE_ASN1_RULE_LONG_IDENTIFIER);
+        CHECK(departure->rule <= SIMPLE_ASN1_RULE_IDENTIFICATION);
     }
     free(departures);
 }
