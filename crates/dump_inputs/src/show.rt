@@ -8,7 +8,7 @@ ghost use Rattle.dump_lines.specs.declared.document.Verdict.TheVariants.{Refused
 
 use crate::documents::Document;
 use der_io::{StreamFault, write_part};
-use dump_lines::{Style, Verdict, push_document, push_label, push_refusal, push_strict_document};
+use dump_lines::{Dumper, Style, Verdict, push_refusal};
 use dump_names::{Names, OwnNames};
 use dump_options::{Color, Options, Task};
 use dump_rows::{Look, Printer, push_foot, push_head};
@@ -164,7 +164,7 @@ impl Show {
         ensures { OnOk result (Grows (W.contents printer.old.out) (W.contents printer.new.out)) }
     {
         match &document.label {
-            Some(label) => push_label(self.alloc, label, printer),
+            Some(label) => printer.push_title(label),
             None => Ok(()),
         }
     }
@@ -191,11 +191,12 @@ impl Show {
     ) -> Result<Verdict, StreamFault>
         ensures { OnOk result (Grows (W.contents printer.old.out) (W.contents printer.new.out)) }
     {
-        if self.is_strict {
-            push_strict_document(self.alloc, &self.names, style, octets, printer)
-        } else {
-            push_document(self.alloc, &self.names, style, octets, printer)
-        }
+        let dumper = Dumper {
+            alloc: self.alloc,
+            names: &self.names,
+            is_strict: self.is_strict,
+        };
+        dumper.push_document(style, octets, printer)
     }
 
     // How a document is shown.
@@ -277,7 +278,7 @@ impl Show {
     fn push_title<W: Write>(&self, name: &str, printer: &mut Printer<W>) -> Result<(), StreamFault>
         ensures { OnOk result (Grows (W.contents printer.old.out) (W.contents printer.new.out)) }
     {
-        push_label(self.alloc, name.as_bytes(), printer)
+        printer.push_title(name.as_bytes())
     }
 
     // Writes what stands before all texts, if it is not there yet.

@@ -1,5 +1,3 @@
-mod Breach
-mod Documents
-mod Dumps
-mod Fronts
 mod Shown
+mod Documents
+mod Rules

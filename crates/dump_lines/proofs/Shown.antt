@@ -1,122 +1,234 @@
--- Types and marks are plain, for `encodings::push_row`.
-use Rattle.std.proofs.Common.{◌≡◌, ◌^◌, ℕ, zero, suc, Bool, true, false, List, [], ◌∷◌, ◌++◌, get_or, nat_lt, refl}
-use Rattle.std.proofs.lemmas.Bool.{and_parts}
-use Rattle.std.specs.Prelude.{Option, None, Some, codes, decimal, unwrap_or}
-use Rattle.std.specs.List.{list_all}
-use Rattle.asn1_departures.specs.Rules.{text_of}
-use Rattle.asn1_departures.specs.declared.rule.Rule.{Rule}
-use Rattle.asn1_departures.specs.declared.rule.Rule.TheVariants.{LongIdentifier, PaddedTag, IndefiniteLength, LongLength, ReservedTag, NotConstructed, NotPrimitive, ConstructedString, BooleanSize, BooleanValue, NoInteger, PaddedInteger, SpecialReal, BinaryReal, DecimalReal, UnusedCount, UnusedOfNone, UnusedBits, NullContents, Subidentifiers, Iri, Characters, UtcTime, GeneralizedTime, Time, Order, NotEncodings, External, Identification}
-use Rattle.asn1_headers.specs.Names.{type_name, universal_names}
-use Rattle.asn1_headers.specs.declared.header.ASN1Class.{ASN1Class}
-use Rattle.asn1_headers.specs.declared.header.ASN1Class.TheVariants.{Universal, Application, ContextSpecific, Private}
-use Rattle.dump_lines.specs.MarkText.{mark_text, separator, breaches_text}
-use Rattle.dump_walk.specs.Fronts.{tag_number, tag_name}
-use Rattle.dump_walk.specs.Marks.{spare_breach, breaches_of}
-use Rattle.dump_walk.specs.Pieces.{kind_type_name}
-use Rattle.dump_walk.specs.declared.piece.PieceKind.{PieceKind}
-use Rattle.dump_walk.specs.declared.piece.PieceKind.TheVariants.{Cut, EndOfContents, Leaf, Opened, Unreadable}
-use Rattle.dump_rows.proofs.PlainText.{IsPlain-append, IsPlain-decimal, IsPlain-if}
-use Rattle.dump_rows.specs.Shown.{IsPlain, is_plain}
+-- What was put of octets, piece by piece, for `encodings`.
+use Rattle.std.proofs.Common.{◌≡◌, inl, inr, ℕ, suc, ◌+◌, Bool, true, List, [], ◌∷◌, ◌++◌, slice_range, refl, sym, ap, ◌∙◌, subst, append_assoc, append-nil}
+use Rattle.std.specs.Prelude.{Option, None, Some}
+use Rattle.std.specs.List.{flat_map}
+use Rattle.std.specs.Option.{option_or}
+use Rattle.std.proofs.lemmas.Grind.{flat_map-append}
+use Rattle.dump_lines.specs.Dump.{AreShown, AreTextsOf, Shown, marks_of, none_shown, one_shown, shown_at, string_shown}
+use Rattle.dump_lines.specs.Steps.{AreInside, ArePut, IsInner, IsOwn, IsWhole, first_of, shown_piece}
+use Rattle.dump_values.specs.declared.faults.Fault.{Fault}
+use Rattle.dump_walk.specs.Fronts.{AreFrontsOf, Front, StandAt}
+use Rattle.dump_walk.specs.Pieces.{Passes, fault_offset, front_of, kind_contents, kind_front, kind_header}
+use Rattle.dump_walk.specs.PieceSteps.{IsAhead}
+use Rattle.dump_walk.specs.declared.piece.Piece.{Piece}
+use Rattle.dump_walk.specs.declared.place.Place.{Place}
+use Rattle.dump_walk.specs.declared.walk.Walk.{Walk}
+use Rattle.dump_walk.proofs.Positions.{StandAt-inside}
+use Rattle.dump_walk.proofs.Walks.{StandAt-left}
 
--- the text of a rule is plain
-IsPlain-text_of : (rule : Rule) → IsPlain (text_of rule)
-IsPlain-text_of LongIdentifier = refl
-IsPlain-text_of PaddedTag = refl
-IsPlain-text_of IndefiniteLength = refl
-IsPlain-text_of LongLength = refl
-IsPlain-text_of ReservedTag = refl
-IsPlain-text_of NotConstructed = refl
-IsPlain-text_of NotPrimitive = refl
-IsPlain-text_of ConstructedString = refl
-IsPlain-text_of BooleanSize = refl
-IsPlain-text_of BooleanValue = refl
-IsPlain-text_of NoInteger = refl
-IsPlain-text_of PaddedInteger = refl
-IsPlain-text_of SpecialReal = refl
-IsPlain-text_of BinaryReal = refl
-IsPlain-text_of DecimalReal = refl
-IsPlain-text_of UnusedCount = refl
-IsPlain-text_of UnusedOfNone = refl
-IsPlain-text_of UnusedBits = refl
-IsPlain-text_of NullContents = refl
-IsPlain-text_of Subidentifiers = refl
-IsPlain-text_of Iri = refl
-IsPlain-text_of Characters = refl
-IsPlain-text_of UtcTime = refl
-IsPlain-text_of GeneralizedTime = refl
-IsPlain-text_of Time = refl
-IsPlain-text_of Order = refl
-IsPlain-text_of NotEncodings = refl
-IsPlain-text_of External = refl
-IsPlain-text_of Identification = refl
+-- the lines of encodings, and then of others, are those of all
+AreTextsOf-append : (most : Option ℕ) (xs ys : List Shown) (a b : List ℕ) → AreTextsOf most xs a →
+    AreTextsOf most ys b → AreTextsOf most (xs ++ ys) (a ++ b)
+AreTextsOf-append most [] ys a b e more = rw e more
+AreTextsOf-append most (x ∷ xs) ys a b (own, rest, e, is, others) more = (
+  own,
+  rest ++ b,
+  ap (λ z. z ++ b) e ∙ append_assoc own rest b,
+  is,
+  AreTextsOf-append most xs ys rest b others more,
+)
 
--- what separates two breaches is plain
-IsPlain-separator : (later : Bool) → IsPlain (separator later)
-IsPlain-separator true = refl
-IsPlain-separator false = refl
+-- where encodings were put, and then others, all were put
+ArePut-append :
+    (strict : Bool) (most : Option ℕ) (xs ys : List Shown) (a b c s t : List ℕ) → ArePut strict most xs a b s →
+    ArePut strict most ys b c t → ArePut strict most (xs ++ ys) a c (s ++ t)
+ArePut-append strict most xs ys a b c s t (e, lines) (f, more) =
+    let marks = flat_map (marks_of strict) in (
+      f ∙ (ap (λ z. z ++ marks ys) e
+          ∙ (append_assoc a (marks xs) (marks ys) ∙ ap (λ z. a ++ z) (sym (flat_map-append (marks_of strict) xs ys)))),
+      AreTextsOf-append most xs ys s t lines more,
+    )
 
--- the texts of breaches, one after another, are plain
-IsPlain-breaches_text : (later : Bool) (rules : List Rule) (spare : Bool)
-    → IsPlain (breaches_text later (breaches_of rules spare))
-IsPlain-breaches_text later [] false = refl
-IsPlain-breaches_text later [] true =
-    IsPlain-append (separator later) (spare_breach.text ++ []) (IsPlain-separator later) refl
-IsPlain-breaches_text later (rule ∷ rules) spare =
-    let more = breaches_text true (breaches_of rules spare) in
-    IsPlain-append (separator later) (text_of rule ++ more) (IsPlain-separator later)
-    (IsPlain-append (text_of rule) more (IsPlain-text_of rule) (IsPlain-breaches_text true rules spare))
+-- the encodings of fronts, and then of others, are those of all
+AreShown-append :
+    (inside : Bool) (base depth : ℕ) (octets : List ℕ) (fs gs : List Front) (xs ys : List Shown) →
+    AreShown inside base depth octets fs xs → AreShown inside base depth octets gs ys →
+    AreShown inside base depth octets (fs ++ gs) (xs ++ ys)
+AreShown-append inside base depth octets fs gs xs ys (none_shown p q) h = rw (p, q) h
+AreShown-append inside base depth octets fs gs xs ys (one_shown f later others p q s) h =
+    one_shown f (later ++ gs) (others ++ ys) (ap (λ z. z ++ gs) p) (ap (λ z. z ++ ys) q)
+    (AreShown-append inside base depth octets later gs others ys s h)
+AreShown-append inside base depth octets fs gs xs ys (string_shown f later inner others n part own faults p q a r i s)
+    h =
+    string_shown f (later ++ gs) inner (others ++ ys) n part own faults (ap (λ z. z ++ gs) p)
+    (ap (λ z. z ++ ys) q ∙ ap (λ z. shown_at inside base depth f ∷ z) (append_assoc inner others ys)) a r i
+    (AreShown-append inside base depth octets later gs others ys s h)
 
--- a mark is plain
-pub IsPlain-mark_text : (rules : List Rule) (spare : Bool) → IsPlain (mark_text (breaches_of rules spare))
-IsPlain-mark_text [] false = refl
-IsPlain-mark_text [] true = refl
-IsPlain-mark_text (rule ∷ rules) spare =
-    let text = breaches_text false (breaches_of (rule ∷ rules) spare) in
-    IsPlain-append (codes " (not DER: ") (text ++ codes ")") refl
-    (IsPlain-append text (codes ")") (IsPlain-breaches_text false (rule ∷ rules) spare) refl)
+-- the first fault of octets, or else that of others behind them, is the first fault of both
+fault_offset-or : (first next : Option Fault) (faults : List ℕ) → fault_offset first ≡ first_of faults →
+    fault_offset (option_or first next) ≡ first_of (faults ++ fault_offset next)
+fault_offset-or None None [] e = refl
+fault_offset-or None (Some fault) [] e = refl
+fault_offset-or None next (offset ∷ faults) e = absurd (cc e)
+fault_offset-or (Some fault) next [] e = absurd (cc e)
+fault_offset-or (Some fault) next (offset ∷ faults) e = e
 
--- a name, if there is one, is plain
-abbrev is_plain_name : Option (List ℕ) → Bool
-is_plain_name None = true
-is_plain_name (Some name) = list_all is_plain name
+-- what was put up to where a walk is
+pub record ShownTo (strict : Bool) (place : Place) (octets : List ℕ) (walk : Walk) (first : Option Fault)
+    (before after text : List ℕ) : Type 0 where
+  pub fronts : List Front
+  pub faults : List ℕ
+  pub shown : List Shown
+  pub same_octets : walk.cursor.octets.now ≡ octets
+  pub same_place : walk.place ≡ place
+  pub goes_on : (later : List Front) (more : List ℕ) → IsAhead walk.cursor later more
+      → AreFrontsOf octets (fronts ++ later) (faults ++ more)
+  pub first_is : fault_offset first ≡ first_of faults
+  pub are : AreShown place.is_inside place.base place.depth octets fronts shown
+  pub put : ArePut strict place.most_depth shown before after text
 
--- where no name in a list has control characters, the name at an index, if there is one, has none
-is_plain_name-get_or : (names : List (Option (List ℕ))) (tag : ℕ) → list_all is_plain_name names ≡ true →
-    is_plain_name (get_or names tag None) ≡ true
-is_plain_name-get_or [] tag all = refl
-is_plain_name-get_or (name ∷ names) zero all = (and_parts _ _ all).0
-is_plain_name-get_or (name ∷ names) (suc tag) all = is_plain_name-get_or names tag (and_parts _ _ all).1
+-- before the first step of a walk, nothing was put
+pub ShownTo-none :
+    (strict : Bool) (place : Place) (octets : List ℕ) (walk : Walk) (marks : List ℕ) →
+    walk.cursor.octets.now ≡ octets → walk.place ≡ place →
+    ((fronts : List Front) (faults : List ℕ) → IsAhead walk.cursor fronts faults → AreFrontsOf octets fronts faults) →
+    ShownTo strict place octets walk None marks marks []
+ShownTo-none strict place octets walk marks o p ahead = record {
+  fronts = [];
+  faults = [];
+  shown = [];
+  same_octets = o;
+  same_place = p;
+  goes_on = ahead;
+  first_is = refl;
+  are = none_shown refl refl;
+  put = (sym (append-nil marks), refl);
+}
 
--- a name, or another text where there is none, is plain if neither of both has
-IsPlain-unwrap_or : (name : Option (List ℕ)) (other : List ℕ) → is_plain_name name ≡ true → IsPlain other →
-    IsPlain (unwrap_or name other)
-IsPlain-unwrap_or None other none one = one
-IsPlain-unwrap_or (Some name) other some one = some
+-- a walk passes a piece
+module _ (strict : Bool) (place : Place) (octets : List ℕ) (old new : Walk) (piece : Piece)
+    (p : Passes old new piece) (same : old.place ≡ place) (same_octets : old.cursor.octets.now ≡ octets) where
+  base_is : piece.place.base ≡ place.base
+  base_is = p.base ∙ ap (λ z. z.base) same
 
--- a tag number in words is plain
-IsPlain-tag_number : (tag : ℕ) → IsPlain (tag_number tag)
-IsPlain-tag_number tag =
-    IsPlain-if (nat_lt tag (2 ^ 128)) (decimal tag) (codes "beyond 2^128") (IsPlain-decimal tag) refl
+  depth_is : piece.place.depth ≡ place.depth + p.levels
+  depth_is = p.depth ∙ ap (λ z. z.depth + p.levels) same
 
--- a text without control characters, a tag number behind it and a closing bracket have none
-IsPlain-numbered : (front : List ℕ) (tag : ℕ) → IsPlain front → IsPlain (front ++ (tag_number tag ++ codes "]"))
-IsPlain-numbered front tag one =
-    IsPlain-append front (tag_number tag ++ codes "]") one
-    (IsPlain-append (tag_number tag) (codes "]") (IsPlain-tag_number tag) refl)
+  abbrev shown_as : Bool → ℕ → ℕ → Shown
+  shown_as inside base depth = record {
+    front = kind_front (base + piece.offset) depth piece.breaches.rules.items piece.breaches.has_spare_bits piece.kind;
+    inside = inside;
+  }
 
--- a tag in words is plain
-IsPlain-tag_name : (class : ASN1Class) (tag : ℕ) → IsPlain (tag_name class tag)
-IsPlain-tag_name Universal tag =
-    IsPlain-unwrap_or (type_name Universal tag) _ (is_plain_name-get_or universal_names tag refl)
-    (IsPlain-numbered (codes "[UNIVERSAL ") tag refl)
-IsPlain-tag_name Application tag = IsPlain-numbered (codes "[APPLICATION ") tag refl
-IsPlain-tag_name ContextSpecific tag = IsPlain-numbered (codes "[") tag refl
-IsPlain-tag_name Private tag = IsPlain-numbered (codes "[PRIVATE ") tag refl
+  -- the piece is what the walk came to, at the place
+  shown_piece-passed :
+      shown_piece piece ≡ shown_at place.is_inside place.base place.depth (front_of p.levels piece)
+  shown_piece-passed =
+      ap (λ z. shown_as z piece.place.base piece.place.depth) (p.inside ∙ ap (λ z. z.is_inside) same)
+      ∙ (ap (λ z. shown_as place.is_inside z piece.place.depth) base_is
+      ∙ ap (λ z. shown_as place.is_inside place.base z) depth_is)
 
--- the type of a piece is plain
-pub IsPlain-kind_type_name : (kind : PieceKind) → IsPlain (kind_type_name kind)
-IsPlain-kind_type_name (EndOfContents size) = refl
-IsPlain-kind_type_name (Unreadable octets) = refl
-IsPlain-kind_type_name (Cut header contents) = IsPlain-tag_name header.class header.tag
-IsPlain-kind_type_name (Opened header contents joined) = IsPlain-tag_name header.class header.tag
-IsPlain-kind_type_name (Leaf header contents value) = IsPlain-tag_name header.class header.tag
+  -- it is shown, and what stands inside it, it may be
+  AreShown-piece : (inner : List Shown) → AreInside p.left piece inner →
+      AreShown place.is_inside place.base place.depth octets (front_of p.levels piece ∷ []) (shown_piece piece ∷ inner)
+  AreShown-piece inner (inl none) =
+      let f = front_of p.levels piece in
+      let first = shown_at place.is_inside place.base place.depth f in
+      one_shown f [] [] refl (ap (λ z. z ∷ inner) shown_piece-passed ∙ ap (λ z. first ∷ z) none)
+      (none_shown refl refl)
+  AreShown-piece inner (inr (before, part, own, faults, at, read, is)) =
+      let f = front_of p.levels piece in
+      let first = shown_at place.is_inside place.base place.depth f in
+      let stands : StandAt octets piece.offset p.left =
+      subst (λ z. StandAt z piece.offset p.left) same_octets p.position in
+      let behind = piece.offset + (kind_header piece.kind + before) in
+      let deep : AreShown true (piece.place.base + behind) (suc (place.depth + p.levels)) part own inner =
+      subst (λ z. AreShown true (piece.place.base + behind) (suc z) part own inner) depth_is is in
+      string_shown f [] inner [] before part own faults refl
+      (ap (λ z. z ∷ inner) shown_piece-passed ∙ ap (λ z. first ∷ z) (sym (append-nil inner)))
+      (StandAt-inside octets p.left part piece.offset (kind_header piece.kind + before) stands at) read
+      (subst (λ z. AreShown true (z + behind) (suc (place.depth + p.levels)) part own inner) base_is deep)
+      (none_shown refl refl)
+
+-- with the line of one piece more, and the lines inside it, what was put goes up to the next place of the walk
+pub ShownTo-append :
+    (strict : Bool) (place : Place) (octets : List ℕ) (old new : Walk) (piece : Piece) (first : Option Fault)
+    (before middle after text own : List ℕ) (p : Passes old new piece) →
+    ShownTo strict place octets old first before middle text → IsOwn strict piece p.left middle after own →
+    ShownTo strict place octets new (option_or first piece.fault) before after (text ++ own)
+ShownTo-append strict place octets old new piece first before middle after text own p s (inner, inside, put) =
+    let f = front_of p.levels piece in
+    let faults = fault_offset piece.fault in
+    let more = shown_piece piece ∷ inner in
+    let most : piece.place.most_depth ≡ place.most_depth = p.most ∙ ap (λ z. z.most_depth) s.same_place in
+    record {
+      fronts = s.fronts ++ f ∷ [];
+      faults = s.faults ++ faults;
+      shown = s.shown ++ more;
+      same_octets = p.same_octets ∙ s.same_octets;
+      same_place = p.same_place ∙ s.same_place;
+      goes_on = λ later others ahead.
+          subst (λ x. AreFrontsOf octets x ((s.faults ++ faults) ++ others))
+          (sym (append_assoc s.fronts (f ∷ []) later))
+          (subst (AreFrontsOf octets (s.fronts ++ f ∷ later)) (sym (append_assoc s.faults faults others))
+          (s.goes_on (f ∷ later) (faults ++ others) (p.ahead later others ahead)));
+      first_is = fault_offset-or first piece.fault s.faults s.first_is;
+      are = AreShown-append place.is_inside place.base place.depth octets s.fronts (f ∷ []) s.shown more s.are
+          (AreShown-piece strict place octets old new piece p s.same_place s.same_octets inner inside);
+      put = ArePut-append strict place.most_depth s.shown more before middle after text own s.put
+          (subst (λ z. ArePut strict z more middle after own) most put);
+    }
+
+-- where the walk is at its end, what was put is all of the octets
+pub IsWhole-shown :
+    (strict : Bool) (place : Place) (octets : List ℕ) (walk : Walk) (first : Option Fault)
+    (before after text : List ℕ) → IsAhead walk.cursor [] [] →
+    ShownTo strict place octets walk first before after text →
+    IsWhole strict place octets (fault_offset first) before after text
+IsWhole-shown strict place octets walk first before after text ended s = record {
+  fronts = s.fronts;
+  faults = s.faults;
+  shown = s.shown;
+  read = subst (λ x. AreFrontsOf octets x s.faults) (append-nil s.fronts)
+      (subst (AreFrontsOf octets (s.fronts ++ [])) (append-nil s.faults) (s.goes_on [] [] ended));
+  first_is = s.first_is;
+  are = s.are;
+  put = s.put;
+}
+
+-- where nothing stands inside a piece, nothing has to be put
+pub IsInner-none : (strict : Bool) (piece : Piece) (left marks : List ℕ) → IsInner strict piece left marks marks []
+IsInner-none strict piece left marks = ([], inl refl, (sym (append-nil marks), refl))
+
+-- encodings of octets that stand inside the contents octets of a piece stand inside the piece
+pub IsInner-whole :
+    (strict : Bool) (piece : Piece) (inside : Place) (left octets first before after text : List ℕ) (n : ℕ) →
+    StandAt (slice_range left (kind_header piece.kind) (kind_header piece.kind + kind_contents piece.kind)) n octets →
+    inside.is_inside ≡ true → inside.base ≡ piece.place.base + (piece.offset + (kind_header piece.kind + n)) →
+    inside.depth ≡ suc piece.place.depth → inside.most_depth ≡ piece.place.most_depth →
+    IsWhole strict inside octets first before after text → IsInner strict piece left before after text
+IsInner-whole strict piece inside left octets first before after text n stands i b d m s =
+    let header = kind_header piece.kind in
+    let end = header + kind_contents piece.kind in
+    let slice = slice_range left header end in
+    let base = piece.place.base + (piece.offset + (header + n)) in
+    let one = subst (λ z. AreShown z inside.base inside.depth octets s.fronts s.shown) i s.are in
+    let two = subst (λ z. AreShown true z inside.depth octets s.fronts s.shown) b one in
+    let three = subst (λ z. AreShown true base z octets s.fronts s.shown) d two in (
+      s.shown,
+      inr (
+        n,
+        octets,
+        s.fronts,
+        s.faults,
+        StandAt-inside left slice octets header n (StandAt-left left slice header end refl) stands,
+        s.read,
+        three,
+      ),
+      subst (λ z. ArePut strict z s.shown before after text) m s.put,
+    )
+
+-- the line of a piece, its mark, and what stands inside it were put
+pub IsOwn-put :
+    (strict : Bool) (piece : Piece) (left before middle after first rest : List ℕ) →
+    middle ≡ before ++ marks_of strict (shown_piece piece) →
+    AreTextsOf piece.place.most_depth (shown_piece piece ∷ []) first → IsInner strict piece left middle after rest →
+    IsOwn strict piece left before after (first ++ rest)
+IsOwn-put strict piece left before middle after first rest marked line (inner, inside, put) = (
+  inner,
+  inside,
+  ArePut-append strict piece.place.most_depth (shown_piece piece ∷ []) inner before middle after first rest (
+    marked ∙ ap (λ z. before ++ z) (sym (append-nil (marks_of strict (shown_piece piece)))),
+    line,
+  ) put,
+)

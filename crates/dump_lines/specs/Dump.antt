@@ -1,115 +1,91 @@
 -- What is written of octets: lines, one for each encoding in order, by their headers. The contents octets of
 -- constructed encodings, and of each SEQUENCE and SET, are gone into; those of others are looked at alone.
-use Rattle.std.specs.Prelude.{◌≡◌, ◌⊎◌, ℕ, ◌+◌, ◌<◌, Bool, true, false, if◌then◌else◌, Option, List, [], ◌∷◌, ◌++◌, length, take, replicate, decimal}
-use Rattle.dump_walk.specs.Marks.{are_some, breaches_of}
-use Rattle.dump_lines.specs.MarkText.{mark_text}
+use Rattle.std.specs.Prelude.{◌≡◌, ◌⊎◌, ℕ, suc, ◌+◌, ◌<◌, ◌&&◌, if◌then◌else◌, Bool, true, false, Option, List, [], ◌∷◌, ◌++◌, length, map}
+use Rattle.std.specs.List.{flat_map}
 use Rattle.dump_lines.specs.declared.document.Verdict.{Verdict}
 use Rattle.dump_lines.specs.declared.document.Verdict.TheVariants.{AllRead, Refused}
-use Rattle.der_io.specs.Characters.{greater_than_sign, line_feed, space}
-use Rattle.dump_rows.specs.Rows.{contents_column, indentation, right_of}
+use Rattle.dump_rows.specs.Rows.{IsLine, IsRowLine}
+use Rattle.dump_rows.specs.declared.row.Row.{Row}
 use Rattle.dump_walk.specs.Fronts.{AreFrontsOf, Front, StandAt, is_too_deep}
+use Rattle.dump_walk.specs.Marks.{are_some, breaches_of}
 
--- the offset of a front, if it is marked
-abbrev pub marked_offset : Front → List ℕ
-marked_offset front = if are_some (breaches_of front.rules front.has_spare_bits) then front.offset ∷ [] else []
-
--- the fronts that stand inside no more than the most
-abbrev pub down_to : Option ℕ → List Front → List Front
-down_to most [] = []
-down_to most (front ∷ fronts) =
-    if is_too_deep most front.depth then down_to most fronts else front ∷ down_to most fronts
-
--- a line of an encoding: spaces, the offset, the sizes of header and contents in columns, spaces for the depth, the
--- field, the words, what else stands behind them, and the mark
-pub record IsBlockLine (front : Front) (line : List ℕ) : Type 0 where
-  pub spaces : ℕ
-  pub field : List ℕ
-  pub text : List ℕ
-  pub mark : List ℕ
-  pub line_is : line ≡
-      replicate spaces space ++ (decimal front.offset ++ (space ∷ [] ++ (right_of 2 front.header ++ (space ∷ []
-      ++ (contents_column front.indefinite front.contents ++ (space ∷ space ∷ []
-      ++ (indentation front.depth ++ (field ++ (front.type_name ++ (text ++ mark))))))))))
-  pub mark_is : mark ≡ mark_text (breaches_of front.rules front.has_spare_bits)
-
--- the line of an encoding inside octets of another: `>`, and then what the line of any encoding has
-pub record IsInsideLine (front : Front) (line : List ℕ) : Type 0 where
-  pub shown : List ℕ
-  pub line_is : line ≡ greater_than_sign ∷ shown
-  pub block : IsBlockLine front shown
-
--- a front at an offset greater by so much, inside however many
-pub record IsLater (base : ℕ) (front later : Front) : Type 0 where
-  pub offset : later.offset ≡ base + front.offset
-  pub header : later.header ≡ front.header
-  pub contents : later.contents ≡ front.contents
-  pub indefinite : later.indefinite ≡ front.indefinite
-  pub type_name : later.type_name ≡ front.type_name
-  pub rules : later.rules ≡ front.rules
-  pub list : later.has_spare_bits ≡ front.has_spare_bits
-
--- the front is of an encoding in a part of the octets, at an offset greater by the base and by where the part stands
-pub record StandsInside (base : ℕ) (octets : List ℕ) (later : Front) : Type 0 where
-  pub before : ℕ
-  pub part : List ℕ
-  pub position : StandAt octets before part
-  pub fronts : List Front
-  pub faults : List ℕ
-  pub read : AreFrontsOf part fronts faults
+-- an encoding of a document: what its line begins with there, and whether it stands inside octets of a string
+pub record Shown : Type 0 where
   pub front : Front
-  pub earlier : List Front
-  pub others : List Front
-  pub among : fronts ≡ earlier ++ front ∷ others
-  pub place : IsLater (base + before) front later
+  pub inside : Bool
 
--- the text is lines, each ended by octet 0A: those of the fronts, in order, and those of encodings inside octets, for
--- which something holds
-pub data IsDump (Inside : Front → Type 0) : List Front → List ℕ → Type 0 where
-  no_lines : {fronts : List Front} {text : List ℕ} → fronts ≡ [] → text ≡ [] → IsDump Inside fronts text
-  block_line :
-      {fronts : List Front} {text : List ℕ} (front : Front) (later : List Front) (line rest : List ℕ) →
-      fronts ≡ front ∷ later → text ≡ line ++ line_feed ∷ rest →
-      IsBlockLine front line → IsDump Inside later rest → IsDump Inside fronts text
-  inside_line :
-      {fronts : List Front} {text : List ℕ} (front : Front) (line rest : List ℕ) →
-      text ≡ line ++ line_feed ∷ rest → IsInsideLine front line → Inside front →
-      IsDump Inside fronts rest → IsDump Inside fronts text
+-- an encoding of octets that stand at an offset of the document, inside so many others
+abbrev pub shown_at : Bool → ℕ → ℕ → Front → Shown
+shown_at inside base depth front = record {
+  front = record front { offset = base + front.offset; depth = depth + front.depth };
+  inside = inside;
+}
 
--- the offsets of marked encodings, in order: of the fronts, and of some inside octets, for which something holds
-pub data AreMarked (Inside : Front → Type 0) : List Front → List ℕ → Type 0 where
-  no_more :
-      {fronts : List Front} {offsets : List ℕ} → fronts ≡ [] → offsets ≡ [] →
-      AreMarked Inside fronts offsets
-  one :
-      {fronts : List Front} {offsets : List ℕ} (front : Front) (later : List Front) (rest : List ℕ) →
-      fronts ≡ front ∷ later → offsets ≡ marked_offset front ++ rest → AreMarked Inside later rest →
-      AreMarked Inside fronts offsets
-  one_inside :
-      {fronts : List Front} {offsets : List ℕ} (front : Front) (rest : List ℕ) →
-      offsets ≡ marked_offset front ++ rest → Inside front → AreMarked Inside fronts rest →
-      AreMarked Inside fronts offsets
+-- the encodings that are shown of octets which stand at an offset of the document, inside so many others: one for each
+-- front in order; and behind one of a string, it may be, all encodings of octets that stand behind its header
+pub data AreShown : Bool → ℕ → ℕ → List ℕ → List Front → List Shown → Type 0 where
+  none_shown :
+      {inside : Bool} {base depth : ℕ} {octets : List ℕ} {fronts : List Front} {shown : List Shown} →
+      fronts ≡ [] → shown ≡ [] → AreShown inside base depth octets fronts shown
+  one_shown :
+      {inside : Bool} {base depth : ℕ} {octets : List ℕ} {fronts : List Front} {shown : List Shown}
+      (front : Front) (later : List Front) (others : List Shown) →
+      fronts ≡ front ∷ later → shown ≡ shown_at inside base depth front ∷ others →
+      AreShown inside base depth octets later others → AreShown inside base depth octets fronts shown
+  string_shown :
+      {inside : Bool} {base depth : ℕ} {octets : List ℕ} {fronts : List Front} {shown : List Shown}
+      (front : Front) (later : List Front) (inner others : List Shown) (before : ℕ) (part : List ℕ)
+      (own : List Front) (faults : List ℕ) →
+      fronts ≡ front ∷ later → shown ≡ shown_at inside base depth front ∷ (inner ++ others) →
+      StandAt octets (front.offset + (front.header + before)) part → AreFrontsOf part own faults →
+      AreShown true (base + (front.offset + (front.header + before))) (suc (depth + front.depth)) part own inner →
+      AreShown inside base depth octets later others → AreShown inside base depth octets fronts shown
 
--- a line of some kind, and octet 0A, which ends it
-abbrev pub IsLine : (List ℕ → Type 0) → List ℕ → Type 0
-IsLine Is text = (line : List ℕ) × (text ≡ line ++ line_feed ∷ []) × Is line
+-- the rules of DER that an encoding breaks, in words
+abbrev pub rules_of : Shown → List (List ℕ)
+rules_of shown = map (λ b. b.text) (breaches_of shown.front.rules shown.front.has_spare_bits)
 
--- what is wrong with a document: the first fault; and where it has to be DER, each encoding that is marked before it
-abbrev pub wrong_offsets : Bool → List ℕ → List ℕ → List ℕ
-wrong_offsets false marks faults = take 1 faults
-wrong_offsets true marks faults = marks ++ take 1 faults
+-- the row of an encoding: its offset, sizes, depth and tag, where it stands, and the rules of DER that it breaks
+pub record IsRowOf (shown : Shown) (row : Row) : Type 0 where
+  pub offset : row.offset ≡ shown.front.offset
+  pub header : row.header ≡ shown.front.header
+  pub contents : row.contents ≡ shown.front.contents
+  pub indefinite : row.is_indefinite ≡ shown.front.indefinite
+  pub depth : row.depth ≡ shown.front.depth
+  pub inside : row.is_inside ≡ shown.inside
+  pub type_name : row.type_name.now ≡ shown.front.type_name
+  pub rules : map (λ r. r.now) row.rules.now ≡ rules_of shown
+
+-- the line of a row of the encoding, or nothing where that stands too deep
+abbrev pub IsTextUnless : Bool → Shown → List ℕ → Type 0
+IsTextUnless true shown text = text ≡ []
+IsTextUnless false shown text = (row : Row) × IsRowOf shown row × IsLine (IsRowLine row) text
+
+abbrev pub IsTextOf : Option ℕ → Shown → List ℕ → Type 0
+IsTextOf most shown = IsTextUnless (is_too_deep most shown.front.depth) shown
+
+-- the lines of encodings, in order
+abbrev pub AreTextsOf : Option ℕ → List Shown → List ℕ → Type 0
+AreTextsOf most [] text = text ≡ []
+AreTextsOf most (shown ∷ others) text =
+    (own rest : List ℕ) × (text ≡ own ++ rest) × IsTextOf most shown own × AreTextsOf most others rest
+
+-- the offset of an encoding that breaks a rule of DER, where documents have to be DER
+abbrev pub marks_of : Bool → Shown → List ℕ
+marks_of strict shown = if strict && are_some (rules_of shown) then shown.front.offset ∷ [] else []
 
 -- all was read of a document of which nothing is wrong
 abbrev pub verdict_of : List ℕ → Verdict
 verdict_of [] = AllRead
 verdict_of (offset ∷ offsets) = Refused
 
--- the lines of octets, which have to be DER or not, down to the most depth, and what says behind them what is wrong
+-- the lines of octets, which have to be DER or not, down to the most depth, and what says behind them what is wrong.
+-- That is faults outside of strings, and where they have to be DER each encoding that breaks a rule of it
 abbrev pub IsDumpOfSome : Bool → Option ℕ → List ℕ → Verdict → List ℕ → Type 0
 IsDumpOfSome strict most octets verdict text =
-    (fronts : List Front) × (faults marks lines last : List ℕ) × (text ≡ lines ++ last)
-    × AreFrontsOf octets fronts faults × IsDump (StandsInside 0 octets) (down_to most fronts) lines
-    × AreMarked (StandsInside 0 octets) fronts marks
-    × (verdict ≡ verdict_of (wrong_offsets strict marks faults))
+    (fronts : List Front) × (faults : List ℕ) × (shown : List Shown) × (lines last : List ℕ) × (text ≡ lines ++ last)
+    × AreFrontsOf octets fronts faults × AreShown false 0 0 octets fronts shown × AreTextsOf most shown lines
+    × (verdict ≡ verdict_of (flat_map (marks_of strict) shown ++ faults))
 
 -- the lines of octets. Where there are no octets, they are refused
 abbrev pub IsDumpOf : Bool → Option ℕ → List ℕ → Verdict → List ℕ → Type 0

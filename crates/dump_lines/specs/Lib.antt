@@ -1,4 +1,2 @@
-pub mod MarkText
 pub mod Dump
 pub mod Steps
-pub mod PieceRows

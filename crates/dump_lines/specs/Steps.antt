@@ -1,69 +1,69 @@
 -- What is put step by step. Private contracts alone name these.
-use Rattle.std.specs.Prelude.{◌≡◌, ℕ, Option, Bool, true, false, List, [], ◌∷◌, MatchOption, None, Some, map}
-use Rattle.dump_walk.specs.Fronts.{AreFrontsOf, Front, is_too_deep}
-use Rattle.dump_lines.specs.Dump.{IsBlockLine, IsDump, IsInsideLine, AreMarked, IsLine, verdict_of, StandsInside, down_to}
-use Rattle.dump_lines.specs.declared.document.Verdict.{Verdict}
-use Rattle.dump_lines.specs.declared.document.Verdict.TheVariants.{Refused}
-use Rattle.dump_lines.specs.declared.encodings.Problems.{Problems}
+use Rattle.std.specs.Prelude.{◌≡◌, ◌⊎◌, ℕ, suc, ◌+◌, Option, Bool, true, List, [], ◌∷◌, ◌++◌, map}
+use Rattle.std.specs.List.{flat_map}
+use Rattle.dump_lines.specs.Dump.{AreShown, AreTextsOf, Shown, marks_of}
 use Rattle.dump_lines.specs.declared.encodings.Marked.{Marked}
-use Rattle.dump_values.specs.declared.faults.Fault.{Fault}
+use Rattle.dump_rows.specs.Printing.{IsPrinted}
+use Rattle.dump_rows.specs.declared.printer.Printer.{Printer}
+use Rattle.dump_walk.specs.Fronts.{AreFrontsOf, Front, StandAt}
+use Rattle.dump_walk.specs.Pieces.{IsHolding, kind_front, kind_header}
+use Rattle.dump_walk.specs.declared.piece.Piece.{Piece}
 use Rattle.dump_walk.specs.declared.place.Place.{Place}
-
--- a line, inside octets of a string or not
-abbrev pub IsLineOf : Bool → Front → List ℕ → Type 0
-IsLineOf true front line = IsInsideLine front line
-IsLineOf false front line = IsBlockLine front line
-
--- the line, or nothing where it stands too deep
-abbrev pub IsLineUnless : Bool → Bool → Front → List ℕ → Type 0
-IsLineUnless true inside front text = text ≡ []
-IsLineUnless false inside front text = IsLine (IsLineOf inside front) text
-
-abbrev pub IsStart : Place → Front → List ℕ → Type 0
-IsStart place front = IsLineUnless (is_too_deep place.most_depth front.depth) place.is_inside front
-
--- the lines of encodings that are no lines inside octets of a string
-abbrev pub outer : Bool → Option ℕ → List Front → List Front
-outer true most fronts = []
-outer false most fronts = down_to most fronts
-
--- the first of the faults, where there is one
-abbrev pub IsFirstFault : List ℕ → Option Fault → Type 0
-IsFirstFault faults first =
-    MatchOption first (faults ≡ []) (λ fault. (later : List ℕ) × (faults ≡ fault.offset ∷ later))
-
--- the first of two faults, where there is one
-abbrev pub earlier_fault : Option Fault → Option Fault → Option Fault
-earlier_fault None next = next
-earlier_fault (Some fault) next = Some fault
-
--- the fronts whose marks count where they stand inside no octets of a string
-abbrev pub counted : Bool → List Front → List Front
-counted true fronts = []
-counted false fronts = fronts
-
--- the offsets of marks that are kept: all of them strictly, where they are wrong
-abbrev pub kept_marks : Bool → List ℕ → List ℕ
-kept_marks true offsets = offsets
-kept_marks false offsets = []
 
 -- the offsets of marks
 abbrev pub mark_offsets : List Marked → List ℕ
 mark_offsets marks = map (λ m. m.offset) marks
 
--- the lines of octets
-pub record IsWholeDump (strict : Bool) (place : Place) (octets : List ℕ) (found : Problems) (text : List ℕ)
-    : Type 0 where
+-- the encoding that a piece is, in the document
+abbrev pub shown_piece : Piece → Shown
+shown_piece piece = record {
+  front = kind_front (piece.place.base + piece.offset) piece.place.depth piece.breaches.rules.items
+      piece.breaches.has_spare_bits piece.kind;
+  inside = piece.place.is_inside;
+}
+
+-- the encodings were put, and the marks of those that have one behind earlier ones
+abbrev pub ArePut : Bool → Option ℕ → List Shown → List ℕ → List ℕ → List ℕ → Type 0
+ArePut strict most shown before after text =
+    (after ≡ before ++ flat_map (marks_of strict) shown) × AreTextsOf most shown text
+
+-- the encodings that are shown behind the header of a piece that begins the octets, if some are
+abbrev pub AreInside : List ℕ → Piece → List Shown → Type 0
+AreInside left piece inner =
+    (inner ≡ [])
+    ⊎ ((before : ℕ) × (part : List ℕ) × (own : List Front) × (faults : List ℕ)
+    × StandAt left (kind_header piece.kind + before) part × AreFrontsOf part own faults
+    × AreShown true (piece.place.base + (piece.offset + (kind_header piece.kind + before))) (suc piece.place.depth)
+    part own inner)
+
+-- the first of faults, if there is one
+abbrev pub first_of : List ℕ → List ℕ
+first_of [] = []
+first_of (offset ∷ offsets) = offset ∷ []
+
+-- all encodings of octets that stand at the place were put; this is the first fault
+pub record IsWhole (strict : Bool) (place : Place) (octets first before after text : List ℕ) : Type 0 where
   pub fronts : List Front
   pub faults : List ℕ
+  pub shown : List Shown
   pub read : AreFrontsOf octets fronts faults
-  pub first : IsFirstFault faults found.fault
-  pub marks : List ℕ
-  pub marked : AreMarked (StandsInside place.base octets) (counted place.is_inside fronts) marks
-  pub kept : mark_offsets found.marks.items ≡ kept_marks strict marks
-  pub dump : IsDump (StandsInside place.base octets) (outer place.is_inside place.most_depth fronts) text
+  pub first_is : first ≡ first_of faults
+  pub are : AreShown place.is_inside place.base place.depth octets fronts shown
+  pub put : ArePut strict place.most_depth shown before after text
 
--- the verdict where this is the first fault, if there is one, and these are the marks
-abbrev pub IsLast : Option Fault → List ℕ → Verdict → Type 0
-IsLast None marks verdict = verdict ≡ verdict_of marks
-IsLast (Some fault) marks verdict = verdict ≡ Refused
+-- those inside a piece were put
+abbrev pub IsInner : Bool → Piece → List ℕ → List ℕ → List ℕ → List ℕ → Type 0
+IsInner strict piece left before after text =
+    (inner : List Shown) × AreInside left piece inner × ArePut strict piece.place.most_depth inner before after text
+
+-- the piece and those inside it were put
+abbrev pub IsOwn : Bool → Piece → List ℕ → List ℕ → List ℕ → List ℕ → Type 0
+IsOwn strict piece left before after text =
+    (inner : List Shown) × AreInside left piece inner
+    × ArePut strict piece.place.most_depth (shown_piece piece ∷ inner) before after text
+
+-- what was printed is of the piece, wherever it stands
+abbrev pub PrintsHeld :
+    {W : Type 0} → (W → Option (List ℕ)) → (List ℕ → List ℕ → Type 0) → Piece → Printer W → Printer W → Type 0
+PrintsHeld contents Is piece old new =
+    (left : List ℕ) → IsHolding left piece.kind piece.place piece.nested → IsPrinted contents (Is left) old new

@@ -1,6 +1,6 @@
 //! The rows of DER documents, for people: one for each block, in tree order.
 //!
-//! [`push_document`] prints the rows of a document by a `Printer` of `dump_rows`, in a [`Style`]. As lines they are:
+//! A [`Dumper`] prints the rows of a document by a `Printer` of `dump_rows`, in a [`Style`]. As lines they are:
 //!
 //! ```text
 //!       0  2       6  SEQUENCE
@@ -16,23 +16,15 @@
 //! well-formed, and each of them a line. Encodings inside the bytes of a string have lines that begin with `>`. What is
 //! wrong with an encoding is said on its line, and the first fault again on the last line, which begins with `!`; what
 //! came of it is the [`Verdict`]. Where the library reads otherwise than X.690, on purpose, lines show what X.690 has.
-//! What breaks a rule of DER has a mark at the end of its line, with the rules that `asn1_departures` finds, and
-//! [`push_strict_document`] lists it.
-//! [`push_fault_line`] prints the line of a fault that others find.
-//!
-//! [`push_label`] and [`push_refusal`] put the other lines of what is written: `=` and the label of a document, `!` and
-//! why there is none.
+//! What breaks a rule of DER has a mark at the end of its line, with the rules that `asn1_departures` finds; where
+//! documents have to be DER, it is listed behind the lines. [`push_refusal`] prints why there is no document.
 //!
 //! The errors are that memory ran out, and that a write failed. What was written before stays.
 #![tactic(auto)]
 
 mod document;
 mod encodings;
-mod lines;
-mod notes;
 mod values;
 
-pub use document::{Verdict, push_document, push_strict_document};
+pub use document::{Dumper, Verdict, push_refusal};
 pub use dump_walk::style::Style;
-pub use lines::push_fault_line;
-pub use notes::{push_label, push_refusal};

@@ -2,3 +2,4 @@ pub mod PlainText
 pub mod Shown
 pub mod Made
 pub mod Printed
+mod Marks

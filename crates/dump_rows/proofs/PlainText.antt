@@ -1,14 +1,12 @@
--- Text of characters of ASCII that are shown, for `Shown` and for crates that put parts of lines together.
+-- Text of characters of ASCII that are shown, for `Shown` and `line`.
 use Rattle.std.proofs.Common.{◌≡◌, ◌==◌, ◌-◌, ◌/◌, ◌%◌, length, min, ℕ, zero, suc, Bool, true, false, List, [], ◌∷◌, ◌++◌, if◌then◌else◌, replicate, arith, refl, ap, ◌∙◌}
 use Rattle.std.specs.Prelude.{◌&&◌, ◌*◌, decimal}
 use Rattle.std.specs.List.{list_all}
 use Rattle.std.specs.Fmt.{digit_glyph, digits, digits_onto}
 use Rattle.std.proofs.lemmas.List.Folds.{list_all-append}
-use Rattle.der_io.specs.Escaped.{all_escaped, escape_of_other}
 use Rattle.dump_rows.specs.Rows.{columns_text, contents_column, indentation, offset_column, right_of}
-use Rattle.dump_rows.specs.Shown.{IsPlain, is_plain, shown_text}
+use Rattle.dump_rows.specs.Shown.{IsPlain, is_plain}
 use Rattle.dump_rows.specs.declared.row.Row.{Row}
-use Rattle.std.specs.Str.{chars}
 
 -- two plain texts, joined, are plain
 pub IsPlain-append : (xs ys : List ℕ) → IsPlain xs → IsPlain ys → IsPlain (xs ++ ys)
@@ -20,7 +18,7 @@ IsPlain-spaces zero = refl
 IsPlain-spaces (suc n) = IsPlain-spaces n
 
 -- either of two plain texts is plain
-pub IsPlain-if : (is : Bool) (xs ys : List ℕ) → IsPlain xs → IsPlain ys → IsPlain (if is then xs else ys)
+IsPlain-if : (is : Bool) (xs ys : List ℕ) → IsPlain xs → IsPlain ys → IsPlain (if is then xs else ys)
 IsPlain-if true xs ys p q = p
 IsPlain-if false xs ys p q = q
 
@@ -52,7 +50,7 @@ IsPlain-hex_digits_onto (suc k) n more one =
     (IsPlain-hex_digits_onto k (n / 16) (d ∷ more) first)
 
 -- a number in decimal is plain
-pub IsPlain-decimal : (n : ℕ) → IsPlain (decimal n)
+IsPlain-decimal : (n : ℕ) → IsPlain (decimal n)
 unfolding digits
 IsPlain-decimal n = IsPlain-digits_onto 64 n [] refl
 
@@ -91,8 +89,3 @@ IsPlain-columns_text row =
     IsPlain-append (offset_column row.is_inside row.offset)
     (32 ∷ (right_of 2 row.header ++ (32 ∷ (contents ++ levels))))
     (IsPlain-offset_column row.is_inside row.offset) one_sizes
-
--- what is shown of a plain text is the text
-pub shown_text-plain : (text : List ℕ) → IsPlain text → shown_text text ≡ text
-shown_text-plain text plain =
-    ap (λ z. if z then text else all_escaped escape_of_other (chars text)) plain

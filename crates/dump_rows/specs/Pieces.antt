@@ -5,7 +5,7 @@ use Rattle.dump_rows.specs.Shown.{IsShown}
 use Rattle.dump_rows.specs.declared.color.Paint.{Paint}
 use Rattle.dump_rows.specs.declared.color.Paint.TheVariants.{Bold, Cyan, Dim, Default, Red}
 use Rattle.dump_rows.specs.declared.page.markup.Markup.{Markup}
-use Rattle.dump_rows.specs.declared.page.markup.Markup.TheVariants.{SectionStart, OctetsStart, SectionEnd, GroupStart, GroupFaultStart, GroupOpened, GroupEnd, LineStart, FaultStart, LineOpened, LineEnd, Offset, HeaderSize, ContentsSize, Indefinite, ValueEnd}
+use Rattle.dump_rows.specs.declared.page.markup.Markup.TheVariants.{SectionStart, OctetsStart, SectionEnd, GroupStart, GroupOpened, GroupEnd, LineStart, LineEnd, FaultClass, Opened, Offset, HeaderSize, ContentsSize, Indefinite, ValueEnd}
 use Rattle.dump_rows.specs.declared.printer.Look.{Look}
 use Rattle.dump_rows.specs.declared.printer.Look.TheVariants.{Colored, Page, Plain}
 
@@ -38,13 +38,12 @@ markup_text SectionStart = codes "<section><div class=\"tree\">\n"
 markup_text OctetsStart = codes "</div><pre class=\"octets\">"
 markup_text SectionEnd = codes "</pre></section>\n"
 markup_text GroupStart = codes "<details open><summary"
-markup_text GroupFaultStart = codes "<details open><summary class=\"fault\""
 markup_text GroupOpened = codes "</summary>\n"
 markup_text GroupEnd = codes "</details>\n"
 markup_text LineStart = codes "<p tabindex=\"0\""
-markup_text FaultStart = codes "<p tabindex=\"0\" class=\"fault\""
-markup_text LineOpened = codes ">"
 markup_text LineEnd = codes "</p>\n"
+markup_text FaultClass = codes " class=\"fault\""
+markup_text Opened = codes ">"
 markup_text Offset = codes " data-offset=\""
 markup_text HeaderSize = codes "\" data-header=\""
 markup_text ContentsSize = codes "\" data-contents=\""

@@ -16,6 +16,10 @@ Pushes Plain text before after = (after ≡ before ++ text) × IsMade Plain text
 Pushes Colored text before after = Adds Colored before after
 Pushes Page text before after = Adds Page before after
 
+-- a text of some kind was pushed
+abbrev pub IsPushed : Look → (List ℕ → Type 0) → List ℕ → List ℕ → Type 0
+IsPushed look Is before after = (text : List ℕ) × Pushes look text before after × Is text
+
 -- a printer wrote the text in its look
 abbrev pub Prints :
     {W : Type 0} → (W → Option (List ℕ)) → List ℕ → Printer W → Printer W → Type 0

@@ -1,10 +1,8 @@
 -- The lines of rows.
-use Rattle.std.specs.Prelude.{ℕ, ◌-◌, ◌*◌, Bool, true, false, List, [], ◌∷◌, ◌++◌, codes, decimal, length, min, replicate, unwrap_or}
-use Rattle.std.specs.Option.{option_map}
-use Rattle.der_io.specs.Characters.{equals_sign, exclamation_mark, greater_than_sign, space}
+use Rattle.std.specs.Prelude.{◌≡◌, ℕ, ◌-◌, ◌*◌, Bool, true, false, List, [], ◌∷◌, ◌++◌, codes, decimal, length, map, min, replicate}
+use Rattle.der_io.specs.Characters.{greater_than_sign, line_feed, space}
+use Rattle.dump_rows.specs.Marks.{mark_text}
 use Rattle.dump_rows.specs.Shown.{shown_text}
-use Rattle.dump_rows.specs.declared.line.NoteKind.{NoteKind}
-use Rattle.dump_rows.specs.declared.line.NoteKind.TheVariants.{Error, Title}
 use Rattle.dump_rows.specs.declared.row.Row.{Row}
 
 -- a number in decimal, with spaces before it where it has fewer digits than the width
@@ -32,17 +30,13 @@ columns_text row =
     offset_column row.is_inside row.offset ++ (space ∷ [] ++ (right_of 2 row.header ++ (space ∷ []
     ++ (contents_column row.is_indefinite row.contents ++ (space ∷ space ∷ [] ++ indentation row.depth)))))
 
--- the message of what is wrong with a row; nothing where nothing is wrong
-abbrev pub fault_message : Row → List ℕ
-fault_message row = unwrap_or (option_map (λ message. message.now) row.fault) []
+-- the line of a row: its columns, the name of a field, its type, a text, and what of DER it breaks
+pub record IsRowLine (row : Row) (line : List ℕ) : Type 0 where
+  pub field : List ℕ
+  pub text : List ℕ
+  pub line_is : line ≡ columns_text row ++ (field ++ (shown_text row.type_name.now ++ (text
+      ++ shown_text (mark_text (map (λ r. r.now) row.rules.now)))))
 
--- the line of a row: its columns, its field, its type, its value, what is wrong with it, and what of DER it breaks
-abbrev pub row_line : Row → List ℕ
-row_line row =
-    columns_text row ++ (shown_text row.field.now ++ (shown_text row.type_name.now
-    ++ (shown_text row.value.now ++ (shown_text (fault_message row) ++ shown_text row.mark.now))))
-
--- the octet that the line of a note begins with
-abbrev pub note_mark : NoteKind → ℕ
-note_mark Title = equals_sign
-note_mark Error = exclamation_mark
+-- a line of some kind, and octet 0A, which ends it
+abbrev pub IsLine : (List ℕ → Type 0) → List ℕ → Type 0
+IsLine Is text = (line : List ℕ) × (text ≡ line ++ line_feed ∷ []) × Is line

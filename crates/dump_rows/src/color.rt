@@ -41,16 +41,13 @@ pub fn push_painted(paint: Paint, text: &[u8], out: &mut Vec<u8>) -> Result<(), 
     requires { IsShown text.now }
     ensures { OnOk result (Adds Colored out.old.items out.new.items) }
 {
-    if text.is_empty() || is_default(paint) {
+    let is_default = matches!(paint, Paint::Default);
+    if text.is_empty() || is_default {
         return push_plain(text, out);
     }
     push_sequence(paint, out)?;
     push_plain(text, out)?;
     push_sequence(Paint::Default, out)
-}
-
-fn is_default(paint: Paint) -> bool {
-    matches!(paint, Paint::Default)
 }
 
 fn push_plain(text: &[u8], out: &mut Vec<u8>) -> Result<(), AllocError>

@@ -13,9 +13,8 @@
 //! ```
 //!
 //! The line of a row has its offset, the sizes of its header and of its contents octets, its field, its type, its
-//! value, what is wrong with it, and what of DER it breaks. [`Printer::push_note`] prints a line about documents: `=`
-//! and a title, or `!` and what is wrong. No line has a control character or one that is invisible: `\u{..}` stands in
-//! its place.
+//! value, what is wrong with it, and what of DER it breaks. Other lines are about documents: `=` and a title, or `!`
+//! and what is wrong. No line has a control character or one that is invisible: `\u{..}` stands in its place.
 //!
 //! A page begins by [`push_head`] and ends by [`push_foot`]. Nothing of a document stands on it but escaped, or in
 //! digits.
@@ -26,11 +25,11 @@
 mod color;
 mod columns;
 mod line;
+mod mark;
 mod page;
 mod printer;
 mod row;
 
-pub use line::NoteKind;
 pub use page::frame::{push_foot, push_head};
 pub use printer::{Look, Printer};
-pub use row::Row;
+pub use row::{Inside, Row, RowFault, RowValue};

@@ -1,26 +1,18 @@
 // Lines of rows and of notes, in a look.
-ghost use Rattle.std.specs.Prelude.{◌≡◌, ◌∷◌, [], IfOk, OnOk, string_bytes};
-ghost use Rattle.dump_rows.specs.Printing.{Pushes};
-ghost use Rattle.dump_rows.specs.Rows.{columns_text, fault_message, note_mark, row_line};
+ghost use Rattle.std.specs.Prelude.{◌∷◌, [], OnOk};
+ghost use Rattle.dump_rows.specs.Printing.{IsPushed, Pushes};
+ghost use Rattle.dump_rows.specs.Rows.{IsRowLine, columns_text};
 ghost use Rattle.dump_rows.specs.Shown.{IsShown, shown_text};
 
 use crate::color::{Paint, push_painted};
 use crate::columns::{is_plain_text, push_columns};
+use crate::mark::mark_of;
 use crate::page::element::push_element_end;
 use crate::page::markup::push_text;
 use crate::printer::Look;
-use crate::row::Row;
+use crate::row::{Inside, Row, RowFault};
 use der_io::push_shown;
 use std::alloc::{AllocError, Global};
-
-/// What a line is that is not of a row.
-#[derive(Clone, Copy, Drop)]
-pub enum NoteKind {
-    /// The title of what follows, which is a label or a name.
-    Title,
-    /// What is wrong.
-    Error,
-}
 
 // Pushes the line of a row, without its end.
 pub fn push_row_line(
@@ -29,14 +21,18 @@ pub fn push_row_line(
     row: &Row<'_>,
     out: &mut Vec<u8>,
 ) -> Result<(), AllocError>
-    ensures { OnOk result (Pushes look (row_line row.now) out.old.items out.new.items) }
+    ensures { OnOk result (IsPushed look (IsRowLine row.now) out.old.items out.new.items) }
 {
+    let field = field_text(alloc, row)?;
+    let value = value_text(alloc, row)?;
+    let fault = fault_text(alloc, row)?;
+    let mark = mark_of(alloc, row.rules)?;
     push_columns_in(alloc, look, row, out)?;
-    push_part(alloc, look, Paint::Bold, row.field, out)?;
+    push_part(alloc, look, Paint::Bold, &field, out)?;
     push_part(alloc, look, Paint::Cyan, row.type_name, out)?;
-    push_part(alloc, look, Paint::Default, row.value, out)?;
-    push_part(alloc, look, Paint::Red, message_of(row), out)?;
-    push_part(alloc, look, Paint::Red, row.mark, out)?;
+    push_part(alloc, look, Paint::Default, &value, out)?;
+    push_part(alloc, look, Paint::Red, &fault, out)?;
+    push_part(alloc, look, Paint::Red, &mark, out)?;
     Ok(())
 }
 
@@ -58,13 +54,64 @@ fn push_columns_in(
     }
 }
 
-// What is wrong with a row, if anything is.
-fn message_of<'a>(row: &Row<'a>) -> &'a str
-    ensures { result.now ≡ fault_message row.now }
-{
+// The name of a field, as it stands before the type.
+fn field_text(alloc: Global, row: &Row<'_>) -> Result<String, AllocError> {
+    match row.field {
+        Some(name) => format!(in alloc; "{name} "),
+        None => Ok(String::new(alloc)),
+    }
+}
+
+// What a piece holds, as it stands behind the type.
+fn value_text(alloc: Global, row: &Row<'_>) -> Result<String, AllocError> {
+    let value = &row.value;
+    let mut text = String::with_capacity(alloc, value.text.len().saturating_add(1))?;
+    if let Some(name) = value.alternative {
+        write!(text, " {name}")?;
+    }
+    if value.is_constructed {
+        text.push_str(", constructed")?;
+    }
     match row.fault {
-        Some(message) => message,
-        None => "",
+        Some(RowFault::CutShort { .. }) => {}
+        _ => write_behind(&mut text, value.is_constructed, value.text)?,
+    }
+    match value.inside {
+        Inside::Octets => {}
+        Inside::Encodings => text.push_str(", containing")?,
+        Inside::Guess => text.push_str(", containing (guessed)")?,
+    }
+    match value.identifier {
+        Some((name, "")) => write!(text, " {name}")?,
+        Some((name, standard)) => write!(text, " {name} ({standard})")?,
+        None => {}
+    }
+    if let Some(meaning) = value.meaning {
+        write!(text, " ({meaning})")?;
+    }
+    Ok(text)
+}
+
+// A value, if there is one, behind a space, and behind a colon where words stand before it.
+fn write_behind(out: &mut String, has_colon: bool, value: &str) -> Result<(), AllocError> {
+    match (value, has_colon) {
+        ("", _) => Ok(()),
+        (_, true) => write!(out, ": {value}"),
+        (_, false) => write!(out, " {value}"),
+    }
+}
+
+// What is wrong with a piece, as it stands behind its value.
+fn fault_text(alloc: Global, row: &Row<'_>) -> Result<String, AllocError> {
+    match row.fault {
+        None => Ok(String::new(alloc)),
+        Some(RowFault::Missing) => String::from_str(alloc, " is missing (Incomplete)"),
+        Some(RowFault::CutShort { there, announced }) => {
+            let mut text = format!(in alloc; " (truncated: {there} of {announced} bytes)")?;
+            write_behind(&mut text, true, row.value.text)?;
+            Ok(text)
+        }
+        Some(RowFault::Other(message)) => format!(in alloc; ": {message}"),
     }
 }
 
@@ -106,43 +153,5 @@ pub fn push_end(look: Look, is_fold: bool, out: &mut Vec<u8>) -> Result<(), Allo
         Look::Plain => out.extend_from_slice(b"\n"),
         Look::Colored => out.extend_from_slice(b"\n"),
         Look::Page => push_element_end(is_fold, out),
-    }
-}
-
-// The line of a note, without its end.
-pub fn note_line(alloc: Global, kind: NoteKind, text: &str) -> Result<String, AllocError>
-    ensures { IfOk result (λ line. string_bytes line ≡ note_mark kind ∷ 32 ∷ text.now) }
-{
-    let mark = mark_of(kind);
-    format!(in alloc; "{mark} {text}")
-}
-
-// The line of a fault, without its end.
-pub fn fault_line(alloc: Global, offset: usize, message: &str) -> Result<String, AllocError> {
-    format!(in alloc; "! error at offset {offset}: {message}")
-}
-
-fn mark_of(kind: NoteKind) -> &'static str
-    ensures { result.now ≡ note_mark kind ∷ [] }
-{
-    match kind {
-        NoteKind::Title => "=",
-        NoteKind::Error => "!",
-    }
-}
-
-// Whether a note says that something is wrong.
-pub fn is_error(kind: NoteKind) -> bool {
-    match kind {
-        NoteKind::Title => false,
-        NoteKind::Error => true,
-    }
-}
-
-// The color of a note.
-pub fn paint_of(kind: NoteKind) -> Paint {
-    match kind {
-        NoteKind::Title => Paint::Bold,
-        NoteKind::Error => Paint::Red,
     }
 }

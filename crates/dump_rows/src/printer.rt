@@ -1,19 +1,19 @@
 // A printer, which writes rows and notes one behind another.
-ghost use Rattle.std.specs.Prelude.{◌≡◌, ◌∷◌, ◌++◌, [], OnOk};
+ghost use Rattle.std.specs.Prelude.{◌≡◌, ◌∷◌, [], IfOk, OnOk, string_bytes};
 ghost use Rattle.std.specs.Io.KnownBytes.{Appends};
-ghost use Rattle.dump_rows.specs.Printing.{Adds, Prints, PrintsPage, PrintsText, Pushes};
-ghost use Rattle.dump_rows.specs.Rows.{row_line};
+ghost use Rattle.der_io.specs.Characters.{equals_sign, exclamation_mark, space};
+ghost use Rattle.dump_rows.specs.Printing.{Adds, IsPrinted, Prints, PrintsPage, PrintsText, Pushes};
+ghost use Rattle.dump_rows.specs.Rows.{IsLine, IsRowLine};
 ghost use Rattle.dump_rows.specs.declared.printer.Look.TheVariants.{Page};
 
+use crate::color::Paint;
 use crate::columns::MOST_LEVELS;
-use crate::line::{
-    NoteKind, fault_line, is_error, note_line, paint_of, push_end, push_part, push_row_line,
-};
-use crate::page::element::{Columns, Element, push_element_start, push_fold_end};
-use crate::page::markup::push_octets;
-use crate::page::section::{push_octets_start, push_section_end, push_section_start};
+use crate::line::{push_end, push_part, push_row_line};
+use crate::mark::push_rules;
+use crate::page::element::push_element_start;
+use crate::page::markup::{Markup, push_markup, push_octets};
 use crate::row::Row;
-use der_io::{StreamFault, write_part};
+use der_io::{StreamFault, escaped, write_part};
 use std::alloc::{AllocError, Global};
 use std::io::Write;
 
@@ -65,50 +65,68 @@ impl<W: Write> Printer<W> {
     /// # Errors
     /// `Memory`, after which nothing of it was written; `Write`, after which nothing is known of what was.
     pub fn push(&mut self, row: &Row<'_>) -> Result<(), StreamFault>
-        ensures { OnOk result (Prints W.contents (row_line row.now ++ 10 ∷ []) self.old self.new) }
+        ensures { OnOk result (IsPrinted W.contents (IsLine (IsRowLine row.now)) self.old self.new) }
     {
         let is_fold = row.has_rows_inside && row.depth < MOST_LEVELS;
-        self.begin(row.depth.min(MOST_LEVELS), element_of(row, is_fold))?;
+        self.begin(is_fold, row.fault.is_some(), Some(row))?;
         push_row_line(self.alloc, self.look, row, &mut self.line)?;
         push_end(self.look, is_fold, &mut self.line)?;
         self.write_made()?;
         Ok(())
     }
 
-    /// Prints a line of another kind, on which each character is escaped that is not shown. On a page its element has
-    /// the class `fault` exactly if it says that something is wrong.
+    /// Prints a title, as a label or a name: `=`, a space, and the octets as text, escaped.
     ///
     /// # Errors
     /// Those of [`Printer::push`].
-    pub fn push_note(&mut self, kind: NoteKind, text: &str) -> Result<(), StreamFault>
+    pub fn push_title(&mut self, title: &[u8]) -> Result<(), StreamFault>
         ensures { OnOk result (PrintsText W.contents self.old self.new) }
     {
-        let line = note_line(self.alloc, kind, text)?;
-        self.push_noted(kind, &line)
+        let title = escaped(self.alloc, title)?;
+        let line = title_line(self.alloc, &title)?;
+        self.push_note(false, Paint::Bold, &line)
     }
 
-    /// Prints the line of a fault: its offset, and the message.
+    /// Prints why there are no rows: `!`, a space, and the text. On a page its element has the class `fault`.
+    ///
+    /// # Errors
+    /// Those of [`Printer::push`].
+    pub fn push_refusal(&mut self, why: &str) -> Result<(), StreamFault>
+        ensures { OnOk result (PrintsText W.contents self.old self.new) }
+    {
+        let line = refusal_line(self.alloc, why)?;
+        self.push_note(true, Paint::Red, &line)
+    }
+
+    /// Prints a fault like a refusal: its offset, and the message.
     ///
     /// # Errors
     /// Those of [`Printer::push`].
     pub fn push_fault(&mut self, offset: usize, message: &str) -> Result<(), StreamFault>
         ensures { OnOk result (PrintsText W.contents self.old self.new) }
     {
-        let line = fault_line(self.alloc, offset, message)?;
-        self.push_noted(NoteKind::Error, &line)
+        let why = format!(in self.alloc; "error at offset {offset}: {message}")?;
+        self.push_refusal(&why)
     }
 
-    // Prints the line of a note.
-    fn push_noted(&mut self, kind: NoteKind, line: &str) -> Result<(), StreamFault>
+    /// Prints like a fault which rules of DER the encoding at the offset breaks.
+    ///
+    /// # Errors
+    /// Those of [`Printer::push`].
+    pub fn push_broken(&mut self, offset: usize, rules: &[&str]) -> Result<(), StreamFault>
         ensures { OnOk result (PrintsText W.contents self.old self.new) }
     {
-        let element = Element {
-            is_fold: false,
-            is_fault: is_error(kind),
-            columns: None,
-        };
-        self.begin(0, element)?;
-        push_part(self.alloc, self.look, paint_of(kind), line, &mut self.line)?;
+        let mut message = String::new(self.alloc);
+        push_rules(rules, &mut message)?;
+        self.push_fault(offset, &message)
+    }
+
+    // Prints a line of no row.
+    fn push_note(&mut self, is_fault: bool, paint: Paint, line: &str) -> Result<(), StreamFault>
+        ensures { OnOk result (PrintsText W.contents self.old self.new) }
+    {
+        self.begin(false, is_fault, None)?;
+        push_part(self.alloc, self.look, paint, line, &mut self.line)?;
         push_end(self.look, false, &mut self.line)?;
         self.write_made()?;
         Ok(())
@@ -134,10 +152,7 @@ impl<W: Write> Printer<W> {
     pub fn begin_section(&mut self) -> Result<(), StreamFault>
         ensures { OnOk result (PrintsPage W.contents self.old self.new) }
     {
-        self.line.clear();
-        push_section_start(&mut self.line)?;
-        self.write_made()?;
-        Ok(())
+        self.write_markup(Markup::SectionStart)
     }
 
     /// Prints the octets that the rows of a section are of, and its end.
@@ -147,44 +162,32 @@ impl<W: Write> Printer<W> {
     pub fn end_section(&mut self, octets: &[u8]) -> Result<(), StreamFault>
         ensures { OnOk result (PrintsPage W.contents self.old self.new) }
     {
-        self.begin_octets()?;
-        self.push_octets(octets)?;
-        self.end_octets()?;
+        self.write_markup(Markup::OctetsStart)?;
+        self.write_octets(octets)?;
+        self.write_markup(Markup::SectionEnd)?;
         Ok(())
     }
 
-    fn begin_octets(&mut self) -> Result<(), StreamFault>
+    fn write_markup(&mut self, markup: Markup) -> Result<(), StreamFault>
         ensures { OnOk result (PrintsPage W.contents self.old self.new) }
     {
         self.line.clear();
-        push_octets_start(&mut self.line)?;
+        push_markup(markup, &mut self.line)?;
         self.write_made()?;
         Ok(())
     }
 
-    fn end_octets(&mut self) -> Result<(), StreamFault>
+    // Writes octets in hex digits, in parts.
+    fn write_octets(&mut self, octets: &[u8]) -> Result<(), StreamFault>
         ensures { OnOk result (PrintsPage W.contents self.old self.new) }
     {
-        self.line.clear();
-        push_section_end(&mut self.line)?;
-        self.write_made()?;
-        Ok(())
-    }
-
-    // Prints octets, in parts.
-    fn push_octets(&mut self, octets: &[u8]) -> Result<(), StreamFault>
-        ensures { OnOk result (PrintsPage W.contents self.old self.new) }
-    {
-        let mut rest = octets;
-        while !rest.is_empty() {
-            let (part, later) = rest.split_at(rest.len().min(OCTETS_AT_ONCE));
-            self.push_octets_part(part)?;
-            rest = later;
+        for part in octets.chunks(OCTETS_AT_ONCE) {
+            self.write_part(part)?;
         }
         Ok(())
     }
 
-    fn push_octets_part(&mut self, octets: &[u8]) -> Result<(), StreamFault>
+    fn write_part(&mut self, octets: &[u8]) -> Result<(), StreamFault>
         ensures { OnOk result (PrintsPage W.contents self.old self.new) }
     {
         self.line.clear();
@@ -211,17 +214,45 @@ impl<W: Write> Printer<W> {
         out
     }
 
-    // Begins what shows a line: on a page an element, inside the folds of lower levels.
-    fn begin(&mut self, level: usize, element: Element) -> Result<(), AllocError>
+    // Begins what shows a line, that of a row if one is given: on a page an element, inside the folds of lower levels.
+    fn begin(
+        &mut self,
+        is_fold: bool,
+        is_fault: bool,
+        row: Option<&Row<'_>>,
+    ) -> Result<(), AllocError>
         ensures look { OnOk result (self.new.look ≡ self.old.look) }
         ensures out { OnOk result (self.new.out ≡ self.old.out) }
         ensures line { OnOk result (Pushes self.old.look [] [] self.new.line.items) }
     {
+        let level = level_of(row);
         self.line.clear();
         close_folds(self.look, level, &mut self.folds, &mut self.line)?;
-        open_fold(element.is_fold, level, &mut self.folds)?;
-        begin_element(self.look, element, &mut self.line)?;
+        open_fold(is_fold, level, &mut self.folds)?;
+        begin_element(self.look, is_fold, is_fault, row, &mut self.line)?;
         Ok(())
+    }
+}
+
+// The line of a title, without its end.
+fn title_line(alloc: Global, title: &str) -> Result<String, AllocError>
+    ensures { IfOk result (λ line. string_bytes line ≡ equals_sign ∷ space ∷ title.now) }
+{
+    format!(in alloc; "= {title}")
+}
+
+// The line of a refusal, without its end.
+fn refusal_line(alloc: Global, why: &str) -> Result<String, AllocError>
+    ensures { IfOk result (λ line. string_bytes line ≡ exclamation_mark ∷ space ∷ why.now) }
+{
+    format!(in alloc; "! {why}")
+}
+
+// The level of folds at which a row stands, or a note.
+fn level_of(row: Option<&Row<'_>>) -> usize {
+    match row {
+        Some(row) => row.depth.min(MOST_LEVELS),
+        None => 0,
     }
 }
 
@@ -249,7 +280,7 @@ fn end_folds(level: usize, folds: &mut Vec<usize>, out: &mut Vec<u8>) -> Result<
             return Ok(());
         }
         folds.pop();
-        push_fold_end(out)?;
+        push_markup(Markup::GroupEnd, out)?;
     }
     Ok(())
 }
@@ -263,30 +294,18 @@ fn open_fold(is_fold: bool, level: usize, folds: &mut Vec<usize>) -> Result<(), 
 }
 
 // Pushes the beginning of an element. Lines have none.
-fn begin_element(look: Look, element: Element, out: &mut Vec<u8>) -> Result<(), AllocError>
+fn begin_element(
+    look: Look,
+    is_fold: bool,
+    is_fault: bool,
+    row: Option<&Row<'_>>,
+    out: &mut Vec<u8>,
+) -> Result<(), AllocError>
     ensures { OnOk result (Pushes look [] out.old.items out.new.items) }
 {
     match look {
         Look::Plain => Ok(()),
         Look::Colored => Ok(()),
-        Look::Page => push_element_start(element, out),
-    }
-}
-
-// The element of a row.
-fn element_of(row: &Row<'_>, is_fold: bool) -> Element {
-    let contents = if row.is_indefinite {
-        None
-    } else {
-        Some(row.contents)
-    };
-    Element {
-        is_fold,
-        is_fault: row.fault.is_some(),
-        columns: Some(Columns {
-            offset: row.offset,
-            header: row.header,
-            contents,
-        }),
+        Look::Page => push_element_start(is_fold, is_fault, row, out),
     }
 }

@@ -35,4 +35,4 @@ form_name Latin1 = codes "Latin-1"
 
 -- text in quotation marks, behind the form that its octets have
 abbrev pub in_form : Characters → List ℕ → List ℕ
-in_form form text = codes " (as " ++ (form_name form ++ (codes ") " ++ quoted text))
+in_form form text = codes "(as " ++ (form_name form ++ (codes ") " ++ quoted text))

@@ -69,7 +69,7 @@ pub fn write_quoted(out: &mut String, text: &str) -> Result<(), AllocError>
 pub fn write_as(out: &mut String, form: Characters, text: &str) -> Result<(), AllocError>
     ensures { OnOk result (string_bytes out.new ≡ string_bytes out.old ++ in_form form text.now) }
 {
-    out.push_str(" (as ")?;
+    out.push_str("(as ")?;
     out.push_str(form_name(form))?;
     out.push_str(") ")?;
     write_quoted(out, text)

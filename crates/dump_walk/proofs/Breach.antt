@@ -1,8 +1,8 @@
 -- Rules that are described, one after another, for `marks::described_rules`.
-use Rattle.std.proofs.Common.{◌≡◌, ◌+◌, ◌<◌, ℕ, List, [], ◌∷◌, ◌++◌, map, sym, ap, ◌∙◌, get_or, length, take, refl, true}
+use Rattle.std.proofs.Common.{◌≡◌, ◌+◌, ◌<◌, ℕ, List, [], ◌∷◌, ◌++◌, map, sym, ap, ◌∙◌, get_or, length, take}
 use Rattle.std.proofs.lemmas.List.{map-append, take_more}
 use Rattle.asn1_departures.specs.declared.rule.Rule.{Rule}
-use Rattle.dump_walk.specs.Marks.{rule_breach, breach_of, are_some}
+use Rattle.dump_walk.specs.Marks.{rule_breach, breach_of}
 use Rattle.dump_walk.specs.declared.marks.BrokenRule.{BrokenRule}
 
 -- where the rule at an index was described, the rules up to this rule were described
@@ -18,8 +18,3 @@ map-breach_of_more rules i d old new result within is e before =
     ∙ (map-append breach_of old (result ∷ [])
     ∙ (ap (λ z. z ++ breach_of result ∷ []) before
     ∙ (ap (λ z. map rule_breach (take i rules) ++ z ∷ []) is ∙ sym more)))
-
--- there are some where one stands at the end
-pub are_some-append : {A : Type 0} → (xs : List A) (x : A) → true ≡ are_some (xs ++ x ∷ [])
-are_some-append [] x = refl
-are_some-append (y ∷ xs) x = refl

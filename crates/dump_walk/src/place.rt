@@ -133,6 +133,7 @@ impl Place {
         ensures inside { IfOk result (λ p. p.is_inside ≡ true) }
         ensures base { IfOk result (λ p. p.base ≡ offset) }
         ensures depth { IfOk result (λ p. p.depth ≡ suc self.depth) }
+        ensures most { IfOk result (λ p. p.most_depth ≡ self.most_depth) }
         ensures fewer { IfOk result (λ p. self.documents ≡ suc p.documents) }
     {
         Ok(Place {

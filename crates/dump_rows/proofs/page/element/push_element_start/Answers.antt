@@ -5,5 +5,6 @@ use Rattle.dump_rows.proofs.page.element.push_element_start.Goals as goal
 
 pub returns : goal.returns
 returns c =
-    Adds-trans Page _ _ _ c.in_ok-push_start.ensures
-    (Adds-trans Page _ _ _ c.in_ok-push_columns.ensures c.in_ok-push_markup.ensures)
+    Adds-trans Page _ _ _ c.in_ok-push_markup.ensures
+    (Adds-trans Page _ _ _ c.in_ok-push_class.ensures
+    (Adds-trans Page _ _ _ c.in_ok-push_place.ensures c.in_ok-push_markup-2.ensures))

@@ -1,0 +1,15 @@
+-- For `document::push_problems`: its loop keeps its invariant, and what it returns is right.
+use Rattle.std.proofs.lemmas.Result.{on_ok_weaker}
+use Rattle.dump_rows.proofs.Printed.{PrintsText-append}
+use Rattle.dump_lines.proofs.document.push_problems.Goals as goal
+
+pub loop-mark-preserved : goal.loop-mark-preserved
+loop-mark-preserved g c =
+    PrintsText-append g.W.Write.contents c.args.printer.now c.loop-mark.printer c.push_broken.new.self
+    c.loop-mark.invariant c.in_ok-push_broken.ensures
+
+pub returns : goal.returns
+returns g c =
+    on_ok_weaker c.push_first.result
+    (λ last. PrintsText-append g.W.Write.contents c.args.printer.now c.loop-mark.printer c.push_first.new.printer
+    c.loop-mark.invariant last) c.push_first.ensures
