@@ -7,9 +7,8 @@ ghost use Rattle.dump_lines.specs.declared.document.Verdict.TheVariants.{Refused
 use crate::documents::Document;
 use crate::show::Show;
 use der_io::StreamFault;
-use dump_json::{Fault, Origin, push_json, push_refusal, push_strict_json};
-use dump_lines::{Style, Verdict};
-use std::alloc::Global;
+use dump_json::{Dumper, Origin};
+use dump_lines::Verdict;
 use std::io::Write;
 
 impl Show {
@@ -45,31 +44,22 @@ impl Show {
         ensures refused { IfOk result (λ verdict. octets_in document.now.octets ≡ None → verdict ≡ Refused) }
         ensures grown { OnOk result (Grows (W.contents out.old) (W.contents out.new)) }
     {
+        let dumper = Dumper {
+            alloc: self.alloc,
+            names: &self.names,
+            origin,
+            is_strict: self.is_strict,
+        };
         match &document.octets {
-            Ok(octets) => self.push_json_of(self.style_of(document), origin, octets, out),
+            Ok(octets) => {
+                let is_right = dumper.push_document(self.style_of(document), octets, out)?;
+                Ok(verdict_of(is_right))
+            }
             Err(why) => {
-                push_reason(self.alloc, origin, why, out)?;
+                dumper.push_refusal(why, out)?;
                 Ok(Verdict::Refused)
             }
         }
-    }
-
-    // Writes the lines of octets; strictly, also the line that says what is not DER.
-    fn push_json_of<W: Write>(
-        &self,
-        style: Style,
-        origin: Origin<'_>,
-        octets: &[u8],
-        out: &mut W,
-    ) -> Result<Verdict, StreamFault>
-        ensures { OnOk result (Grows (W.contents out.old) (W.contents out.new)) }
-    {
-        let is_right = if self.is_strict {
-            push_strict_json(self.alloc, &self.names, style, origin, octets, out)?
-        } else {
-            push_json(self.alloc, &self.names, style, origin, octets, out)?
-        };
-        Ok(verdict_of(is_right))
     }
 }
 
@@ -80,22 +70,4 @@ fn verdict_of(is_right: bool) -> Verdict {
     } else {
         Verdict::Refused
     }
-}
-
-// Writes the line that says why there are no octets.
-fn push_reason<W: Write>(
-    alloc: Global,
-    origin: Origin<'_>,
-    why: &str,
-    out: &mut W,
-) -> Result<(), StreamFault>
-    ensures { OnOk result (Grows (W.contents out.old) (W.contents out.new)) }
-{
-    let fault = Fault {
-        code: None,
-        offset: None,
-        message: String::from_str(alloc, why)?,
-    };
-    push_refusal(alloc, origin, &fault, out)?;
-    Ok(())
 }

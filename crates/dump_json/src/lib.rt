@@ -1,7 +1,7 @@
 //! Documents as JSON, a line each, for programs.
 //!
-//! [`push_json`] writes an object whose `blocks` are what has a line in a dump of `dump_lines`, in the same order. Each
-//! is an object:
+//! [`Dumper::push_document`] writes an object whose `blocks` are what has a line in a dump of `dump_lines`, in the same
+//! order. Each is an object:
 //!
 //! | Member | What |
 //! |---|---|
@@ -55,8 +55,8 @@
 //! the members `file` and `label` to each line, of each that is known. Faults inside octets of strings count for
 //! nothing.
 //!
-//! [`push_strict_json`] adds a line of what is not DER, if anything is, also inside octets of strings: `not_der` is an
-//! array of such rules, each with the `offset` of its encoding in front.
+//! Where documents have to be DER, a line of what is not follows, if anything is, also inside octets of strings:
+//! `not_der` is an array of such rules, each with the `offset` of its encoding in front.
 //!
 //! A character that is not shown in a dump, as a control or format character, is an escape: `\u200b`, which means the
 //! same.
@@ -74,10 +74,7 @@ mod members;
 mod number;
 mod piece;
 mod rows;
-mod strict;
 mod string;
 mod value;
 
-pub use fault_object::Fault;
-pub use line::{Origin, push_json, push_refusal};
-pub use strict::push_strict_json;
+pub use line::{Dumper, Origin};

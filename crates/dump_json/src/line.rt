@@ -1,14 +1,18 @@
-// A document as a line of JSON.
+// A document as lines of JSON.
 ghost use Rattle.std.specs.Prelude.{IfOk, OnOk};
 ghost use Rattle.der_io.specs.Output.{IsWritten};
 ghost use Rattle.dump_json.specs.Lines.{AreLines, IsLine, IsLineOrNone};
 
-use crate::fault_object::{Fault, fault_members, no_octets};
+use crate::fault_object::fault_members;
+use crate::items::Items;
 use crate::members::Members;
-use crate::rows::{Problems, write_rows};
+use crate::piece::with_rule;
+use crate::rows::Departure;
 use crate::value::{Value, push_value};
+use asn1_headers::error::ASN1DecodeErr;
 use der_io::{StreamFault, write_part};
 use dump_names::Names;
+use dump_values::faults::{Fault, fault_at};
 use dump_walk::place::outermost;
 use dump_walk::style::Style;
 use std::alloc::{AllocError, Global};
@@ -32,34 +36,129 @@ impl Origin<'_> {
     }
 }
 
-/// Writes the octets as a line of JSON, as the page of this crate describes it: `{"blocks":[..]}` with an
-/// object for each line of a dump. Where some are at fault, a second line is the first fault:
-/// `{"fault":{"code":..,"offset":..,"text":".."}}`; of no octets it is the only one. Where the octets are from follows,
-/// as the members `file` and `label`. Of the style only the names of fields count. Whether nothing is at fault.
-///
-/// Each object is written before the next is made. It takes the memory of one object, and two words for each encoding
-/// that is open.
-///
-/// # Errors
-/// `Memory`, after which what was written before stays, which may be a part of a line; `Write`, after which nothing is
-/// known of what was written.
-pub fn push_json<W: Write>(
-    alloc: Global,
-    names: &Names,
-    style: Style,
-    origin: Origin<'_>,
-    octets: &[u8],
-    out: &mut W,
-) -> Result<bool, StreamFault>
-    ensures { OnOk result (IsWritten AreLines (W.contents out.old) (W.contents out.new)) }
-{
-    if octets.is_empty() {
-        push_refusal(alloc, origin, &no_octets(alloc)?, out)?;
-        return Ok(false);
+/// Writes a document as lines of JSON.
+#[derive(Clone, Copy)]
+pub struct Dumper<'a> {
+    pub alloc: Global,
+    pub names: &'a Names,
+    /// Where the document is from.
+    pub origin: Origin<'a>,
+    /// It has to be DER.
+    pub is_strict: bool,
+}
+
+impl Dumper<'_> {
+    /// Writes octets as a line of JSON, as the page of this crate describes it: `{"blocks":[..]}` with an object for
+    /// each line of a dump. Where they have to be DER, and something is not, also inside strings, a second line says
+    /// it, with the offset of each: `{"not_der":[{"offset":..,"rule":"..","section":"..","text":".."},..]}`. Where some
+    /// are at fault, the last line is the first fault: `{"fault":{"code":..,"offset":..,"text":".."}}`; of no octets it
+    /// is the only one. Where the octets are from follows, as the members `file` and `label`. Of the style only the
+    /// names of fields count. Whether nothing is at fault, and all is DER that has to be.
+    ///
+    /// Each object is written before the next is made. It takes the memory of one object, and two words for each
+    /// encoding that is open; strictly, also some for each rule of DER that is broken.
+    ///
+    /// # Errors
+    /// `Memory`, after which what was written before stays, which may be a part of a line; `Write`, after which nothing
+    /// is known of what was written.
+    pub fn push_document<W: Write>(
+        &self,
+        style: Style,
+        octets: &[u8],
+        out: &mut W,
+    ) -> Result<bool, StreamFault>
+        ensures { OnOk result (IsWritten AreLines (W.contents out.old) (W.contents out.new)) }
+    {
+        if octets.is_empty() {
+            let fault = fault_at(self.alloc, 0, &ASN1DecodeErr::EmptyBuffer)?;
+            self.write_fault(&fault, out)?;
+            return Ok(false);
+        }
+        let mut departures = Vec::new(self.alloc);
+        let first = self.write_blocks(style, octets, &mut departures, out)?;
+        self.write_departures(&departures, out)?;
+        self.write_first(&first, out)?;
+        Ok(first.is_none() && departures.is_empty())
     }
-    let found = write_blocks(alloc, names, style, origin, octets, false, out)?;
-    let is_right = write_first(alloc, origin, &found.first, out)?;
-    Ok(is_right)
+
+    // Writes the line of the objects of octets, and returns the first fault.
+    fn write_blocks<W: Write>(
+        &self,
+        style: Style,
+        octets: &[u8],
+        departures: &mut Vec<Departure>,
+        out: &mut W,
+    ) -> Result<Option<Fault>, StreamFault>
+        ensures { OnOk result (IsWritten IsLine (W.contents out.old) (W.contents out.new)) }
+    {
+        let place = outermost(all_of(style));
+        let members = self.origin.add_to(Members::new(self.alloc))?;
+        write_part(out, b"{\"blocks\":")?;
+        let first = self.write_rows(octets, place, departures, out)?;
+        write_part(out, members.as_bytes())?;
+        write_part(out, b"}\n")?;
+        Ok(first)
+    }
+
+    // Writes the line of what is not DER, if anything is.
+    fn write_departures<W: Write>(
+        &self,
+        departures: &[Departure],
+        out: &mut W,
+    ) -> Result<(), StreamFault>
+        ensures { OnOk result (IsWritten IsLineOrNone (W.contents out.old) (W.contents out.new)) }
+    {
+        if departures.is_empty() {
+            return Ok(());
+        }
+        let items = items_of(self.alloc, departures)?;
+        let members = Members::new(self.alloc).with("not_der", Value::Array(&items))?;
+        self.write_line(members, out)?;
+        Ok(())
+    }
+
+    // Writes the line of the first fault, if there is one.
+    fn write_first<W: Write>(&self, first: &Option<Fault>, out: &mut W) -> Result<(), StreamFault>
+        ensures { OnOk result (IsWritten IsLineOrNone (W.contents out.old) (W.contents out.new)) }
+    {
+        match first {
+            Some(fault) => {
+                self.write_fault(fault, out)?;
+                Ok(())
+            }
+            None => Ok(()),
+        }
+    }
+
+    fn write_fault<W: Write>(&self, fault: &Fault, out: &mut W) -> Result<(), StreamFault>
+        ensures { OnOk result (IsWritten IsLine (W.contents out.old) (W.contents out.new)) }
+    {
+        let object = fault_members(self.alloc, fault.code, Some(fault.offset), &fault.message)?;
+        let members = Members::new(self.alloc).with("fault", Value::Object(&object))?;
+        self.write_line(members, out)
+    }
+
+    /// Writes a line of JSON that says why octets are not read: `{"fault":{"text":".."}}`. Where the octets are from
+    /// follows, as the members `file` and `label`.
+    ///
+    /// # Errors
+    /// Those of [`Dumper::push_document`].
+    pub fn push_refusal<W: Write>(&self, why: &str, out: &mut W) -> Result<(), StreamFault>
+        ensures { OnOk result (IsWritten IsLine (W.contents out.old) (W.contents out.new)) }
+    {
+        let object = fault_members(self.alloc, None, None, why)?;
+        let members = Members::new(self.alloc).with("fault", Value::Object(&object))?;
+        self.write_line(members, out)
+    }
+
+    // Writes the line of an object with these members, and with where octets are from.
+    fn write_line<W: Write>(&self, members: Members, out: &mut W) -> Result<(), StreamFault>
+        ensures { OnOk result (IsWritten IsLine (W.contents out.old) (W.contents out.new)) }
+    {
+        let line = line_of(self.alloc, &self.origin.add_to(members)?)?;
+        write_part(out, &line)?;
+        Ok(())
+    }
 }
 
 // All of a document, with the names of fields as in the style.
@@ -72,77 +171,14 @@ fn all_of(style: Style) -> Style {
     }
 }
 
-// Writes the line of the objects of octets. What was found in them; rules that are broken are listed where octets have
-// to be DER.
-pub fn write_blocks<W: Write>(
-    alloc: Global,
-    names: &Names,
-    style: Style,
-    origin: Origin<'_>,
-    octets: &[u8],
-    is_strict: bool,
-    out: &mut W,
-) -> Result<Problems, StreamFault>
-    ensures { OnOk result (IsWritten IsLine (W.contents out.old) (W.contents out.new)) }
-{
-    let place = outermost(all_of(style));
-    let members = origin.add_to(Members::new(alloc))?;
-    write_part(out, b"{\"blocks\":")?;
-    let found = write_rows(alloc, names, octets, place, is_strict, out)?;
-    write_part(out, members.as_bytes())?;
-    write_part(out, b"}\n")?;
-    Ok(found)
-}
-
-// Writes the line of the first fault, if there is one. Whether there is none.
-pub fn write_first<W: Write>(
-    alloc: Global,
-    origin: Origin<'_>,
-    first: &Option<Fault>,
-    out: &mut W,
-) -> Result<bool, StreamFault>
-    ensures { OnOk result (IsWritten IsLineOrNone (W.contents out.old) (W.contents out.new)) }
-{
-    match first {
-        Some(fault) => {
-            push_refusal(alloc, origin, fault, out)?;
-            Ok(false)
-        }
-        None => Ok(true),
+fn items_of(alloc: Global, departures: &[Departure]) -> Result<Items, AllocError> {
+    let mut items = Items::new(alloc);
+    for departure in departures {
+        let members = Members::new(alloc).with("offset", Value::Natural(departure.offset as u64))?;
+        let object = with_rule(members, &departure.rule)?;
+        items = items.with(Value::Object(&object))?;
     }
-}
-
-/// Writes a line of JSON that says why octets are not read: `{"fault":{"text":".."}}`, with the members `code` and
-/// `offset` before `text` where the fault has these. Where the octets are from follows, as the members `file` and
-/// `label`.
-///
-/// # Errors
-/// Those of [`push_json`].
-pub fn push_refusal<W: Write>(
-    alloc: Global,
-    origin: Origin<'_>,
-    fault: &Fault,
-    out: &mut W,
-) -> Result<(), StreamFault>
-    ensures { OnOk result (IsWritten IsLine (W.contents out.old) (W.contents out.new)) }
-{
-    let object = fault_members(alloc, fault.code, fault.offset, &fault.message)?;
-    let members = Members::new(alloc).with("fault", Value::Object(&object))?;
-    write_line(alloc, origin, members, out)
-}
-
-// Writes the line of an object with these members, and with where octets are from.
-pub fn write_line<W: Write>(
-    alloc: Global,
-    origin: Origin<'_>,
-    members: Members,
-    out: &mut W,
-) -> Result<(), StreamFault>
-    ensures { OnOk result (IsWritten IsLine (W.contents out.old) (W.contents out.new)) }
-{
-    let line = line_of(alloc, &origin.add_to(members)?)?;
-    write_part(out, &line)?;
-    Ok(())
+    Ok(items)
 }
 
 fn line_of(alloc: Global, members: &Members) -> Result<Vec<u8>, AllocError>

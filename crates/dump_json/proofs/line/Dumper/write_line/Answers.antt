@@ -1,7 +1,7 @@
--- For `line::write_line`: what it returns is right.
+-- For `line::Dumper::write_line`: what it returns is right.
 use Rattle.std.proofs.Common.{sym, subst}
 use Rattle.dump_json.specs.Lines.{IsLine}
-use Rattle.dump_json.proofs.line.write_line.Goals as goal
+use Rattle.dump_json.proofs.line.Dumper.write_line.Goals as goal
 
 pub returns : goal.returns
 returns g c =

@@ -5,19 +5,20 @@ use Rattle.std.specs.Io.KnownBytes.{Appends}
 use Rattle.dump_walk.specs.Pieces.{Passes}
 use Rattle.dump_json.specs.Grammar.{AreMoreMembers}
 use Rattle.dump_json.proofs.Written.{IsBegun, IsWritten-end, IsWritten-more, IsWritten-nested, IsWritten-row}
-use Rattle.dump_json.proofs.rows.+rows.Goals as goal
+use Rattle.dump_json.proofs.line.Dumper.+rows.Goals as goal
 
 pub write_row-returns : goal.write_row-returns
 write_row-returns g t c =
     IsWritten-row c.as_bytes.result.now _ _ _ _ _ _ c.in_ok-write_part.ensures.written c.in_ok-write_natural.ensures
-    c.as_bytes.ensures c.in_ok-write_part-2.ensures.written c.in_ok-inside.ensures c.in_ok-write_part-3.ensures.written
+    c.as_bytes.ensures c.in_ok-write_part-2.ensures.written c.in_ok-write_nested.ensures
+    c.in_ok-write_part-3.ensures.written
 
 pub write_nested-returns-in_default : goal.write_nested-returns-in_default
 write_nested-returns-in_default g t c =
     ([], Appends-nil (g.W.Write.contents c.args.out.now), AreMoreMembers.no_more_members)
 
 pub write_nested-returns : goal.write_nested-returns
-write_nested-returns g t c = IsWritten-nested _ _ _ c.in_ok-write_part.ensures.written c.in_ok-found.ensures
+write_nested-returns g t c = IsWritten-nested _ _ _ c.in_ok-write_part.ensures.written c.in_ok-write_rows.ensures
 
 pub write_rows-pieces-init : goal.write_rows-pieces-init
 write_rows-pieces-init g t c = record {

@@ -2,10 +2,10 @@
 use Rattle.std.proofs.Common.{◌+◌, ◌*◌}
 use Rattle.dump_walk.specs.Steps.{to_go}
 use Rattle.dump_json.proofs.Walk.{RowsTo}
-use Rattle.dump_json.proofs.rows.+rows.Given as goal
+use Rattle.dump_json.proofs.line.Dumper.+rows.Given as goal
 
 abbrev pub decreases-write_nested : goal.decreases-write_nested
-decreases-write_nested g l = 4 * l.place.documents
+decreases-write_nested g l = 4 * l.piece.now.place.documents
 
 abbrev pub decreases-write_row : goal.decreases-write_row
 decreases-write_row g l = 4 * l.piece.now.place.documents + 1

@@ -1,7 +1,7 @@
--- For `strict::write_departures`: what it returns is right.
+-- For `line::Dumper::write_departures`: what it returns is right.
 use Rattle.std.proofs.Common.{[], inl, inr, refl}
 use Rattle.std.proofs.KnownBytes.{Appends-nil}
-use Rattle.dump_json.proofs.strict.write_departures.Goals as goal
+use Rattle.dump_json.proofs.line.Dumper.write_departures.Goals as goal
 
 pub returns-then-is_empty : goal.returns-then-is_empty
 returns-then-is_empty g c = ([], Appends-nil (g.W.Write.contents c.args.out.now), inr refl)
