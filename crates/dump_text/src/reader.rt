@@ -273,11 +273,8 @@ fn name_of(named: Option<Named>) -> &'static str {
 
 // Whether the octets end before the piece does, or are no encoding, so that more of it is not known.
 fn ends_early(piece: &Piece<'_>) -> bool {
-    match &piece.kind {
-        PieceKind::Unreadable(_) | PieceKind::Cut(_, _) | PieceKind::EndOfContents(0) => true,
-        PieceKind::EndOfContents(_) => false,
-        PieceKind::Opened(header, _, _) | PieceKind::Leaf(header, _, _) => {
-            header.is_indefinite && !header.constructed
-        }
-    }
+    matches!(
+        &piece.kind,
+        PieceKind::Unreadable(_) | PieceKind::Cut(_, _) | PieceKind::EndOfContents(0)
+    )
 }
