@@ -3,7 +3,9 @@ ghost use Rattle.std.specs.Prelude.{◌≡◌, ◌≢◌, false, true, None, Som
 ghost use Rattle.asn1_headers.specs.Fault.{OutOfMemoryOr};
 ghost use Rattle.asn1_headers.specs.declared.header.ASN1Class.TheVariants.{Universal};
 ghost use Rattle.asn1_headers.specs.declared.tags.TheConstants.{BIT_STRING, BMP_STRING, BOOLEAN, GENERALIZED_TIME, IA5_STRING, INTEGER, OBJECT_IDENTIFIER, OCTET_STRING, PRINTABLE_STRING, TELETEX_STRING, UNIVERSAL_STRING, UTC_TIME, UTF8_STRING};
-ghost use Rattle.asn1_blocks.specs.Contents.{LeafFault, is_leaf_tag};
+ghost use Rattle.asn1_blocks.specs.Contents.{LeafFault, is_leaf_tag, string_tag};
+ghost use Rattle.asn1_leaves.specs.Contents.Text.{text_form};
+ghost use Rattle.asn1_leaves.specs.StringKind.{StringKind};
 ghost use Rattle.dump_values.specs.Tags.{is_gone_into};
 ghost use Rattle.dump_values.specs.Values.{IsBerTime, IsMeaning, IsValue, has_wide_characters as has_wide_characters_is, is_wide};
 ghost use Rattle.dump_values.specs.Strings.{has_text as has_text_is};
@@ -168,14 +170,14 @@ fn universal_value(alloc: Global, tag: u64, contents: &[u8]) -> Result<LeafValue
         OCTET_STRING => octets_value(alloc, contents),
         NULL => Ok(LeafValue::Null),
         OBJECT_IDENTIFIER => identifier_value(alloc, contents),
-        UTF8_STRING => utf8_value(alloc, contents),
-        PRINTABLE_STRING => printable_value(alloc, contents),
-        TELETEX_STRING => teletex_value(alloc, contents),
-        IA5_STRING => ia5_value(alloc, contents),
+        UTF8_STRING => string_value(alloc, tag, TextForm::Utf8, contents),
+        PRINTABLE_STRING => string_value(alloc, tag, TextForm::Printable, contents),
+        TELETEX_STRING => string_value(alloc, tag, TextForm::Utf8, contents),
+        IA5_STRING => string_value(alloc, tag, TextForm::Octets, contents),
         UTC_TIME => utc_value(alloc, contents),
         GENERALIZED_TIME => generalized_value(alloc, contents),
-        UNIVERSAL_STRING => universal_string_value(alloc, contents),
-        BMP_STRING => bmp_value(alloc, contents),
+        UNIVERSAL_STRING => string_value(alloc, tag, TextForm::Utf8, contents),
+        BMP_STRING => string_value(alloc, tag, TextForm::Utf8, contents),
         _ => Ok(unknown_value(alloc, tag, contents)?),
     }
 }
@@ -216,36 +218,22 @@ fn identifier_value(alloc: Global, contents: &[u8]) -> Result<LeafValue, ASN1Dec
     Ok(LeafValue::Identifier(identifier_of(alloc, contents, read)?))
 }
 
-fn utf8_value(alloc: Global, contents: &[u8]) -> Result<LeafValue, ASN1DecodeErr>
-    ensures found { IfOk result (IsValue Universal UTF8_STRING contents.now) }
-    ensures refused { IfErr result (OutOfMemoryOr (LeafFault UTF8_STRING contents.now)) }
+// The characters of a string. Octets of a UniversalString or a BMPString that the library takes for UTF-8 are no
+// characters of it, unless there are none.
+fn string_value(
+    alloc: Global,
+    tag: u64,
+    form: TextForm,
+    contents: &[u8],
+) -> Result<LeafValue, ASN1DecodeErr>
+    requires { (kind : StringKind) × (tag ≡ string_tag kind) × (form ≡ text_form kind) }
+    ensures found { IfOk result (IsValue Universal tag contents.now) }
+    ensures refused { IfErr result (OutOfMemoryOr (LeafFault tag contents.now)) }
 {
-    let text = text::read(alloc, TextForm::Utf8, contents)?;
-    Ok(LeafValue::Text(text))
-}
-
-fn printable_value(alloc: Global, contents: &[u8]) -> Result<LeafValue, ASN1DecodeErr>
-    ensures found { IfOk result (IsValue Universal PRINTABLE_STRING contents.now) }
-    ensures refused { IfErr result (OutOfMemoryOr (LeafFault PRINTABLE_STRING contents.now)) }
-{
-    let text = text::read(alloc, TextForm::Printable, contents)?;
-    Ok(LeafValue::Text(text))
-}
-
-fn teletex_value(alloc: Global, contents: &[u8]) -> Result<LeafValue, ASN1DecodeErr>
-    ensures found { IfOk result (IsValue Universal TELETEX_STRING contents.now) }
-    ensures refused { IfErr result (OutOfMemoryOr (LeafFault TELETEX_STRING contents.now)) }
-{
-    let text = text::read(alloc, TextForm::Utf8, contents)?;
-    Ok(LeafValue::Text(text))
-}
-
-// An octet is a character of an IA5String, also beyond 127.
-fn ia5_value(alloc: Global, contents: &[u8]) -> Result<LeafValue, ASN1DecodeErr>
-    ensures found { IfOk result (IsValue Universal IA5_STRING contents.now) }
-    ensures refused { IfErr result (OutOfMemoryOr (LeafFault IA5_STRING contents.now)) }
-{
-    let text = text::read(alloc, TextForm::Octets, contents)?;
+    let text = text::read(alloc, form, contents)?;
+    if has_wide_characters(tag, contents) {
+        return Ok(LeafValue::NoText(printed_text(alloc, contents)?));
+    }
     Ok(LeafValue::Text(text))
 }
 
@@ -267,32 +255,6 @@ fn generalized_value(alloc: Global, contents: &[u8]) -> Result<LeafValue, ASN1De
     let digits = fraction_digits(contents);
     let time = time_at(alloc, moment, digits)?;
     Ok(LeafValue::Moment(time))
-}
-
-// Octets of a UniversalString that the library takes for UTF-8 are no characters of it, unless there are none.
-fn universal_string_value(alloc: Global, contents: &[u8]) -> Result<LeafValue, ASN1DecodeErr>
-    ensures found { IfOk result (IsValue Universal UNIVERSAL_STRING contents.now) }
-    ensures refused { IfErr result (OutOfMemoryOr (LeafFault UNIVERSAL_STRING contents.now)) }
-{
-    let text = text::read(alloc, TextForm::Utf8, contents)?;
-    if contents.is_empty() {
-        return Ok(LeafValue::Text(text));
-    }
-    let shown = printed_text(alloc, contents)?;
-    Ok(LeafValue::NoText(shown))
-}
-
-// Octets of a BMPString that the library takes for UTF-8 are no characters of it, unless there are none.
-fn bmp_value(alloc: Global, contents: &[u8]) -> Result<LeafValue, ASN1DecodeErr>
-    ensures found { IfOk result (IsValue Universal BMP_STRING contents.now) }
-    ensures refused { IfErr result (OutOfMemoryOr (LeafFault BMP_STRING contents.now)) }
-{
-    let text = text::read(alloc, TextForm::Utf8, contents)?;
-    if contents.is_empty() {
-        return Ok(LeafValue::Text(text));
-    }
-    let shown = printed_text(alloc, contents)?;
-    Ok(LeafValue::NoText(shown))
 }
 
 // The value of contents octets of class Universal whose tag has no rule in the library.
@@ -348,7 +310,11 @@ pub fn is_right(alloc: Global, header: &Header, contents: &[u8]) -> Result<bool,
 fn is_right_value(alloc: Global, header: &Header, contents: &[u8]) -> Result<bool, AllocError>
     requires { is_gone_into header.now.class header.now.constructed header.now.tag ≡ false }
 {
-    Ok(is_read(alloc, header, contents)? && !has_wide_characters(header, contents))
+    let is_wide = match universal_tag(header) {
+        Some(tag) => has_wide_characters(u64::from(tag), contents),
+        None => false,
+    };
+    Ok(!is_wide && is_read(alloc, header, contents)?)
 }
 
 // Whether the library finds nothing wrong with contents octets.
@@ -415,15 +381,9 @@ fn form_of(header: &Header, contents: &[u8]) -> Option<Characters>
     None
 }
 
-// Whether X.690 has characters of four or of two octets there, which the library takes for UTF-8.
-fn has_wide_characters(header: &Header, contents: &[u8]) -> bool
-    ensures { result ≡ has_wide_characters_is header.now.class header.now.tag contents.now }
+// Whether X.690 has characters of four or of two octets there, which the library takes for UTF-8: of class Universal.
+fn has_wide_characters(tag: u64, contents: &[u8]) -> bool
+    ensures { result ≡ has_wide_characters_is Universal tag contents.now }
 {
-    match header.class {
-        ASN1Class::Universal => {
-            !contents.is_empty()
-                && (has_tag(&header.tag, UNIVERSAL_STRING) || has_tag(&header.tag, BMP_STRING))
-        }
-        ASN1Class::Application | ASN1Class::ContextSpecific | ASN1Class::Private => false,
-    }
+    !contents.is_empty() && (tag == UNIVERSAL_STRING || tag == BMP_STRING)
 }

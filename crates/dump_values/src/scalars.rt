@@ -1,24 +1,21 @@
 // Octets, characters and numbers.
-ghost use Rattle.std.specs.Prelude.{◌≡◌, ◌++◌, OnOk, string_bytes};
-ghost use Rattle.dump_values.specs.Scalars.{after_space, form_name as form_name_is, hex_text, in_form, pair, pairs, quoted};
+ghost use Rattle.std.specs.Prelude.{◌≡◌};
+ghost use Rattle.std.specs.List.{list_all};
+ghost use Rattle.dump_values.specs.Strings.{is_printed as is_printed_is};
 
 use crate::Characters;
 use der_io::push_escaped;
 use std::alloc::AllocError;
+use std::str;
 
 // How many octets are written at most where not all are; of longer ones the first of them, and how many there are.
 const MOST_OCTETS: usize = 32;
-
-// How many octets of a string, or of another class, are shown as text at least: fewer may well be a number.
-pub const LEAST_TEXT: usize = 5;
 
 // From how many octets on an integer is also shown by them.
 pub const LEAST_HEX: usize = 5;
 
 // Puts a space and the octets at the end, if there are any.
-pub fn write_after_space(out: &mut String, octets: &[u8], is_full: bool) -> Result<(), AllocError>
-    ensures { OnOk result (string_bytes out.new ≡ string_bytes out.old ++ after_space is_full octets.now) }
-{
+pub fn write_after_space(out: &mut String, octets: &[u8], is_full: bool) -> Result<(), AllocError> {
     if octets.is_empty() {
         return Ok(());
     }
@@ -27,9 +24,7 @@ pub fn write_after_space(out: &mut String, octets: &[u8], is_full: bool) -> Resu
 }
 
 // Puts the octets at the end in pairs of hex digits, all of them or as many as are written at most.
-pub fn write_hex(out: &mut String, octets: &[u8], is_full: bool) -> Result<(), AllocError>
-    ensures { OnOk result (string_bytes out.new ≡ string_bytes out.old ++ hex_text is_full octets.now) }
-{
+pub fn write_hex(out: &mut String, octets: &[u8], is_full: bool) -> Result<(), AllocError> {
     if is_full || octets.len() <= MOST_OCTETS {
         return write_pairs(out, octets);
     }
@@ -39,45 +34,29 @@ pub fn write_hex(out: &mut String, octets: &[u8], is_full: bool) -> Result<(), A
     write!(out, ".. ({n} bytes)")
 }
 
-fn write_pairs(out: &mut String, octets: &[u8]) -> Result<(), AllocError>
-    ensures { OnOk result (string_bytes out.new ≡ string_bytes out.old ++ pairs octets.now) }
-{
+fn write_pairs(out: &mut String, octets: &[u8]) -> Result<(), AllocError> {
     for octet in octets {
-        write_pair(out, *octet)?;
+        write!(out, "{octet:02x}")?;
     }
     Ok(())
 }
 
-fn write_pair(out: &mut String, octet: u8) -> Result<(), AllocError>
-    ensures { OnOk result (string_bytes out.new ≡ string_bytes out.old ++ pair octet) }
-{
-    let high = octet / 16;
-    let low = octet % 16;
-    write!(out, "{high:x}{low:x}")
-}
-
 // Puts the text at the end in quotation marks, with what is no printed character escaped.
-pub fn write_quoted(out: &mut String, text: &str) -> Result<(), AllocError>
-    ensures { OnOk result (string_bytes out.new ≡ string_bytes out.old ++ quoted text.now) }
-{
+pub fn write_quoted(out: &mut String, text: &str) -> Result<(), AllocError> {
     out.push_str("\"")?;
     push_escaped(text, out)?;
     out.push_str("\"")
 }
 
 // Puts the name of the form and the characters at the end.
-pub fn write_as(out: &mut String, form: Characters, text: &str) -> Result<(), AllocError>
-    ensures { OnOk result (string_bytes out.new ≡ string_bytes out.old ++ in_form form text.now) }
-{
+pub fn write_as(out: &mut String, form: Characters, text: &str) -> Result<(), AllocError> {
     out.push_str("(as ")?;
     out.push_str(form_name(form))?;
     out.push_str(") ")?;
     write_quoted(out, text)
 }
 
-fn form_name(form: Characters) -> &'static str
-    ensures { result.now ≡ form_name_is form }
-{
+fn form_name(form: Characters) -> &'static str {
     match form {
         Characters::Utf16 => "UTF-16",
         Characters::Utf32 => "UTF-32",
@@ -85,7 +64,24 @@ fn form_name(form: Characters) -> &'static str
     }
 }
 
-// Whether the octets are printable characters of ASCII.
-pub fn is_text(octets: &[u8]) -> bool {
-    octets.iter().all(|b| *b >= b' ' && *b < 127)
+// The octets as text, where they are printed characters of ASCII.
+pub fn printed_str(octets: &[u8]) -> Option<&str> {
+    if are_printed(octets) {
+        str::from_utf8(octets).ok()
+    } else {
+        None
+    }
+}
+
+// Whether the octets are printed characters of ASCII.
+pub fn are_printed(octets: &[u8]) -> bool
+    ensures { result ≡ list_all is_printed_is octets.now }
+{
+    octets.iter().all(|b| is_printed(*b))
+}
+
+fn is_printed(octet: u8) -> bool
+    ensures { result ≡ is_printed_is octet }
+{
+    octet >= b' ' && octet < 127
 }

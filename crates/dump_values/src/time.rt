@@ -4,9 +4,9 @@ ghost use Rattle.std.specs.List.{list_all};
 ghost use Rattle.std.specs.Char.{is_ascii_digit};
 ghost use Rattle.dump_values.specs.Times.{AreDateTime, IsTime, full_digits as full_digits_are, is_below as is_below_is, is_clock as is_clock_is, is_fraction as is_fraction_is, is_size as is_size_is, is_zone as is_zone_is};
 
-use crate::moment::{Time, fraction_digits, time_at};
+use crate::moment::Time;
 use asn1_headers::tags::{GENERALIZED_TIME, UTC_TIME};
-use asn1_leaves::contents::{generalized_time, utc_time};
+use asn1_leaves::contents::generalized_time;
 use jiff::civil::DateTime;
 use std::alloc::{AllocError, Global};
 
@@ -19,23 +19,6 @@ struct Parts<'a> {
     digits: &'a [u8],
     fraction: &'a [u8],
     zone: &'a [u8],
-}
-
-/// The value of contents octets with the tag of UTCTime or GeneralizedTime, in any of its forms. `None` of others.
-///
-/// # Errors
-/// Memory ran out.
-pub fn time_of(alloc: Global, tag: u64, contents: &[u8]) -> Result<Option<Time>, AllocError> {
-    let moment = match tag {
-        UTC_TIME => utc_time::moment(contents),
-        GENERALIZED_TIME => generalized_time::moment(contents),
-        _ => None,
-    };
-    match moment {
-        Some(moment) if tag == UTC_TIME => Ok(Some(time_at(alloc, moment, "")?)),
-        Some(moment) => Ok(Some(time_at(alloc, moment, fraction_digits(contents))?)),
-        None => ber_time(alloc, tag, contents),
-    }
 }
 
 /// The value of contents octets with the tag of UTCTime or GeneralizedTime, in one of the forms that BER has beside

@@ -2,8 +2,9 @@
 ghost use Rattle.std.specs.Prelude.{◌≡◌, false, true, IfOk, IfSome, MatchOption};
 ghost use Rattle.std.specs.List.{list_all};
 ghost use Rattle.std.specs.Str.{is_utf8 as is_utf8_is};
-ghost use Rattle.dump_values.specs.Strings.{has_printed_characters, has_text as has_text_is, has_notation as has_notation_is, is_iri as is_iri_is, is_numeric as is_numeric_is, is_printed as is_printed_is, is_string as is_string_is};
+ghost use Rattle.dump_values.specs.Strings.{has_printed_characters, has_text as has_text_is, has_notation as has_notation_is, is_iri as is_iri_is, is_numeric as is_numeric_is, is_string as is_string_is};
 
+use crate::scalars::{are_printed, printed_str};
 use asn1_headers::error::ASN1DecodeErr;
 use asn1_headers::tags::{
     DATE, DATE_TIME, DURATION, GENERAL_STRING, GRAPHIC_STRING, NUMERIC_STRING, OBJECT_DESCRIPTOR,
@@ -118,50 +119,32 @@ pub fn value_text(alloc: Global, tag: u64, contents: &[u8]) -> Result<Option<Str
 /// Contents octets with this tag of class Universal as text, which they are not by their type: those of a
 /// PrintableString if they are UTF-8, others if all are printed characters of ASCII.
 pub fn text_beside(tag: u64, contents: &[u8]) -> Option<&str> {
-    if tag != PRINTABLE_STRING && !are_printed(contents) {
+    let text = if tag == PRINTABLE_STRING {
+        str::from_utf8(contents).ok()?
+    } else {
+        printed_str(contents)?
+    };
+    if text.is_empty() {
         return None;
     }
-    match str::from_utf8(contents) {
-        Ok("") | Err(_) => None,
-        Ok(text) => Some(text),
-    }
-}
-
-// Whether the octets are printed characters of ASCII.
-fn are_printed(octets: &[u8]) -> bool
-    ensures { result ≡ list_all is_printed_is octets.now }
-{
-    octets.iter().all(|b| is_printed(*b))
-}
-
-fn is_printed(octet: u8) -> bool
-    ensures { result ≡ is_printed_is octet }
-{
-    octet >= b' ' && octet < 127
+    Some(text)
 }
 
 fn real_text(alloc: Global, contents: &[u8]) -> Result<Option<String>, AllocError> {
-    let name = match contents {
+    let text = match contents {
         [] => "0",
         [0x40] => "PLUS-INFINITY",
         [0x41] => "MINUS-INFINITY",
         [0x42] => "NOT-A-NUMBER",
         [0x43] => "-0",
-        [form, digits @ ..] if *form < 0x40 => return printed_text(alloc, digits),
+        [form, digits @ ..] if *form < 0x40 => match printed_str(digits) {
+            Some(text) => text,
+            None => return Ok(None),
+        },
         [form, octets @ ..] if *form >= 0x80 => return binary_text(alloc, *form, octets),
         _ => return Ok(None),
     };
-    Ok(Some(String::from_str(alloc, name)?))
-}
-
-fn printed_text(alloc: Global, octets: &[u8]) -> Result<Option<String>, AllocError> {
-    if !are_printed(octets) {
-        return Ok(None);
-    }
-    match str::from_utf8(octets) {
-        Ok(text) => Ok(Some(String::from_str(alloc, text)?)),
-        Err(_) => Ok(None),
-    }
+    Ok(Some(String::from_str(alloc, text)?))
 }
 
 // A binary REAL behind its first octet (X.690 8.5.7).

@@ -6,14 +6,13 @@ ghost use Rattle.asn1_leaves.specs.Contents.ObjectIdentifier.{ObjectIdentifierCo
 ghost use Rattle.asn1_leaves.specs.DottedDecimal.{dotted_decimal};
 ghost use Rattle.dump_values.specs.Values.{HasShortFront, IsIdentifier};
 
-use crate::scalars::is_text;
+use crate::scalars::printed_str;
 use crate::{Address, Characters, Time, long_identifier};
 use asn1_headers::error::ASN1DecodeErr;
 use asn1_leaves::contents::bit_string;
 use asn1_leaves::oid::OID;
 use asn1_numbers::number::big_int::BigInt;
 use std::alloc::{AllocError, Global};
-use std::str;
 
 // How many octets of a string, or of another class, are shown as text at least: fewer may well be a number.
 const LEAST_TEXT: usize = 5;
@@ -159,11 +158,8 @@ pub fn printed_text(alloc: Global, octets: &[u8]) -> Result<Option<String>, Allo
 
 // The octets as text, where they are at least so many printed characters.
 fn text_from(alloc: Global, octets: &[u8], least: usize) -> Result<Option<String>, AllocError> {
-    if octets.len() < least || !is_text(octets) {
-        return Ok(None);
-    }
-    match str::from_utf8(octets) {
-        Ok(text) => Ok(Some(String::from_str(alloc, text)?)),
-        Err(_) => Ok(None),
+    match printed_str(octets) {
+        Some(text) if text.len() >= least => Ok(Some(String::from_str(alloc, text)?)),
+        _ => Ok(None),
     }
 }
