@@ -1,6 +1,6 @@
 """Looks whether each link of the pages leads somewhere, whether each path they name is there, whether one version
-number is everywhere, whether the README says how many wrong bodies the gate tries, and whether docs/TRUST.md has the
-logic of the kit that is here.
+number is everywhere, whether the README says how many wrong bodies the gate tries, whether docs/DUMP.md has the types
+of documents that der_dump knows, and whether docs/TRUST.md has the logic of the kit that is here.
 
     checks/run links [-- FOLDER]
 
@@ -56,6 +56,16 @@ def wrong_counts():
     said = re.findall(r"that (\d+) wrong function bodies are rejected", (TOP / "README.md").read_text())
     if said != [str(bodies)]:
         yield f"README.md has {', '.join(said) or 'none'}, and must-fail {bodies}"
+
+
+def wrong_types():
+    """Types of documents that docs/DUMP.md does not list for `--as`, and those that it lists beside them."""
+    tables = (TOP / "crates/dump_shapes/src/tables/roots.rt").read_text()
+    known = set(re.findall(r"^([A-Z][\w.-]*) (?:[A-Z]|\d)", tables, re.M))
+    page = (TOP / "docs/DUMP.md").read_text()
+    lists = re.findall(r"^- Types of (?:documents|messages) are (.*?)\.(?:\n| No)", page, re.M | re.S)
+    for name in sorted(known ^ set(SPAN.findall(" ".join(lists)))):
+        yield f"{name} stands in {'roots.rt' if name in known else 'docs/DUMP.md'} alone"
 
 
 def wrong_logic():
@@ -129,6 +139,9 @@ def main(words):
         wrong += 1
     for fault in wrong_counts():
         print(f"links: wrong bodies: {fault}")
+        wrong += 1
+    for fault in wrong_types():
+        print(f"links: types: {fault}")
         wrong += 1
     for fault in wrong_logic():
         print(f"links: logic: {fault}")

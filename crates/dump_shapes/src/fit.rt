@@ -37,7 +37,9 @@ impl Shapes {
 
     /// The type of what stands behind the label of a PEM text (RFC 7468), if that is known.
     pub fn labelled_type(&self, label: &str) -> Option<DocumentType> {
-        self.document_type(self.labelled(label)?, TypeSource::Label)
+        let mut lines = LABELS.lines().filter_map(|line| line.split_once(' '));
+        let (name, _) = lines.find(|(_, known)| *known == label)?;
+        self.document_type(self.named(name)?, TypeSource::Label)
     }
 
     /// The type of the encoding that begins octets: the one that is known before, or else the one that fits
@@ -68,17 +70,6 @@ impl Shapes {
             name,
             source,
         })
-    }
-
-    /// The shape of what stands behind the label of a PEM text (RFC 7468), if that is known.
-    pub fn labelled(&self, label: &str) -> Option<u16> {
-        for line in LABELS.lines() {
-            let (name, known) = line.split_once(' ')?;
-            if known == label {
-                return self.named(name);
-            }
-        }
-        None
     }
 
     /// The first shape that fits the encoding which begins octets: down to a depth, which each shape has of its own,

@@ -69,11 +69,6 @@ impl Shapes {
         }
     }
 
-    /// The type without parts that has this name, if there is one.
-    pub fn leaf_named(&self, name: &str) -> Option<LeafType> {
-        self.leaf_at(self.named(name)?)
-    }
-
     fn leaf_at(&self, place: u16) -> Option<LeafType> {
         let shape = self.shape(place)?;
         match shape.kind {

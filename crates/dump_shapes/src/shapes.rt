@@ -144,12 +144,14 @@ impl Shapes {
             .unwrap_or(u16::MAX)
     }
 
+    // The part of a shape with this number.
+    pub(crate) fn numbered(&self, shape: Shape, number: u128) -> Option<Part> {
+        let parts = self.parts.get(shape.first as usize..shape.end as usize)?;
+        parts.iter().find(|part| part.number == number).copied()
+    }
+
     // The name of a number in a shape.
     pub(crate) fn number_name(&self, shape: Shape, value: u128) -> Option<&'static str> {
-        let numbers = self.parts.get(shape.first as usize..shape.end as usize)?;
-        numbers
-            .iter()
-            .find(|part| part.number == value)
-            .map(|part| part.name)
+        Some(self.numbered(shape, value)?.name)
     }
 }

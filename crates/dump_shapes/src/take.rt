@@ -1,6 +1,6 @@
 // Which elements a field or a shape takes by their tags, and what stands inside them.
-ghost use Rattle.std.specs.Prelude.{◌≡◌, ◌↔◌, ℕ, ◌<◌, ◌≤◌, IfSome, IsTrue, slice_get};
-ghost use Rattle.dump_shapes.specs.Spots.{IsAlternative, IsAnything, IsByField, IsChosen, IsOfField, IsOfShape, IsOfWhole, IsOne, IsPlain, IsSaid, IsTagged, IsUniversal, inside_of as inside_is};
+ghost use Rattle.std.specs.Prelude.{◌≡◌, ◌⊎◌, IfSome, None, Some};
+ghost use Rattle.dump_shapes.specs.Spots.{IsField};
 
 use crate::shapes::{Part, Shape, ShapeKind, Shapes, Tag};
 use asn1_headers::header::ASN1Class;
@@ -43,7 +43,7 @@ impl Shapes {
     // with this tag.
     #[inline(always)]
     pub(crate) fn field_spot(&self, i: u16, tag: Tag, identifier: Option<u16>) -> Option<Spot>
-        ensures { IfSome result (IsOfField self.now i) }
+        ensures { IfSome result (IsField self.now i) }
     {
         let of = self.of_field(self.part(i)?, tag, identifier)?;
         Some(Spot {
@@ -57,7 +57,7 @@ impl Shapes {
     // What an element with the tag is as all that stands somewhere, which is of the shape.
     #[inline(always)]
     pub(crate) fn whole_spot(&self, shape: u16, tag: Tag, identifier: Option<u16>) -> Option<Spot>
-        ensures { IfSome result (IsOfWhole self.now shape) }
+        ensures { IfSome result (λ spot. spot.field ≡ None) }
     {
         let of = self.of_shape(shape, tag, identifier)?;
         Some(Spot {
@@ -71,7 +71,7 @@ impl Shapes {
     // What an element with the tag is as the field.
     #[inline(always)]
     fn of_field(&self, field: Part, tag: Tag, identifier: Option<u16>) -> Option<OfShape>
-        ensures { IfSome result (IsByField self.now field tag identifier) }
+        ensures { IfSome result (λ _. (field.tag ≡ None) ⊎ (field.tag ≡ Some tag)) }
     {
         if field.tag.is_none() {
             return self.of_shape(field.shape, tag, identifier);
@@ -86,9 +86,7 @@ impl Shapes {
     // What an element with the tag is as one of a shape, where the identifier was seen. `None` where the shape has none
     // with this tag.
     #[inline(always)]
-    fn of_shape(&self, shape: u16, tag: Tag, identifier: Option<u16>) -> Option<OfShape>
-        ensures { IfSome result (IsOfShape self.now shape tag identifier) }
-    {
+    fn of_shape(&self, shape: u16, tag: Tag, identifier: Option<u16>) -> Option<OfShape> {
         if let Some(of) = self.one_of(shape, tag) {
             return Some(of);
         }
@@ -99,17 +97,13 @@ impl Shapes {
     }
 
     // What an element is as one of an open shape that is what the identifier says.
-    fn one_said(&self, shape: u16, tag: Tag, identifier: Option<u16>) -> Option<OfShape>
-        ensures { IfSome result (IsSaid self.now shape tag identifier) }
-    {
+    fn one_said(&self, shape: u16, tag: Tag, identifier: Option<u16>) -> Option<OfShape> {
         let row = self.row(self.shape(shape)?, identifier?)?;
         self.one_of(row.shape, tag)
     }
 
     // What an element is as one of an open shape that is anything.
-    fn anything(&self, shape: u16) -> Option<OfShape>
-        ensures { IfSome result (IsAnything self.now shape) }
-    {
+    fn anything(&self, shape: u16) -> Option<OfShape> {
         match self.shape(shape)?.kind {
             ShapeKind::Open => Some(OfShape {
                 shape,
@@ -121,29 +115,16 @@ impl Shapes {
     }
 
     // The row of a shape for the identifier.
-    pub(crate) fn row(&self, shape: Shape, identifier: u16) -> Option<Part>
-        ensures { IfSome result (λ row. (slice_get self.now.identifiers.items identifier ≡ Some row.number)
-            × (k : ℕ) × (shape.first ≤ k) × (k < shape.end)
-            × (slice_get self.now.parts.items k ≡ Some row)) }
-    {
+    pub(crate) fn row(&self, shape: Shape, identifier: u16) -> Option<Part> {
         if !matches!(shape.kind, ShapeKind::Open | ShapeKind::Known) {
             return None;
         }
-        let number = self.identifiers.get(identifier as usize).copied()?;
-        for k in shape.first..shape.end {
-            let row = self.part(k)?;
-            if row.number == number {
-                return Some(row);
-            }
-        }
-        None
+        self.numbered(shape, *self.identifiers.get(identifier as usize)?)
     }
 
     // What an element with the tag is as one of a shape that is not open.
     #[inline(always)]
-    fn one_of(&self, shape: u16, tag: Tag) -> Option<OfShape>
-        ensures { IfSome result (IsOne self.now shape tag) }
-    {
+    fn one_of(&self, shape: u16, tag: Tag) -> Option<OfShape> {
         match self.plain_inside(shape, tag) {
             Some(inside) => Some(OfShape {
                 shape,
@@ -155,10 +136,7 @@ impl Shapes {
     }
 
     // What an element with the tag is as one of a choice.
-    fn chosen(&self, shape: u16, tag: Tag) -> Option<OfShape>
-        ensures shape { IfSome result (λ of. of.shape ≡ shape) }
-        ensures chosen { IfSome result (IsChosen self.now shape tag) }
-    {
+    fn chosen(&self, shape: u16, tag: Tag) -> Option<OfShape> {
         let found = self.shape(shape)?;
         if !matches!(found.kind, ShapeKind::Choice) {
             return None;
@@ -177,9 +155,7 @@ impl Shapes {
 
     // What stands inside an element with the tag that is the alternative.
     #[inline(always)]
-    fn alternative_inside(&self, alternative: Part, tag: Tag) -> Option<Inside>
-        ensures { IfSome result (IsAlternative self.now alternative tag) }
-    {
+    fn alternative_inside(&self, alternative: Part, tag: Tag) -> Option<Inside> {
         match alternative.tag {
             Some(_) => self.tagged_inside(alternative, tag),
             None => self.plain_inside(alternative.shape, tag),
@@ -189,7 +165,7 @@ impl Shapes {
     // What stands inside an element with the tag that is the field by the tag of its own.
     #[inline(always)]
     fn tagged_inside(&self, field: Part, tag: Tag) -> Option<Inside>
-        ensures { IfSome result (IsTagged self.now field tag) }
+        ensures { IfSome result (λ _. field.tag ≡ Some tag) }
     {
         if field.tag? != tag {
             return None;
@@ -203,9 +179,7 @@ impl Shapes {
 
     // What stands inside an element with the tag that is of the shape.
     #[inline(always)]
-    fn plain_inside(&self, shape: u16, tag: Tag) -> Option<Inside>
-        ensures { IfSome result (IsPlain self.now shape tag) }
-    {
+    fn plain_inside(&self, shape: u16, tag: Tag) -> Option<Inside> {
         let found = self.shape(shape)?;
         match found.kind {
             ShapeKind::Leaf(number) | ShapeKind::Record(number) | ShapeKind::Items(number)
@@ -217,17 +191,13 @@ impl Shapes {
 
 // Whether the tag is the one with this number of class Universal.
 #[inline(always)]
-pub(crate) fn is_universal(number: u8, tag: Tag) -> bool
-    ensures { IsTrue result ↔ IsUniversal number tag }
-{
+pub(crate) fn is_universal(number: u8, tag: Tag) -> bool {
     matches!(tag.class, ASN1Class::Universal) && tag.number == number
 }
 
 // What stands inside an element of a shape.
 #[inline(always)]
-fn inside_of(shape: Shape) -> Inside
-    ensures { result ≡ inside_is shape.kind shape.first shape.end }
-{
+fn inside_of(shape: Shape) -> Inside {
     match shape.kind {
         ShapeKind::Record(_) => Inside::Fields(shape.first, shape.end),
         ShapeKind::Items(_) => Inside::Each(shape.first),
