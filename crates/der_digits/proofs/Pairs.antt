@@ -1,69 +1,12 @@
 -- Hex digits that are decoded in pairs, for `hex_decoder`.
-use Rattle.std.proofs.Common.{◌≡◌, ◌∙◌, ◌+◌, ◌*◌, ◌%◌, ℕ, List, [], ◌∷◌, ◌++◌, ap, arith, inl, inr, length, refl, sym}
-use Rattle.std.specs.Prelude.{Err, None, Ok, Option, Result, Some, unwrap_or}
+use Rattle.std.proofs.Common.{◌≡◌, ◌+◌, ◌*◌, ℕ, suc, true, List, [], ◌∷◌, ◌++◌, ap, arith, length, refl, sym}
+use Rattle.std.specs.Prelude.{None, Option, Some, is_some, unwrap_or}
+use Rattle.std.specs.Char.{is_ascii_hexdigit}
+use Rattle.std.specs.List.{list_all}
 use Rattle.std.specs.Option.{option_and_then, option_map}
-use Rattle.std.specs.Result.{result_ok}
-use Rattle.std.proofs.lemmas.Bool.{cases_eq}
-use Rattle.hex.proofs.HexLemmas.{decode_of-even, decode_of-odd}
-use Rattle.hex.specs.Hex.{decode_of, decode_pairs, digit_or_error, hex_digit_value, ◌>>=◌}
-use Rattle.hex.specs.declared.error.FromHexError.{FromHexError}
-use Rattle.der_digits.specs.Decoded.{octet_of, octets_of_pairs}
-
--- two digits, if both are digits, decode to an octet before what the digits behind them spell
-decode_pair-ok :
-    (a b i : ℕ) (high low : Option ℕ) (r : Result (List ℕ) FromHexError) →
-    result_ok ((digit_or_error a i high >>= (λ h. digit_or_error b (i + 1) low >>= (λ l. Ok (h * 16 + l))))
-    >>= (λ byte. r >>= (λ bytes. Ok (byte ∷ bytes))))
-    ≡ option_and_then (λ octet. option_map (λ octets. octet ∷ octets) (result_ok r))
-    (option_and_then (λ h. option_map (λ l. h * 16 + l) low) high)
-decode_pair-ok a b i (Some h) (Some l) (Ok r) = refl
-decode_pair-ok a b i (Some h) (Some l) (Err e) = refl
-decode_pair-ok a b i (Some h) None r = refl
-decode_pair-ok a b i None low r = refl
-
--- digits that are decoded in pairs, counted from any place on, give the octets that they spell, if they do
-decode_pairs-spelled : (i : ℕ) (digits : List ℕ) → result_ok (decode_pairs i digits) ≡ octets_of_pairs digits
-unfolding decode_pairs
-decode_pairs-spelled i [] = refl
-decode_pairs-spelled i (a ∷ []) = refl
-decode_pairs-spelled i (a ∷ b ∷ digits) =
-    decode_pair-ok a b i (hex_digit_value a) (hex_digit_value b) (decode_pairs (i + 2) digits)
-    ∙ ap (λ z. option_and_then (λ octet. option_map (λ octets. octet ∷ octets) z) (octet_of a b))
-    (decode_pairs-spelled (i + 2) digits)
-
--- where the digits behind a pair spell no octets, there are no octets of the whole
-none-behind :
-    (o : Option ℕ) (more : Option (List ℕ)) → more ≡ None →
-    option_and_then (λ octet. option_map (λ octets. octet ∷ octets) more) o ≡ None
-none-behind (Some x) more e = rw e refl
-none-behind None more e = refl
-
--- an odd number of digits spells no octets in pairs
-octets_of_pairs-odd : (digits : List ℕ) → length digits % 2 ≡ 1 → octets_of_pairs digits ≡ None
-octets_of_pairs-odd [] odd = absurd (omega (arith, odd))
-octets_of_pairs-odd (a ∷ []) odd = refl
-octets_of_pairs-odd (a ∷ b ∷ digits) odd =
-    none-behind (octet_of a b) (octets_of_pairs digits) (octets_of_pairs-odd digits (omega (arith, odd)))
-
--- digits decode to the octets that they spell in pairs, if they do
-pub decode_of-spelled : (digits : List ℕ) → result_ok (decode_of digits) ≡ octets_of_pairs digits
-decode_of-spelled digits =
-    elim (cases_eq (length digits % 2) 1) [
-      | inl odd ↦ ap (λ r. result_ok r) (decode_of-odd digits odd) ∙ sym (octets_of_pairs-odd digits odd)
-      | inr even ↦ ap (λ r. result_ok r) (decode_of-even digits (omega (arith, even))) ∙ decode_pairs-spelled 0 digits
-    ]
-
--- a result whose value is these octets is `Ok` of them
-ok-from_some :
-    {E : Type 0} (r : Result (List ℕ) E) (octets : List ℕ) → result_ok r ≡ Some octets → r ≡ Ok octets
-ok-from_some (Ok x) octets e = ap (λ o. Ok (unwrap_or o [])) e
-ok-from_some (Err x) octets e = cc e
-
--- digits that spell octets in pairs decode to these octets
-pub decode_of-from_pairs :
-    (digits octets : List ℕ) → octets_of_pairs digits ≡ Some octets → decode_of digits ≡ Ok octets
-decode_of-from_pairs digits octets e =
-    ok-from_some (decode_of digits) octets (decode_of-spelled digits ∙ e)
+use Rattle.std.proofs.lemmas.Bool.Decides.{nat_tests}
+use Rattle.hex.specs.Hex.{hex_digit_value, is_hex_digit}
+use Rattle.der_digits.specs.Spelled.{octet_of, octets_of_pairs}
 
 -- an octet before those of digits stays before them where more digits follow
 append-octet :
@@ -94,3 +37,44 @@ octets_of_pairs-append (a ∷ []) more octets e = cc e
 octets_of_pairs-append (a ∷ b ∷ digits) more octets e =
     append-octet (octet_of a b) (octets_of_pairs digits) (octets_of_pairs more)
     (octets_of_pairs (digits ++ more)) octets e (octets_of_pairs-append digits more)
+
+-- a character that has a value as a hex digit is a hex digit of ASCII
+pub is_ascii_hexdigit-hex : (c : ℕ) → is_hex_digit c ≡ true → is_ascii_hexdigit c ≡ true
+is_ascii_hexdigit-hex c h = grind (arith, nat_tests)
+
+-- an octet of two digits has a value of each
+digits-of_octet :
+    (high low : Option ℕ) → is_some (option_and_then (λ h. option_map (λ l. h * 16 + l) low) high) ≡ true →
+    (is_some high ≡ true) × (is_some low ≡ true)
+digits-of_octet (Some h) (Some l) e = (refl, refl)
+digits-of_octet (Some h) None e = cc e
+digits-of_octet None low e = cc e
+
+-- octets of which the first is of a pair have it before those of the digits behind the pair
+octets-behind :
+    (o : Option ℕ) (more : Option (List ℕ)) (octets : List ℕ) →
+    option_and_then (λ octet. option_map (λ others. octet ∷ others) more) o ≡ Some octets →
+    (is_some o ≡ true) × ((others : List ℕ) × (more ≡ Some others) × (length octets ≡ suc (length others)))
+octets-behind (Some x) (Some others) octets e =
+    (refl, (others, refl, sym (ap (λ o. length (unwrap_or o [])) e)))
+octets-behind (Some x) None octets e = cc e
+octets-behind None more octets e = cc e
+
+-- symbols that spell octets in pairs are all hex digits
+pub list_all-pairs :
+    (digits octets : List ℕ) → octets_of_pairs digits ≡ Some octets → list_all is_ascii_hexdigit digits ≡ true
+list_all-pairs [] octets e = refl
+list_all-pairs (a ∷ []) octets e = cc e
+list_all-pairs (a ∷ b ∷ digits) octets e =
+    let (is, (others, more, size)) = octets-behind (octet_of a b) (octets_of_pairs digits) octets e in
+    let (high, low) = digits-of_octet (hex_digit_value a) (hex_digit_value b) is in
+    rw (is_ascii_hexdigit-hex a high, is_ascii_hexdigit-hex b low, list_all-pairs digits others more) refl
+
+-- digits that spell no octets are none
+pub none-spelled :
+    (digits octets : List ℕ) → octets_of_pairs digits ≡ Some octets → length octets ≡ 0 → digits ≡ []
+none-spelled [] octets e none = refl
+none-spelled (a ∷ []) octets e none = cc e
+none-spelled (a ∷ b ∷ digits) octets e none =
+    let (is, (others, more, size)) = octets-behind (octet_of a b) (octets_of_pairs digits) octets e in
+    absurd (omega (arith, size, none))

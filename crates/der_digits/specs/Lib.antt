@@ -1,7 +1,5 @@
 pub mod Search
 pub mod Digits
-pub mod Columns
+pub mod Layouts
 pub mod Decoded
 pub mod Spelled
-pub mod RowsRead
-pub mod Sources

@@ -24,7 +24,7 @@ pub(crate) struct HexDecoder {
 }
 
 impl HexDecoder {
-    ghost use Rattle.std.specs.Prelude.{◌≡◌, ◌++◌, ◌∷◌, ℕ, List, [], length, IfOk, Some};
+    ghost use Rattle.std.specs.Prelude.{◌≡◌, ◌++◌, ◌∷◌, ℕ, List, [], IfOk};
     ghost use Rattle.std.specs.Char.{is_ascii_hexdigit};
     ghost use Rattle.der_digits.specs.Decoded.{HasRead, IsRead};
     ghost use Rattle.der_digits.specs.Spelled.{IsSpelling};
@@ -36,16 +36,6 @@ impl HexDecoder {
         HexDecoder {
             octets: Vec::new(alloc),
             high: None,
-        }
-    }
-
-    // How many digits were read.
-    pub(crate) fn count(&self) -> usize
-        ensures { (digits : List ℕ) → HasRead self.now digits → result ≡ length digits }
-    {
-        match self.high {
-            Some(_) => 2 * self.octets.len() + 1,
-            None => 2 * self.octets.len(),
         }
     }
 
@@ -68,22 +58,9 @@ impl HexDecoder {
         Ok(true)
     }
 
-    // Reads symbols. Returns `false` where one of them is no digit.
-    pub(crate) fn read_all(&mut self, symbols: &[u8]) -> Result<bool, AllocError>
-        ensures { (digits : List ℕ) → HasRead self.old digits
-            → IfOk result (λ are_read. IsRead are_read self.new (digits ++ symbols.now)) }
-    {
-        for symbol in symbols {
-            if !self.read(*symbol)? {
-                return Ok(false);
-            }
-        }
-        Ok(true)
-    }
-
     // What the digits spell.
     pub(crate) fn finish(self) -> Spelling
-        ensures { (digits : List ℕ) → HasRead self digits → IsSpelling result (Some digits) }
+        ensures { (digits : List ℕ) → HasRead self digits → IsSpelling result digits }
     {
         match self.high {
             Some(_) => Spelling::Odd,

@@ -1,5 +1,5 @@
 // Text in hex digits.
-ghost use Rattle.std.specs.Prelude.{◌≡◌, ◌++◌, ◌∷◌, ◌<◌, ℕ, List, [], length, if◌then◌else◌, IfOk, MatchOption, OnOk, Some, drop};
+ghost use Rattle.std.specs.Prelude.{◌≡◌, ◌++◌, ◌∷◌, ◌<◌, ℕ, List, [], length, if◌then◌else◌, IfOk, MatchOption, drop};
 ghost use Rattle.std.specs.List.{list_all};
 ghost use Rattle.der_digits.specs.Decoded.{HasRead, IsRead};
 ghost use Rattle.der_digits.specs.Digits.{begins_prefix, begins_space, column_behind, column_of, digits_of, has_bits, has_columns, has_hex_offsets, has_octets, has_other_columns, is_binary, is_separator, offset_of, without_separators};
@@ -27,7 +27,7 @@ const LEAST_OFFSET: usize = 6;
 /// What the digits of a text spell.
 pub fn spelling_in(alloc: Global, text: &[u8]) -> Result<Spelling, AllocError>
     ensures { IfOk result (λ spelling.
-        IsSpelling spelling (Some (digits_of (has_columns text.now) (lines_of text.now)))) }
+        IsSpelling spelling (digits_of (has_columns text.now) (lines_of text.now))) }
 {
     let in_columns = is_in_columns(text);
     let mut decoder = HexDecoder::new(alloc);
@@ -43,7 +43,7 @@ pub fn spelling_in(alloc: Global, text: &[u8]) -> Result<Spelling, AllocError>
 }
 
 // Reads what is left of a text without its separators. Returns `false` where a symbol is no digit.
-fn read_symbols(text: &[u8], decoder: &mut HexDecoder) -> Result<bool, AllocError>
+pub(crate) fn read_symbols(text: &[u8], decoder: &mut HexDecoder) -> Result<bool, AllocError>
     ensures { (digits : List ℕ) → HasRead decoder.old digits
         → IfOk result (λ are_read. IsRead are_read decoder.new (digits ++ without_separators text.now)) }
 {
@@ -102,12 +102,7 @@ fn has_bits(text: &[u8]) -> bool
 fn are_all_binary(text: &[u8]) -> bool
     ensures { result ≡ list_all is_binary text.now }
 {
-    for b in text {
-        if !is_binary(*b) {
-            return false;
-        }
-    }
-    true
+    text.iter().all(|b| is_binary(*b))
 }
 
 fn is_binary(b: u8) -> bool
@@ -180,18 +175,6 @@ fn column_behind(text: &[u8]) -> &[u8]
     } else {
         part_before(b"|", part_before(b">", text))
     }
-}
-
-// Puts what is left of the text without its separators.
-pub(crate) fn push_digits(text: &[u8], digits: &mut Vec<u8>) -> Result<(), AllocError>
-    ensures { OnOk result (digits.new.items ≡ digits.old.items ++ without_separators text.now) }
-{
-    let mut rest = text;
-    while let Some((symbol, after)) = next_symbol(rest) {
-        digits.push(symbol)?;
-        rest = after;
-    }
-    Ok(())
 }
 
 // The first symbol of a text without its separators, and the text behind it.

@@ -1,5 +1,4 @@
 mod Decoded
 mod LineFronts
 mod Numbers
-mod Spellings
 mod Utf8

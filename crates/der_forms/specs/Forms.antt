@@ -11,9 +11,7 @@ pub data InputKind : Type 0 where
   objects : InputKind
   -- text that spells octets, in hex digits or in base 64
   spelled : List ℕ → InputKind
-  -- hex digits, of which one is left over
-  odd_digits : InputKind
-  -- any other text
+  -- any other text: also a source of C, and columns with lines left out
   unknown_text : InputKind
   -- the octets of a document, as they are
   plain_octets : InputKind

@@ -6,18 +6,12 @@ use Rattle.std.specs.Str.{is_utf8}
 use Rattle.base64.specs.Engines.{standard, standard_pad_indifferent, url_safe_pad_indifferent}
 use Rattle.base64.specs.GeneralPurpose.{decode_of as decode_base64}
 use Rattle.base64.specs.declared.decode.DecodeError.{DecodeError}
-use Rattle.hex.specs.Hex.{decode_of as decode_hex}
-use Rattle.hex.specs.declared.error.FromHexError.{FromHexError}
 use Rattle.der_io.specs.Lines.{lines_of}
-use Rattle.der_digits.specs.Columns.{placed_digits, some_left_out}
-use Rattle.der_forms.specs.Forms.{InputKind, objects, odd_digits, unknown_text, plain_octets, spelled, has_object, without_mark, without_spaces, is_printed}
+use Rattle.der_forms.specs.Forms.{InputKind, objects, unknown_text, plain_octets, spelled, has_object, without_mark, without_spaces, is_printed}
 use Rattle.der_digits.specs.Search.{all_of_some, begins}
 use Rattle.der_digits.specs.Digits.{digits_of, has_columns, has_other_columns}
-use Rattle.der_digits.specs.Sources.{source_digits}
-
-abbrev pub of_hex_digits : Result (List ℕ) FromHexError → InputKind
-of_hex_digits (Ok octets) = spelled octets
-of_hex_digits (Err e) = odd_digits
+use Rattle.der_digits.specs.Layouts.{has_value, some_left_out}
+use Rattle.der_digits.specs.Spelled.{octets_of_pairs}
 
 -- the number behind which these digits in base 256 stand
 abbrev pub with_digits : ℕ → List ℕ → ℕ
@@ -55,24 +49,28 @@ abbrev pub of_base64 : Result (List ℕ) DecodeError → List ℕ → InputKind
 of_base64 (Ok octets) symbols = if begins (48 ∷ []) octets then spelled octets else unknown_text
 of_base64 (Err e) symbols = of_loose_base64 symbols
 
--- the form of digits, if the symbols are some, and otherwise another form
-abbrev pub if_digits : Option (List ℕ) → InputKind → InputKind
-if_digits None form = form
-if_digits (Some digits) form =
-    if all_of_some is_ascii_hexdigit digits then of_hex_digits (decode_hex digits) else form
+-- the form of hex digits, of which one may be left over
+abbrev pub of_hex_digits : Option (List ℕ) → InputKind
+of_hex_digits None = unknown_text
+of_hex_digits (Some octets) = spelled octets
 
--- the form of symbols: hex digits with separators between them; or a source; or otherwise maybe base 64
+-- the form of symbols, if they are hex digits, and otherwise another form
+abbrev pub if_digits : List ℕ → InputKind → InputKind
+if_digits symbols form =
+    if all_of_some is_ascii_hexdigit symbols then of_hex_digits (octets_of_pairs symbols) else form
+
+-- the form of symbols: hex digits with separators between them; or otherwise maybe base 64, but for a source of C
 abbrev pub of_symbols : List ℕ → InputKind
 of_symbols text =
-    if_digits (Some (digits_of (has_columns text) (lines_of text)))
-    (if_digits (source_digits text)
-    (of_base64 (decode_base64 standard (without_spaces text)) (without_spaces text)))
+    if_digits (digits_of (has_columns text) (lines_of text))
+    (if has_value text then unknown_text
+    else of_base64 (decode_base64 standard (without_spaces text)) (without_spaces text))
 
--- the form of a text, in which columns with lines left out have to agree with their offsets
+-- the form of a text, which columns with lines left out are not told of
 abbrev pub form_of_text : List ℕ → InputKind
 form_of_text text =
     if has_other_columns text then unknown_text
-    else if has_columns text && some_left_out (lines_of text) then if_digits (placed_digits text) unknown_text
+    else if has_columns text && some_left_out (lines_of text) then unknown_text
     else of_symbols text
 
 -- a character of ASCII that is printed, or white space but a form feed, the identifier octet of a UTF8String; or an

@@ -1,5 +1,5 @@
 -- The objects of PEM (RFC 7468), one after another.
-use Rattle.std.specs.Prelude.{ℕ, Bool, true, false, ◌==◌, ◌&&◌, List, [], ◌∷◌, ◌++◌, drop, length, if◌then◌else◌, codes, Option, Some, None}
+use Rattle.std.specs.Prelude.{◌≡◌, ◌⊎◌, ℕ, Bool, true, false, ◌==◌, ◌&&◌, List, [], ◌∷◌, ◌++◌, drop, length, if◌then◌else◌, codes, Option, Some, None}
 use Rattle.std.specs.List.{list_any}
 use Rattle.std.specs.Option.{option_and_then}
 use Rattle.std.specs.Result.{result_ok}
@@ -9,7 +9,7 @@ use Rattle.base64.specs.GeneralPurpose.{decode_of as decode_base64}
 use Rattle.der_forms.specs.declared.objects.Ending.{Ending}
 use Rattle.der_forms.specs.declared.objects.Ending.TheVariants.{Closed, Joined, Missing, OtherLabel}
 use Rattle.der_io.specs.Lines.{lines_of}
-use Rattle.der_forms.specs.Forms.{InputKind, begins_object, without_mark, without_spaces, objects, odd_digits, unknown_text, plain_octets, spelled}
+use Rattle.der_forms.specs.Forms.{InputKind, begins_object, without_mark, without_spaces, objects, unknown_text, plain_octets, spelled}
 use Rattle.der_digits.specs.Search.{begins, contains, up_to, without_indent}
 use Rattle.der_forms.specs.Known.{form_is}
 use Rattle.der_forms.specs.Texts.{text_of}
@@ -114,7 +114,6 @@ first_of (object ∷ later) = if_closed object.ending object.octets
 abbrev pub document_in : InputKind → List ℕ → Option (List ℕ)
 document_in objects input = first_of (objects_of input)
 document_in (spelled octets) input = Some octets
-document_in odd_digits input = None
 document_in unknown_text input = None
 document_in plain_octets input = Some input
 
@@ -125,3 +124,8 @@ document_in_text text = document_in (form_is text) text
 -- the octets of the document that an input has
 abbrev pub document_of : List ℕ → Option (List ℕ)
 document_of input = document_in_text (text_of input)
+
+-- the octets of the document that an input has; or they are those of a text in no form that is told, as a source of C
+-- and columns with lines left out
+abbrev pub IsReadAs : List ℕ → List ℕ → Type 0
+IsReadAs input octets = (document_of input ≡ Some octets) ⊎ (form_is (text_of input) ≡ unknown_text)

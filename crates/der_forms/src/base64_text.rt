@@ -1,13 +1,11 @@
 // Text in base 64.
-ghost use Rattle.std.specs.Prelude.{◌≡◌, Err, IfOk, MatchOption, MatchResult, None, Ok, Some};
+ghost use Rattle.std.specs.Prelude.{◌≡◌, ◌++◌, Err, IfOk, MatchOption, MatchResult, None, Ok, OnOk, Some};
 ghost use Rattle.std.specs.Result.{result_ok};
-ghost use Rattle.base64.specs.Engines.{standard, standard_pad_indifferent, url_safe_pad_indifferent};
+ghost use Rattle.base64.specs.Engines.{standard};
 ghost use Rattle.base64.specs.GeneralPurpose.{IsBytes, decode_of, encode_of};
 ghost use Rattle.der_forms.specs.Forms.{without_spaces};
 
-use base64::engine::general_purpose::{
-    STANDARD, STANDARD_PAD_INDIFFERENT, URL_SAFE_PAD_INDIFFERENT,
-};
+use base64::engine::general_purpose::{GeneralPurpose, STANDARD};
 use base64::{DecodeAllocError, DecodeError};
 use std::alloc::{AllocError, Global};
 
@@ -16,12 +14,20 @@ pub fn without_spaces(alloc: Global, text: &[u8]) -> Result<Vec<u8>, AllocError>
     ensures { IfOk result (λ symbols. symbols.items ≡ without_spaces text.now) }
 {
     let mut symbols = Vec::new(alloc);
+    push_symbols(text, &mut symbols)?;
+    Ok(symbols)
+}
+
+// Puts a text without its white space.
+pub fn push_symbols(text: &[u8], symbols: &mut Vec<u8>) -> Result<(), AllocError>
+    ensures { OnOk result (symbols.new.items ≡ symbols.old.items ++ without_spaces text.now) }
+{
     for b in text {
         if !b.is_ascii_whitespace() {
             symbols.push(*b)?;
         }
     }
-    Ok(symbols)
+    Ok(())
 }
 
 // What the symbols spell, or why they spell nothing.
@@ -40,26 +46,17 @@ pub fn decode(alloc: Global, symbols: &[u8]) -> Result<Result<Vec<u8>, DecodeErr
     }
 }
 
-// What symbols spell where the padding may be wanting, if anything.
-pub fn decode_unpadded(alloc: Global, symbols: &[u8]) -> Result<Option<Vec<u8>>, AllocError>
+// What symbols spell in a form of base 64, if anything.
+pub fn decode_by(
+    alloc: Global,
+    form: &GeneralPurpose,
+    symbols: &[u8],
+) -> Result<Option<Vec<u8>>, AllocError>
     ensures { IfOk result (λ decoded. MatchOption decoded
-        (result_ok (decode_of standard_pad_indifferent symbols.now) ≡ None)
-        (λ octets. result_ok (decode_of standard_pad_indifferent symbols.now) ≡ Some octets.items)) }
+        (result_ok (decode_of form.now symbols.now) ≡ None)
+        (λ octets. result_ok (decode_of form.now symbols.now) ≡ Some octets.items)) }
 {
-    match STANDARD_PAD_INDIFFERENT.decode(alloc, symbols) {
-        Ok(octets) => Ok(Some(octets)),
-        Err(DecodeAllocError::OutOfMemory) => Err(AllocError),
-        Err(DecodeAllocError::DecodeError(_)) => Ok(None),
-    }
-}
-
-// What symbols spell with `-` and `_` for `+` and `/`, if anything.
-pub fn decode_url(alloc: Global, symbols: &[u8]) -> Result<Option<Vec<u8>>, AllocError>
-    ensures { IfOk result (λ decoded. MatchOption decoded
-        (result_ok (decode_of url_safe_pad_indifferent symbols.now) ≡ None)
-        (λ octets. result_ok (decode_of url_safe_pad_indifferent symbols.now) ≡ Some octets.items)) }
-{
-    match URL_SAFE_PAD_INDIFFERENT.decode(alloc, symbols) {
+    match form.decode(alloc, symbols) {
         Ok(octets) => Ok(Some(octets)),
         Err(DecodeAllocError::OutOfMemory) => Err(AllocError),
         Err(DecodeAllocError::DecodeError(_)) => Ok(None),

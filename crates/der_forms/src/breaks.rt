@@ -5,6 +5,7 @@ ghost use Rattle.der_digits.specs.Search.{begins, begins_by};
 ghost use Rattle.der_forms.specs.Texts.{begins_begin, begins_end, behind_label as behind_label_is, behind_opening as behind_opening_is, behind_words as behind_words_is, broken, is_filler, lacks_break as lacks_break_is, more_hyphens as more_hyphens_is, octet_or_break, place_behind as place_behind_is, unfolded as unfolded_is, with_breaks as with_breaks_are};
 ghost use Rattle.der_forms.specs.declared.breaks.Place.TheVariants.{Blank as blank, Label as label, Words as words};
 
+use crate::lines::{BEGIN, END};
 use std::alloc::{AllocError, Global};
 
 // How many hyphens end a label.
@@ -148,13 +149,13 @@ fn push_broken(is_wanting: bool, b: u8, whole: &mut Vec<u8>) -> Result<(), Alloc
 fn begins_begin(text: &[u8]) -> bool
     ensures { result ≡ begins_begin text.now }
 {
-    text.starts_with(b"-----BEGIN ")
+    text.starts_with(BEGIN)
 }
 
 fn begins_end(text: &[u8]) -> bool
     ensures { result ≡ begins_end text.now }
 {
-    text.starts_with(b"-----END ")
+    text.starts_with(END)
 }
 
 fn begins_filler(text: &[u8]) -> bool

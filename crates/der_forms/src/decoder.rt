@@ -6,7 +6,7 @@ ghost use Rattle.der_forms.specs.Decoded.{IsWhole, symbols_read};
 ghost use Rattle.der_forms.specs.Forms.{without_spaces};
 ghost use Rattle.der_forms.specs.Objects.{symbols_of};
 
-use crate::base64_text::decode;
+use crate::base64_text::{decode, push_symbols};
 use base64::DecodeError;
 use std::alloc::{AllocError, Global};
 
@@ -116,16 +116,4 @@ pub fn octets_in(alloc: Global, text: &[u8]) -> Result<Option<Vec<u8>>, AllocErr
         Ok(octets) => Ok(Some(octets)),
         Err(_) => Ok(None),
     }
-}
-
-// Puts a text without its white space.
-fn push_symbols(text: &[u8], symbols: &mut Vec<u8>) -> Result<(), AllocError>
-    ensures { OnOk result (symbols.new.items ≡ symbols.old.items ++ without_spaces text.now) }
-{
-    for b in text {
-        if !b.is_ascii_whitespace() {
-            symbols.push(*b)?;
-        }
-    }
-    Ok(())
 }

@@ -1,16 +1,14 @@
 // What an input is, and the document that it has.
-ghost use Rattle.std.specs.Prelude.{◌≡◌, ◌⊎◌, ℕ, List, Option, IfOk, IfErr, None, Some};
+ghost use Rattle.std.specs.Prelude.{◌≡◌, ◌⊎◌, if◌then◌else◌, IfOk, IfErr, None, Some};
 ghost use Rattle.base64.specs.GeneralPurpose.{decode_of as decode_base64};
-ghost use Rattle.base64.specs.Engines.{standard, url_safe_pad_indifferent};
-ghost use Rattle.std.specs.Result.{result_ok};
-ghost use Rattle.der_digits.specs.Columns.{placed_digits};
-ghost use Rattle.der_digits.specs.Sources.{source_digits};
-ghost use Rattle.der_digits.specs.Spelled.{IsSpelling};
+ghost use Rattle.base64.specs.Engines.{standard};
+ghost use Rattle.std.specs.List.{list_all};
+ghost use Rattle.der_digits.specs.Layouts.{has_value};
 ghost use Rattle.der_digits.specs.Search.{all_of_some};
-ghost use Rattle.der_forms.specs.Forms.{InputKind, is_printed, unknown_text, without_spaces};
-ghost use Rattle.der_forms.specs.Known.{are_words, form_is, form_of_text, if_digits, if_sequence, is_in_words, is_sequence, length_fits, number_fits, of_base64, of_loose_base64, of_symbols};
-ghost use Rattle.der_forms.specs.Objects.{document_in_text, document_of as document_is, first_of, objects_of};
-ghost use Rattle.der_forms.specs.Shown.{shown, shown_or};
+ghost use Rattle.der_forms.specs.Forms.{is_printed, unknown_text, without_spaces};
+ghost use Rattle.der_forms.specs.Known.{are_words, form_is, form_of_text, is_in_words, is_sequence, length_fits, number_fits, of_base64, of_loose_base64, of_symbols};
+ghost use Rattle.der_forms.specs.Objects.{IsReadAs, document_in as document_in_form, document_in_text, document_of as document_is, first_of, objects_of};
+ghost use Rattle.der_forms.specs.Shown.{shown};
 ghost use Rattle.der_forms.specs.declared.input.FormFault.TheVariants.{OutOfMemory};
 
 use crate::lines::{Lines, is_pem, without_mark};
@@ -18,7 +16,8 @@ use crate::objects::{PemFault, PemObject, fault_of_end, next_object};
 use crate::text::text_of;
 use crate::unknown::{form_left_out, form_unknown};
 use crate::{base64_text, decoder};
-use der_digits::{Spelling, hex_text, left_out, source_text};
+use base64::engine::general_purpose::{STANDARD_PAD_INDIFFERENT, URL_SAFE_PAD_INDIFFERENT};
+use der_digits::{Spelling, hex_text, layouts};
 use std::alloc::{AllocError, Global};
 use thiserror::Error;
 
@@ -29,6 +28,8 @@ pub enum InputForm {
     Pem,
     /// Text that spells these octets, in hex digits or in base64.
     Spelled(Vec<u8>),
+    /// Text that has these octets in another layout: a source of C, or columns with lines left out.
+    LaidOut(Vec<u8>),
     /// An odd number of hex digits.
     OddDigits,
     /// Columns of words, of octal digits or of bits, as `hexdump`, `od` and `xxd -b` print them.
@@ -64,20 +65,20 @@ fn text_form(alloc: Global, text: &[u8]) -> Result<InputForm, AllocError>
 {
     if hex_text::has_other_columns(text) {
         Ok(InputForm::OtherColumns)
-    } else if hex_text::is_in_columns(text) && left_out::are_some_left_out(text) {
-        left_out_form(alloc, text)
+    } else if hex_text::is_in_columns(text) && layouts::are_some_left_out(text) {
+        columns_form(alloc, text)
     } else {
         symbols_form(alloc, text)
     }
 }
 
 // The form of columns with lines left out.
-fn left_out_form(alloc: Global, text: &[u8]) -> Result<InputForm, AllocError>
-    ensures { IfOk result (λ form. shown form ≡ if_digits (placed_digits text.now) unknown_text) }
+fn columns_form(alloc: Global, text: &[u8]) -> Result<InputForm, AllocError>
+    ensures { IfOk result (λ form. shown form ≡ unknown_text) }
 {
-    match form_of_spelling(left_out::spelling_in(alloc, text)?) {
-        Some(form) => Ok(form),
-        None => Ok(form_left_out(text)),
+    match layouts::columns_spelling(alloc, text)? {
+        Spelling::Octets(octets) => Ok(InputForm::LaidOut(octets)),
+        Spelling::Odd | Spelling::Nothing => Ok(form_left_out(text)),
     }
 }
 
@@ -85,32 +86,32 @@ fn left_out_form(alloc: Global, text: &[u8]) -> Result<InputForm, AllocError>
 fn symbols_form(alloc: Global, text: &[u8]) -> Result<InputForm, AllocError>
     ensures { IfOk result (λ form. shown form ≡ of_symbols text.now) }
 {
-    match form_of_spelling(hex_text::spelling_in(alloc, text)?) {
-        Some(form) => Ok(form),
-        None => source_form(alloc, text),
+    match hex_text::spelling_in(alloc, text)? {
+        Spelling::Octets(octets) => Ok(InputForm::Spelled(octets)),
+        Spelling::Odd => Ok(InputForm::OddDigits),
+        Spelling::Nothing => form_without_digits(alloc, text),
     }
 }
 
 // The form of text with other symbols than hex digits.
-fn source_form(alloc: Global, text: &[u8]) -> Result<InputForm, AllocError>
-    ensures { IfOk result (λ form. shown form ≡ if_digits (source_digits text.now)
-        (of_base64 (decode_base64 standard (without_spaces text.now)) (without_spaces text.now))) }
+fn form_without_digits(alloc: Global, text: &[u8]) -> Result<InputForm, AllocError>
+    ensures { IfOk result (λ form. shown form ≡ (if has_value text.now then unknown_text
+        else of_base64 (decode_base64 standard (without_spaces text.now)) (without_spaces text.now))) }
 {
-    match form_of_spelling(source_text::spelling_in(alloc, text)?) {
-        Some(form) => Ok(form),
-        None => base64_form(alloc, text),
+    if layouts::has_value(text) {
+        source_form(alloc, text)
+    } else {
+        base64_form(alloc, text)
     }
 }
 
-// The form of text with hex digits alone, if it is one.
-fn form_of_spelling(spelling: Spelling) -> Option<InputForm>
-    ensures { (symbols : Option (List ℕ)) (other : InputKind) → IsSpelling spelling symbols
-        → if_digits symbols other ≡ shown_or result other }
+// The form of a source of C.
+fn source_form(alloc: Global, text: &[u8]) -> Result<InputForm, AllocError>
+    ensures { IfOk result (λ form. shown form ≡ unknown_text) }
 {
-    match spelling {
-        Spelling::Octets(octets) => Some(InputForm::Spelled(octets)),
-        Spelling::Odd => Some(InputForm::OddDigits),
-        Spelling::Nothing => None,
+    match layouts::source_spelling(alloc, text)? {
+        Spelling::Octets(octets) => Ok(InputForm::LaidOut(octets)),
+        Spelling::Odd | Spelling::Nothing => Ok(form_unknown(text)),
     }
 }
 
@@ -142,31 +143,17 @@ fn base64_form_late(alloc: Global, text: &[u8]) -> Result<InputForm, AllocError>
 fn loose_base64_form(alloc: Global, symbols: &[u8], text: &[u8]) -> Result<InputForm, AllocError>
     ensures { IfOk result (λ form. shown form ≡ of_loose_base64 symbols.now) }
 {
-    match base64_text::decode_unpadded(alloc, symbols)? {
-        Some(octets) => {
-            if is_sequence(&octets) {
-                return Ok(InputForm::Spelled(octets));
-            }
-            url_form(alloc, symbols, text)
-        }
-        None => url_form(alloc, symbols, text),
+    if let Some(octets) = base64_text::decode_by(alloc, &STANDARD_PAD_INDIFFERENT, symbols)?
+        && is_sequence(&octets)
+    {
+        return Ok(InputForm::Spelled(octets));
     }
-}
-
-// The form of base64url.
-fn url_form(alloc: Global, symbols: &[u8], text: &[u8]) -> Result<InputForm, AllocError>
-    ensures { IfOk result (λ form. shown form
-        ≡ if_sequence (result_ok (decode_base64 url_safe_pad_indifferent symbols.now)) unknown_text) }
-{
-    match base64_text::decode_url(alloc, symbols)? {
-        Some(octets) => {
-            if is_sequence(&octets) {
-                return Ok(InputForm::Spelled(octets));
-            }
-            Ok(form_unknown(text))
-        }
-        None => Ok(form_unknown(text)),
+    if let Some(octets) = base64_text::decode_by(alloc, &URL_SAFE_PAD_INDIFFERENT, symbols)?
+        && is_sequence(&octets)
+    {
+        return Ok(InputForm::Spelled(octets));
     }
+    Ok(form_unknown(text))
 }
 
 // Whether the octets are one SEQUENCE, to their end.
@@ -211,12 +198,13 @@ fn number_fits(count: usize, octets: &[u8]) -> bool
 fn is_printed_text(text: &[u8]) -> bool
     ensures { result ≡ all_of_some is_printed text.now }
 {
-    for b in text {
-        if !may_be_printed(*b) {
-            return false;
-        }
-    }
-    !text.is_empty()
+    !text.is_empty() && are_printed(text)
+}
+
+fn are_printed(text: &[u8]) -> bool
+    ensures { result ≡ list_all is_printed text.now }
+{
+    text.iter().all(|b| may_be_printed(*b))
 }
 
 fn may_be_printed(b: u8) -> bool
@@ -235,12 +223,13 @@ fn are_words(octets: &[u8]) -> bool
 fn are_all_in_words(octets: &[u8]) -> bool
     ensures { result ≡ all_of_some is_in_words octets.now }
 {
-    for b in octets {
-        if !may_be_in_words(*b) {
-            return false;
-        }
-    }
-    !octets.is_empty()
+    !octets.is_empty() && are_in_words(octets)
+}
+
+fn are_in_words(octets: &[u8]) -> bool
+    ensures { result ≡ list_all is_in_words octets.now }
+{
+    octets.iter().all(|b| may_be_in_words(*b))
 }
 
 // Whether the octet may be in words: a form feed is the identifier octet of a UTF8String.
@@ -265,6 +254,9 @@ pub enum FormFault {
     /// Hex digits with lines left out, in this line, but not how many.
     #[error("line {0}: the offsets do not tell how many lines `*` stands for")]
     LeftOut(usize),
+    /// A source of C, or columns with lines left out.
+    #[error("a source of C, or columns with lines left out: der_dump --extract 0 writes what it has")]
+    LaidOut,
     /// Text in no form that is known. The line is the first in none.
     #[error("line {0}: unknown text: DER, PEM, base64, hex digits (plain, in C, xxd, hexdump -C, od -t x1) are read")]
     Text(usize),
@@ -289,7 +281,7 @@ impl From<AllocError> for FormFault {
 }
 
 /// The octets of an input's document: its own, those it spells, or those of its first PEM object if that has its own
-/// END line.
+/// END line. A source of C, and columns with lines left out, have none here.
 ///
 /// # Errors
 /// `OutOfMemory`, and why there is no document.
@@ -297,9 +289,23 @@ pub fn document_of(alloc: Global, input: Vec<u8>) -> Result<Vec<u8>, FormFault>
     ensures octets { IfOk result (λ octets. document_is input.items ≡ Some octets.items) }
     ensures fault { IfErr result (λ e. (e ≡ OutOfMemory) ⊎ (document_is input.items ≡ None)) }
 {
-    match labelled_document_of(alloc, input) {
-        Ok(document) => Ok(document.octets),
-        Err(fault) => Err(fault),
+    match text_of(alloc, input) {
+        Ok(text) => octets_in(alloc, text),
+        Err(_) => Err(FormFault::OutOfMemory),
+    }
+}
+
+// The octets of the document of a text.
+fn octets_in(alloc: Global, text: Vec<u8>) -> Result<Vec<u8>, FormFault>
+    ensures octets { IfOk result (λ octets. document_in_text text.items ≡ Some octets.items) }
+    ensures fault { IfErr result (λ e. (e ≡ OutOfMemory) ⊎ (document_in_text text.items ≡ None)) }
+{
+    match form_of(alloc, &text) {
+        Ok(form) => match document_in(alloc, form, text) {
+            Ok(document) => Ok(document.octets),
+            Err(fault) => Err(fault),
+        },
+        Err(_) => Err(FormFault::OutOfMemory),
     }
 }
 
@@ -323,34 +329,49 @@ impl LabelledDocument {
     }
 }
 
-/// The document whose octets [`document_of`] returns, with its label.
+/// The document whose octets [`document_of`] returns, with its label; or that of a source of C, or of columns with
+/// lines left out.
 ///
 /// # Errors
 /// Those of `document_of`.
 pub fn labelled_document_of(alloc: Global, input: Vec<u8>) -> Result<LabelledDocument, FormFault>
-    ensures octets { IfOk result (λ document. document_is input.items ≡ Some document.octets.items) }
+    ensures octets { IfOk result (λ document. IsReadAs input.items document.octets.items) }
     ensures fault { IfErr result (λ e. (e ≡ OutOfMemory) ⊎ (document_is input.items ≡ None)) }
 {
     match text_of(alloc, input) {
-        Ok(text) => document_in(alloc, text),
+        Ok(text) => labelled_document_in(alloc, text),
         Err(_) => Err(FormFault::OutOfMemory),
     }
 }
 
-// The document of a text.
-fn document_in(alloc: Global, text: Vec<u8>) -> Result<LabelledDocument, FormFault>
-    ensures octets { IfOk result (λ document. document_in_text text.items ≡ Some document.octets.items) }
+// The document of a text, in any layout.
+fn labelled_document_in(alloc: Global, text: Vec<u8>) -> Result<LabelledDocument, FormFault>
+    ensures octets { IfOk result (λ document. (document_in_text text.items ≡ Some document.octets.items)
+        ⊎ (form_is text.items ≡ unknown_text)) }
     ensures fault { IfErr result (λ e. (e ≡ OutOfMemory) ⊎ (document_in_text text.items ≡ None)) }
 {
     match form_of(alloc, &text) {
-        Ok(InputForm::Pem) => first_object(alloc, &text),
-        Ok(InputForm::Spelled(octets)) => Ok(LabelledDocument::without(octets)),
-        Ok(InputForm::OddDigits) => Err(FormFault::OddDigits),
-        Ok(InputForm::OtherColumns) => Err(FormFault::OtherColumns),
-        Ok(InputForm::LeftOut(line)) => Err(FormFault::LeftOut(line)),
-        Ok(InputForm::Text(line)) => Err(FormFault::Text(line)),
-        Ok(InputForm::Der) => Ok(LabelledDocument::without(text)),
+        Ok(InputForm::LaidOut(octets)) => Ok(LabelledDocument::without(octets)),
+        Ok(form) => document_in(alloc, form, text),
         Err(_) => Err(FormFault::OutOfMemory),
+    }
+}
+
+// The document of a text in the form.
+fn document_in(alloc: Global, form: InputForm, text: Vec<u8>) -> Result<LabelledDocument, FormFault>
+    ensures octets { IfOk result (λ document.
+        document_in_form (shown form) text.items ≡ Some document.octets.items) }
+    ensures fault { IfErr result (λ e. (e ≡ OutOfMemory) ⊎ (document_in_form (shown form) text.items ≡ None)) }
+{
+    match form {
+        InputForm::Pem => first_object(alloc, &text),
+        InputForm::Spelled(octets) => Ok(LabelledDocument::without(octets)),
+        InputForm::LaidOut(_) => Err(FormFault::LaidOut),
+        InputForm::OddDigits => Err(FormFault::OddDigits),
+        InputForm::OtherColumns => Err(FormFault::OtherColumns),
+        InputForm::LeftOut(line) => Err(FormFault::LeftOut(line)),
+        InputForm::Text(line) => Err(FormFault::Text(line)),
+        InputForm::Der => Ok(LabelledDocument::without(text)),
     }
 }
 

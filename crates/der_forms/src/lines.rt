@@ -9,8 +9,16 @@ ghost use Rattle.der_io.specs.Lines.{lines_of};
 use der_digits::search::{part_before, without_indent};
 use der_io::split_line;
 
-// How many characters `-----END ` has.
-const END_MARK: usize = 9;
+/// How a line begins that begins an object.
+pub const BEGIN: &[u8] = b"-----BEGIN ";
+
+/// How a line begins that ends an object.
+pub const END: &[u8] = b"-----END ";
+
+const END_SIZE: usize = END.len();
+
+// How the rest of such a line begins, behind the label.
+const HYPHENS: &[u8] = b"-----";
 
 /// Lines that are still to be read.
 #[derive(Clone, Copy, Drop)]
@@ -66,14 +74,14 @@ pub fn is_pem(text: &[u8]) -> bool
 pub fn is_begin(line: &[u8]) -> bool
     ensures { result ≡ begins_object line.now }
 {
-    without_indent(line).starts_with(b"-----BEGIN ")
+    without_indent(line).starts_with(BEGIN)
 }
 
 // Whether a line ends an object.
 pub fn is_end(line: &[u8]) -> bool
     ensures { result ≡ ends_object line.now }
 {
-    without_indent(line).starts_with(b"-----END ")
+    without_indent(line).starts_with(END)
 }
 
 // Whether a line says that its object is encrypted.
@@ -88,12 +96,8 @@ pub fn label_of(line: &[u8]) -> Option<&[u8]>
     ensures { MatchOption result (begins_object line.now ≡ false)
         (λ label. (begins_object line.now ≡ true) × (label.now ≡ label_in line.now)) }
 {
-    let text = without_indent(line);
-    if text.starts_with(b"-----BEGIN ") {
-        Some(part_before(b"-----", &text[11..]))
-    } else {
-        None
-    }
+    let behind = without_indent(line).strip_prefix(BEGIN)?;
+    Some(part_before(HYPHENS, behind))
 }
 
 // The label in a line that ends an object.
@@ -101,19 +105,14 @@ pub fn end_label_of(line: &[u8]) -> &[u8]
     ensures { result.now ≡ end_label_in line.now }
 {
     let text = without_indent(line);
-    let (_, after) = text.split_at(text.len().min(END_MARK));
-    part_before(b"-----", after)
+    let (_, behind) = text.split_at(text.len().min(END_SIZE));
+    part_before(HYPHENS, behind)
 }
 
 pub fn is_text(line: &[u8]) -> bool
     ensures { result ≡ list_all is_text_octet line.now }
 {
-    for b in line {
-        if !may_stand_in_text(*b) {
-            return false;
-        }
-    }
-    true
+    line.iter().all(|b| may_stand_in_text(*b))
 }
 
 fn may_stand_in_text(b: u8) -> bool

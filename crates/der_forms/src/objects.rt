@@ -9,7 +9,7 @@ ghost use Rattle.der_forms.specs.declared.objects.Ending.TheVariants.{Closed};
 ghost use Rattle.der_io.specs.Lines.{lines_of};
 
 use crate::decoder::Decoder;
-use crate::lines::{Lines, end_label_of, is_end, label_of, tells_encryption};
+use crate::lines::{BEGIN, Lines, end_label_of, is_end, label_of, tells_encryption};
 use base64::DecodeError;
 use der_digits::search::{contains, part_before};
 use der_io::split_line;
@@ -176,7 +176,7 @@ fn behind_end<'a>(lines: Lines<'a>) -> Lines<'a>
     ensures shorter { length result.rest.now ≤ length lines.entry.rest.now }
 {
     let (line, after) = split_line(lines.rest);
-    let begun = part_before(b"-----BEGIN ", line).len();
+    let begun = part_before(BEGIN, line).len();
     if begun < line.len() {
         let (_, rest) = lines.rest.split_at(begun);
         return Lines {
@@ -194,7 +194,7 @@ fn behind_end<'a>(lines: Lines<'a>) -> Lines<'a>
 fn ending_of(label: &[u8], line: &[u8]) -> Ending
     ensures { result ≡ ending_by label.now line.now }
 {
-    if contains(b"-----BEGIN ", line) {
+    if contains(BEGIN, line) {
         Ending::Joined
     } else if end_label_of(line) == label {
         Ending::Closed

@@ -4,7 +4,7 @@ ghost use Rattle.der_forms.specs.Forms.{without_mark};
 ghost use Rattle.der_forms.specs.Texts.{has_begin, if_text as if_text_is, in_utf8 as in_utf8_is, text_of as text_is, units_of};
 
 use crate::breaks::{unfolded, with_breaks};
-use crate::lines::is_text;
+use crate::lines::{BEGIN, is_text};
 use der_digits::hex_text::is_in_columns;
 use der_digits::search::contains;
 use std::alloc::{AllocError, Global};
@@ -42,7 +42,7 @@ fn unmarked(alloc: Global, text: Vec<u8>) -> Result<Vec<u8>, AllocError>
 fn has_begin(text: &[u8]) -> bool
     ensures { result ≡ has_begin text.now }
 {
-    !text.is_empty() && is_text(text) && contains(b"-----BEGIN ", text) && !is_in_columns(text)
+    !text.is_empty() && is_text(text) && contains(BEGIN, text) && !is_in_columns(text)
 }
 
 fn in_utf8(alloc: Global, input: Vec<u8>) -> Result<Vec<u8>, AllocError>

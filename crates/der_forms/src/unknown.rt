@@ -7,7 +7,7 @@ use crate::input::InputForm;
 use der_digits::hex_text::{
     begins_prefix, digits_column, digits_part, is_in_columns, may_separate,
 };
-use der_digits::left_out::leaves_out;
+use der_digits::layouts::leaves_out;
 use der_digits::search::contains;
 use der_io::split_line;
 

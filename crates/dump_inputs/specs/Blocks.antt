@@ -3,7 +3,7 @@ use Rattle.std.specs.Prelude.{◌≡◌, ◌⊎◌, ℕ, List, Option, Result, O
 use Rattle.std.specs.Global.{Global}
 use Rattle.std.specs.Option.{option_map}
 use Rattle.std.specs.Result.{result_ok}
-use Rattle.der_forms.specs.Objects.{document_of}
+use Rattle.der_forms.specs.Objects.{IsReadAs, document_of}
 use Rattle.dump_walk.specs.ByOffset.{HasElementAt, LacksElementAt}
 use Rattle.dump_walk.specs.StringOctets.{HoldsNoOctets, HoldsOctets}
 use Rattle.dump_walk.specs.declared.block.Block.{Block}
@@ -12,13 +12,13 @@ use Rattle.dump_walk.specs.declared.block.NoBlock.{NoBlock}
 -- a block begins at the offset in the document of an input, the first one of PEM, and has these contents octets
 abbrev pub BeginsIn : ℕ → List ℕ → List ℕ → List ℕ → Type 0
 BeginsIn offset input block contents =
-    (document : List ℕ) × (document_of input ≡ Some document) × HasElementAt document offset block contents
+    (document : List ℕ) × IsReadAs input document × HasElementAt document offset block contents
 
 -- none begins there, or there is no document
 abbrev pub NoneBeginsIn : ℕ → List ℕ → Type 0
 NoneBeginsIn offset input =
     (document_of input ≡ None)
-    ⊎ ((document : List ℕ) × (document_of input ≡ Some document)
+    ⊎ ((document : List ℕ) × IsReadAs input document
     × ((why : NoBlock) × LacksElementAt document offset why))
 
 -- the block that begins at the offset; or that none does

@@ -4,9 +4,9 @@ use Rattle.std.specs.Io.KnownBytes.{IsAtEnd}
 use Rattle.dump_inputs.specs.Blocks.{IsBlockAt, IsContentsAt, IsValueAt}
 use Rattle.dump_inputs.specs.declared.outcome.Outcome.{Outcome}
 use Rattle.dump_inputs.specs.declared.outcome.Outcome.TheVariants.{Lacking, Unread, Written}
-use Rattle.dump_inputs.specs.declared.show.OutputFormat.{OutputFormat}
-use Rattle.dump_inputs.specs.declared.show.OutputFormat.TheVariants.{Page}
 use Rattle.dump_lines.specs.declared.document.Verdict.TheVariants.{AllRead, Refused}
+use Rattle.dump_options.specs.declared.options.Output.{Output}
+use Rattle.dump_options.specs.declared.options.Output.TheVariants.{Page}
 use Rattle.dump_options.specs.declared.options.Task.{Task}
 use Rattle.dump_options.specs.declared.options.Task.TheVariants.{At, Contents, Dump, Extract, Value}
 
@@ -36,7 +36,7 @@ IsInputText task input outcome text =
     ⊎ ((octets : List ℕ) × IfSome input (λ known. octets ≡ known) × IsTaskText task octets outcome text)
 
 -- documents are shown on a page
-abbrev pub is_page : OutputFormat → Bool
+abbrev pub is_page : Output → Bool
 is_page Page = true
 is_page _ = false
 

@@ -1,6 +1,6 @@
 // The documents of an input.
-ghost use Rattle.std.specs.Prelude.{◌≡◌, IfErr, IfOk, None, Some};
-ghost use Rattle.der_forms.specs.Objects.{document_of};
+ghost use Rattle.std.specs.Prelude.{◌≡◌, IfErr, IfOk, None};
+ghost use Rattle.der_forms.specs.Objects.{IsReadAs, document_of};
 
 use der_forms::{
     FormFault, InputForm, LabelledDocument, PemFault, PemObject, form_of, labelled_document_of,
@@ -35,7 +35,9 @@ pub fn documents_of(alloc: Global, input: Vec<u8>) -> Result<Documents, AllocErr
 fn documents_in(alloc: Global, text: Vec<u8>) -> Result<Documents, AllocError> {
     match form_of(alloc, &text)? {
         InputForm::Pem => Ok(Documents::Objects(text)),
-        InputForm::Spelled(octets) => Ok(Documents::One(unlabelled(Ok(octets)))),
+        InputForm::Spelled(octets) | InputForm::LaidOut(octets) => {
+            Ok(Documents::One(unlabelled(Ok(octets))))
+        }
         InputForm::OddDigits => fault_document(alloc, &FormFault::OddDigits),
         InputForm::OtherColumns => fault_document(alloc, &FormFault::OtherColumns),
         InputForm::LeftOut(line) => fault_document(alloc, &FormFault::LeftOut(line)),
@@ -101,7 +103,7 @@ pub fn first_document(
     input: Vec<u8>,
 ) -> Result<Result<LabelledDocument, String>, AllocError>
     ensures found { IfOk result (λ found. IfOk found (λ document.
-        document_of input.items ≡ Some document.octets.items)) }
+        IsReadAs input.items document.octets.items)) }
     ensures none { IfOk result (λ found. IfErr found (λ _. document_of input.items ≡ None)) }
 {
     match labelled_document_of(alloc, input) {

@@ -1,5 +1,5 @@
 // The outcomes of inputs, and the exit status after them.
-ghost use Rattle.std.specs.Prelude.{◌≡◌, max};
+ghost use Rattle.std.specs.Prelude.{◌≡◌};
 ghost use Rattle.dump_inputs.specs.Outcomes.{greatest_status, status_of};
 
 use dump_lines::Verdict;
@@ -21,13 +21,7 @@ pub fn greatest(outcomes: &[Outcome]) -> u8
 {
     outcomes
         .iter()
-        .fold(0, |most, outcome| larger(most, status_after(outcome)))
-}
-
-fn larger(a: u8, b: u8) -> u8
-    ensures { result ≡ max a b }
-{
-    if a < b { b } else { a }
+        .fold(0, |most, outcome| most.max(status_after(outcome)))
 }
 
 fn status_after(outcome: &Outcome) -> u8

@@ -1,5 +1,5 @@
 // How documents are shown.
-ghost use Rattle.std.specs.Prelude.{◌≡◌, false, IfOk, None, OnOk};
+ghost use Rattle.std.specs.Prelude.{◌≡◌, IfOk, None, OnOk};
 ghost use Rattle.dump_inputs.specs.Blocks.{octets_in};
 ghost use Rattle.dump_inputs.specs.Growing.{Grows};
 ghost use Rattle.dump_inputs.specs.Inputs.{IsFrame, is_page};
@@ -10,7 +10,7 @@ use crate::documents::Document;
 use der_io::{StreamFault, write_part};
 use dump_lines::{Dumper, Style, Verdict, push_refusal};
 use dump_names::{Names, OwnNames};
-use dump_options::{Color, Options, Task};
+use dump_options::{Color, Options, Output, Task};
 use dump_rows::{Look, Printer, push_foot, push_head};
 use dump_shapes::{DocumentType, Shapes};
 use dump_walk::style::Known;
@@ -18,15 +18,6 @@ use jiff::civil::DateTime;
 use std::alloc::{AllocError, Global};
 use std::io::Write;
 use std::str;
-
-// The format of the output.
-#[derive(Clone, Copy)]
-pub enum OutputFormat {
-    Lines,
-    Json,
-    Page,
-    Accounts,
-}
 
 // What is done with each input, and how its documents are shown.
 #[derive(Drop)]
@@ -36,7 +27,7 @@ pub struct Show {
     pub task: Task,
     // the name of each input is shown
     pub is_named: bool,
-    pub format: OutputFormat,
+    pub output: Output,
     pub is_strict: bool,
     // lines are colored
     pub is_colored: bool,
@@ -57,7 +48,7 @@ impl Show {
         time: Option<DateTime>,
     ) -> Result<Show, AllocError>
         ensures task { IfOk result (λ show. show.task ≡ options.now.task) }
-        ensures page { IfOk result (λ show. options.now.is_html ≡ false → is_page show.format ≡ false) }
+        ensures output { IfOk result (λ show. show.output ≡ options.now.output) }
     {
         let names = Names::with(alloc, own)?.with_fields(Shapes::new(alloc)?);
         let named_type = match options.type_name {
@@ -68,8 +59,8 @@ impl Show {
             alloc,
             names,
             task: options.task,
-            is_named: options.is_json || count > 1,
-            format: format_of(options.is_json, options.is_html, options.is_text),
+            is_named: matches!(options.output, Output::Json) || count > 1,
+            output: options.output,
             is_strict: options.is_strict,
             is_colored: matches!(options.color, Color::Always),
             style: Style {
@@ -94,11 +85,11 @@ impl Show {
         ensures refused { IfOk result (λ verdict. octets_in document.now.octets ≡ None → verdict ≡ Refused) }
         ensures grown { OnOk result (Grows (W.contents printer.old.out) (W.contents printer.new.out)) }
     {
-        match self.format {
-            OutputFormat::Lines => self.push_as_lines(document, printer),
-            OutputFormat::Json => self.push_json(file, document, &mut printer.out),
-            OutputFormat::Page => self.push_on_page(document, printer),
-            OutputFormat::Accounts => self.push_account(document, printer),
+        match self.output {
+            Output::Lines => self.push_as_lines(document, printer),
+            Output::Json => self.push_json(file, document, &mut printer.out),
+            Output::Page => self.push_on_page(document, printer),
+            Output::Accounts => self.push_account(document, printer),
         }
     }
 
@@ -241,11 +232,10 @@ impl Show {
     ) -> Result<(), StreamFault>
         ensures { OnOk result (Grows (W.contents printer.old.out) (W.contents printer.new.out)) }
     {
-        match self.format {
-            OutputFormat::Lines => self.push_name_line(name, printer),
-            OutputFormat::Json => Ok(()),
-            OutputFormat::Page => self.push_name_on_page(name, printer),
-            OutputFormat::Accounts => self.push_name_line(name, printer),
+        match self.output {
+            Output::Lines | Output::Accounts => self.push_name_line(name, printer),
+            Output::Json => Ok(()),
+            Output::Page => self.push_name_on_page(name, printer),
         }
     }
 
@@ -283,7 +273,7 @@ impl Show {
 
     // Writes what stands before all texts, if it is not there yet.
     pub fn begin_once<W: Write>(&self, is_begun: &mut bool, out: &mut W) -> Result<(), StreamFault>
-        ensures { OnOk result (IsWritten (IsFrame (is_page self.now.format))
+        ensures { OnOk result (IsWritten (IsFrame (is_page self.now.output))
             (W.contents out.old) (W.contents out.new)) }
     {
         if *is_begun {
@@ -296,20 +286,18 @@ impl Show {
 
     // Writes what stands before all texts.
     fn begin<W: Write>(&self, out: &mut W) -> Result<(), StreamFault>
-        ensures { OnOk result (IsWritten (IsFrame (is_page self.now.format))
+        ensures { OnOk result (IsWritten (IsFrame (is_page self.now.output))
             (W.contents out.old) (W.contents out.new)) }
     {
-        match self.format {
-            OutputFormat::Page => write_head(self.alloc, out),
-            OutputFormat::Lines => Ok(()),
-            OutputFormat::Json => Ok(()),
-            OutputFormat::Accounts => Ok(()),
+        match self.output {
+            Output::Page => write_head(self.alloc, out),
+            Output::Lines | Output::Json | Output::Accounts => Ok(()),
         }
     }
 
     // Writes what stands behind all texts, if what stands before them is there.
     pub fn end_begun<W: Write>(&self, is_begun: bool, out: &mut W) -> Result<(), StreamFault>
-        ensures { OnOk result (IsWritten (IsFrame (is_page self.now.format))
+        ensures { OnOk result (IsWritten (IsFrame (is_page self.now.output))
             (W.contents out.old) (W.contents out.new)) }
     {
         if is_begun {
@@ -320,14 +308,12 @@ impl Show {
 
     // Writes what stands behind all texts.
     fn end<W: Write>(&self, out: &mut W) -> Result<(), StreamFault>
-        ensures { OnOk result (IsWritten (IsFrame (is_page self.now.format))
+        ensures { OnOk result (IsWritten (IsFrame (is_page self.now.output))
             (W.contents out.old) (W.contents out.new)) }
     {
-        match self.format {
-            OutputFormat::Page => write_foot(self.alloc, out),
-            OutputFormat::Lines => Ok(()),
-            OutputFormat::Json => Ok(()),
-            OutputFormat::Accounts => Ok(()),
+        match self.output {
+            Output::Page => write_foot(self.alloc, out),
+            Output::Lines | Output::Json | Output::Accounts => Ok(()),
         }
     }
 }
@@ -361,19 +347,5 @@ pub fn both_verdicts(a: Verdict, b: Verdict) -> Verdict {
     match a {
         Verdict::AllRead => b,
         Verdict::Refused => Verdict::Refused,
-    }
-}
-
-fn format_of(is_json: bool, is_html: bool, is_text: bool) -> OutputFormat
-    ensures { is_html ≡ false → is_page result ≡ false }
-{
-    if is_json {
-        OutputFormat::Json
-    } else if is_html {
-        OutputFormat::Page
-    } else if is_text {
-        OutputFormat::Accounts
-    } else {
-        OutputFormat::Lines
     }
 }

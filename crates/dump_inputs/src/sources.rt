@@ -47,7 +47,7 @@ pub fn run<R: Read + Drop, W: Write>(
     sources: &mut [Source<'_, R>],
     w: W,
 ) -> (Result<Vec<Outcome>, StreamFault>, W)
-    ensures answered { IfOk result.0 (λ outcomes. IsWritten (IsFramed options.now.is_html
+    ensures answered { IfOk result.0 (λ outcomes. IsWritten (IsFramed (is_page options.now.output)
         (AreTexts (IsInputText options.now.task)
         (map (λ source. R.remaining source.reader) sources.old) outcomes.items))
         (W.contents w) (W.contents result.1)) }
@@ -68,7 +68,7 @@ fn run_on<B: Before, R: Read + Drop, W: Write>(
     w: W,
 ) -> (Result<Vec<Outcome>, StreamFault>, W)
     requires { W.contents w ≡ B.before }
-    ensures answered { IfOk result.0 (λ outcomes. IsWritten (IsFramed options.now.is_html
+    ensures answered { IfOk result.0 (λ outcomes. IsWritten (IsFramed (is_page options.now.output)
         (AreTexts (IsInputText options.now.task)
         (map (λ source. R.remaining source.reader) sources.old) outcomes.items))
         (W.contents w) (W.contents result.1)) }
@@ -96,7 +96,7 @@ fn write_all_of<R: Read + Drop, W: Write>(
     sources: &mut [Source<'_, R>],
     printer: &mut Printer<W>,
 ) -> Result<Vec<Outcome>, StreamFault>
-    ensures written { IfOk result (λ outcomes. IsWritten (IsFramed (is_page show.now.format)
+    ensures written { IfOk result (λ outcomes. IsWritten (IsFramed (is_page show.now.output)
         (AreTexts (IsInputText show.now.task)
         (map (λ source. R.remaining source.reader) sources.old) outcomes.items))
         (W.contents printer.old.out) (W.contents printer.new.out)) }
@@ -117,7 +117,7 @@ fn push_sources<R: Read + Drop, W: Write>(
     is_begun: &mut bool,
     printer: &mut Printer<W>,
 ) -> Result<Vec<Outcome>, StreamFault>
-    ensures written { IfOk result (λ outcomes. IsWritten (IsFramed (is_page show.now.format)
+    ensures written { IfOk result (λ outcomes. IsWritten (IsFramed (is_page show.now.output)
         (AreTexts (IsInputText show.now.task)
         (map (λ source. R.remaining source.reader) sources.old) outcomes.items))
         (W.contents printer.old.out) (W.contents printer.new.out)) }
@@ -141,7 +141,7 @@ fn push_source<R: Read + Drop, W: Write>(
     is_begun: &mut bool,
     printer: &mut Printer<W>,
 ) -> Result<Outcome, StreamFault>
-    ensures written { IfOk result (λ outcome. IsWritten (IsFramed (is_page show.now.format)
+    ensures written { IfOk result (λ outcome. IsWritten (IsFramed (is_page show.now.output)
         (IsInputText show.now.task (R.remaining source.old.reader) outcome))
         (W.contents printer.old.out) (W.contents printer.new.out)) }
     ensures read { IfOk result (λ outcome. IsReadToEnd outcome (R.remaining source.new.reader)) }

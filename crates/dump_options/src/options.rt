@@ -33,12 +33,8 @@ pub struct Options<'a> {
     pub is_full: bool,
     /// Nested DER is not expanded.
     pub is_flat: bool,
-    /// Documents are written as JSON, a line each.
-    pub is_json: bool,
-    /// Documents are shown on a page of HTML, one for all inputs.
-    pub is_html: bool,
-    /// A short account of each document is written in place of a dump.
-    pub is_text: bool,
+    /// As what documents are written.
+    pub output: Output,
     /// The most blocks around a block that is shown; the outermost has none. `None` shows all blocks.
     pub most_depth: Option<usize>,
     /// The name of the file that names object identifiers, before the names that are built in.
@@ -49,6 +45,19 @@ pub struct Options<'a> {
     pub type_name: Option<&'a str>,
     /// When lines are colored.
     pub color: Color,
+}
+
+/// As what documents are written.
+#[derive(Clone, Copy, Debug, PartialEq)]
+pub enum Output {
+    /// As a dump in lines.
+    Lines,
+    /// As JSON, a line each.
+    Json,
+    /// On a page of HTML, one for all inputs.
+    Page,
+    /// As a short account each.
+    Accounts,
 }
 
 /// When lines are colored.
@@ -100,16 +109,15 @@ fn matches_for<'a, S: AsStr>(
 
 // The options that the matches ask for.
 fn asked_for<'a>(alloc: Global, matches: &ArgMatches<'a>) -> Result<Options<'a>, OptionsFault<'a>> {
-    refuse_exclusions(matches)?;
+    let chosen = chosen(matches)?;
+    refuse_exclusions(matches, chosen)?;
     Ok(Options {
         inputs: inputs_of(alloc, matches)?,
         task: task_of(matches)?,
         is_strict: is_set(matches, "strict"),
         is_full: is_set(matches, "full"),
         is_flat: is_set(matches, "flat"),
-        is_json: is_set(matches, "json"),
-        is_html: is_set(matches, "html"),
-        is_text: is_set(matches, "text"),
+        output: output_of(chosen),
         most_depth: number_of(matches, "depth")?,
         oids: value(matches, "oids"),
         is_plain: is_set(matches, "plain"),
@@ -132,10 +140,23 @@ fn chosen<'a>(matches: &ArgMatches<'a>) -> Result<Option<&'static str>, OptionsF
     Ok(chosen)
 }
 
-// Refuses two arguments that say what is written, and others that do not go with the one; and the type of a document
-// with no names of fields.
-fn refuse_exclusions<'a>(matches: &ArgMatches<'a>) -> Result<(), OptionsFault<'a>> {
-    if let Some(name) = chosen(matches)? {
+// As what documents are written, by the argument that says what is.
+fn output_of(chosen: Option<&str>) -> Output {
+    match chosen {
+        Some("json") => Output::Json,
+        Some("html") => Output::Page,
+        Some("text") => Output::Accounts,
+        _ => Output::Lines,
+    }
+}
+
+// Refuses arguments that do not go with the one that says what is written; and the type of a document with no names of
+// fields.
+fn refuse_exclusions<'a>(
+    matches: &ArgMatches<'a>,
+    chosen: Option<&'static str>,
+) -> Result<(), OptionsFault<'a>> {
+    if let Some(name) = chosen {
         for other in refused_with(name) {
             if is_given(matches, other) {
                 return Err(OptionsFault::NotTogether(other, name));

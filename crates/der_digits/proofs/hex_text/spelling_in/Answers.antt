@@ -5,7 +5,7 @@ use Rattle.std.specs.Char.{is_ascii_hexdigit}
 use Rattle.der_io.specs.Lines.{lines_of}
 use Rattle.der_digits.specs.Decoded.{IsRead}
 use Rattle.der_digits.specs.Digits.{digits_of, without_separators}
-use Rattle.der_digits.proofs.Spelled.{decoded-not_read}
+use Rattle.der_digits.proofs.Spelled.{not_read}
 use Rattle.der_digits.proofs.hex_text.spelling_in.Goals as goal
 
 pub returns-then-not-branch : goal.returns-then-not-branch
@@ -19,5 +19,5 @@ returns-then-not-branch c =
     let whole : read ++ (part ++ digits_of in_columns (lines_of c.split_line.result.1.now))
     ≡ digits_of in_columns (lines_of c.args.text.now) =
     rw c.digits_part.ensures (ap (λ lines. read ++ digits_of in_columns lines) (sym c.split_line.ensures.first) ∙ e) in
-    decoded-not_read read part (digits_of in_columns (lines_of c.split_line.result.1.now)) _ wrong
+    not_read read part (digits_of in_columns (lines_of c.split_line.result.1.now)) _ wrong
     (whole ∙ ap (λ b. digits_of b (lines_of c.args.text.now)) c.is_in_columns-in_columns.ensures)

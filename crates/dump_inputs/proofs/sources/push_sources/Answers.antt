@@ -24,7 +24,7 @@ loop-source-preserved g c =
       written =
           IsWritten-next_source i all now l n left c.push.result were are last e p
           (IsInputText c.args.show.now.task) (λ source. g.R.Read.remaining source.reader) c.source-item.result
-          (is_page c.args.show.now.format)
+          (is_page c.args.show.now.output)
           (g.W.Write.contents c.args.printer.now.out) (g.W.Write.contents c.loop-source.printer.out)
           (g.W.Write.contents c.push_source.new.printer.out) c.loop-source.invariant.written
           c.in_ok-outcome.ensures.written;
@@ -42,7 +42,7 @@ returns-clause-written g c =
     let whole : take i all ≡ all =
     let same = c.loop-source.auto.sources in
     let passed = c.loop-source-test.false in take_all i all (omega (arith, same, passed)) in
-    subst (λ z. IsWritten (IsFramed (is_page c.args.show.now.format) (AreTexts (IsInputText c.args.show.now.task)
+    subst (λ z. IsWritten (IsFramed (is_page c.args.show.now.output) (AreTexts (IsInputText c.args.show.now.task)
     (map (λ source. g.R.Read.remaining source.reader) z) c.loop-source.outcomes.items))
     (g.W.Write.contents c.args.printer.now.out) (g.W.Write.contents c.loop-source.printer.out)) whole
     c.loop-source.invariant.written

@@ -8,7 +8,7 @@ use Rattle.dump_inputs.proofs.sources.push_sources.Given as goal
 -- the texts of the sources before this one are pushed, these are read, and the others are as they were
 abbrev pub invariant-loop-source : goal.invariant-loop-source
 invariant-loop-source g l = record {
-  written : IsWritten (IsFramed (is_page l.fn.show.format) (AreTexts (IsInputText l.fn.show.task)
+  written : IsWritten (IsFramed (is_page l.fn.show.output) (AreTexts (IsInputText l.fn.show.task)
       (map (λ source. g.R.Read.remaining source.reader) (take l.source-index l.fn.sources)) l.outcomes.items))
       (g.W.Write.contents l.fn.printer.out) (g.W.Write.contents l.printer.out);
   read : AreReadToEnds l.outcomes.items

@@ -1,8 +1,8 @@
 -- For `sources::run_on`: what it returns is right, and the writer holds at first what it held before.
-use Rattle.std.proofs.Common.{map, subst, sym}
+use Rattle.std.proofs.Common.{◌∙◌, ap, map, subst, sym}
 use Rattle.std.proofs.lemmas.Result.{IfOk-weaker}
 use Rattle.std.specs.Io.KnownBytes.{Appends}
-use Rattle.dump_inputs.specs.Inputs.{IsInputText}
+use Rattle.dump_inputs.specs.Inputs.{IsInputText, is_page}
 use Rattle.dump_inputs.specs.Texts.{AreTexts}
 use Rattle.dump_inputs.specs.Growing.{Grows}
 use Rattle.dump_inputs.proofs.Growing.{Grows-refl}
@@ -26,7 +26,7 @@ returns-clause-answered g c =
       (
         text,
         subst (λ z. AreTexts (IsInputText z) inputs outcomes.items text) c.in-Ok.ensures.task are,
-        (λ no. same (c.in-Ok.ensures.page no)),
+        (λ no. same (ap is_page c.in-Ok.ensures.output ∙ no)),
       ),
     )) c.write_all_of-outcomes.ensures.written
 

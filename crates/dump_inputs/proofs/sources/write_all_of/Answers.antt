@@ -11,6 +11,6 @@ returns-clause-written g c =
     let ended = g.W.Write.contents c.end_begun.new.out in
     let after = g.W.Write.contents c.flush.new.w in
     let (output, put, framed) =
-    IsWritten-framed (is_page c.args.show.now.format) _ before filled ended c.in_ok-outcomes.ensures.written
+    IsWritten-framed (is_page c.args.show.now.output) _ before filled ended c.in_ok-outcomes.ensures.written
     c.in_ok-end_begun.ensures in
     (output, Appends-kept before ended after output put c.in_ok-flush.ensures.kept, framed)

@@ -2,19 +2,21 @@
 use Rattle.std.proofs.Common.{◌≡◌, arith, length, subst}
 use Rattle.std.proofs.lemmas.Bool.Decides.{nat_tests}
 use Rattle.der_digits.specs.Decoded.{ArePairs}
-use Rattle.der_digits.proofs.Spelled.{decoded-none, decoded-odd, decoded-pairs}
+use Rattle.der_digits.specs.Spelled.{octets_of_pairs}
+use Rattle.std.specs.Prelude.{Some}
+use Rattle.der_digits.proofs.Spelled.{all-spelled, none-of_some, odd-spelled}
 use Rattle.der_digits.proofs.hex_decoder.HexDecoder.finish.Goals as goal
 
 pub returns-in-Some : goal.returns-in-Some
 returns-in-Some c = λ digits read.
-    decoded-odd c.args.self.octets.items digits c.in-Some.field-0
+    odd-spelled c.args.self.octets.items digits c.in-Some.field-0
     (subst (λ high. ArePairs c.args.self.octets.items high digits) c.in-Some.is read)
 
 pub returns-in-None : goal.returns-in-None
 returns-in-None c = λ digits read.
     let is = c.is_empty.ensures in
     let test = c.if-is_empty.true in
-    decoded-none digits c.args.self.octets.items
+    none-of_some digits c.args.self.octets.items
     (subst (λ high. ArePairs c.args.self.octets.items high digits) c.in-None.is read) (grind (arith, nat_tests))
 
 pub returns-in-None-2 : goal.returns-in-None-2
@@ -23,5 +25,6 @@ returns-in-None-2 c = λ digits read.
     let is = c.is_empty.ensures in
     let test = c.if-is_empty.false in
     absurd (grind (arith, nat_tests, none)) in
-    decoded-pairs digits c.args.self.octets.items
-    (subst (λ high. ArePairs c.args.self.octets.items high digits) c.in-None.is read) some
+    let pairs : octets_of_pairs digits ≡ Some c.args.self.octets.items =
+    subst (λ high. ArePairs c.args.self.octets.items high digits) c.in-None.is read in
+    (all-spelled digits c.args.self.octets.items pairs some, pairs)

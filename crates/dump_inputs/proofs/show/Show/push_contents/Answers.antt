@@ -3,7 +3,7 @@ use Rattle.std.proofs.Common.{[], ◌≡◌, inl, inr, refl}
 use Rattle.std.proofs.KnownBytes.{Appends-nil}
 use Rattle.std.proofs.lemmas.Result.{IfOk-weaker}
 use Rattle.std.specs.Prelude.{Err, None, Some}
-use Rattle.der_forms.specs.Objects.{document_of}
+use Rattle.der_forms.specs.Objects.{IsReadAs, document_of}
 use Rattle.dump_inputs.specs.Blocks.{IsFoundIn}
 use Rattle.dump_walk.specs.ByOffset.{HasElementAt}
 use Rattle.dump_inputs.proofs.show.Show.push_contents.Goals as goal
@@ -16,14 +16,14 @@ returns-in-Err g c =
 pub returns : goal.returns
 returns g c =
     let document = c.in-Ok.document.octets.items in
-    let is : document_of c.args.input.items ≡ Some document = rw c.in-Ok.is at c.in_ok-document.ensures.found in
+    let is : IsReadAs c.args.input.items document = rw c.in-Ok.is at c.in_ok-document.ensures.found in
     let lacks : IsFoundIn c.args.offset document (Err c.in-Err-2.why) = rw c.in-Err-2.is at c.in_ok-block.ensures in
     ([], Appends-nil (g.W.Write.contents c.args.out.now), (None, inr (document, is, lacks), refl))
 
 pub returns-in-Ok-2 : goal.returns-in-Ok-2
 returns-in-Ok-2 g c =
     let document = c.in-Ok.document.octets.items in
-    let is : document_of c.args.input.items ≡ Some document = rw c.in-Ok.is at c.in_ok-document.ensures.found in
+    let is : IsReadAs c.args.input.items document = rw c.in-Ok.is at c.in_ok-document.ensures.found in
     let block = c.in-Ok-2.block in
     let has : HasElementAt document c.args.offset block.octets.now block.contents.now =
     rw c.in-Ok-2.is at c.in_ok-block.ensures in
