@@ -7,6 +7,7 @@ other value, and the rows joined by chance, in the indefinite form too. Then a m
 another, on a stack of 256 kB. In short each tenth certificate is taken, and each 30th change.
 """
 import sys
+from functools import partial
 
 import builds
 import departures
@@ -14,10 +15,12 @@ from calls import rows_of_call
 from changed import indefinite, joined, of_certificates
 from compared import answers, compare_all, is_deep, status
 from short import part
+from x690 import externals, nested
 
 MIXTURES = 50_000
-DEEP = [("SEQUENCEs", 0x30, "0500", "none"), ("SETs", 0x31, "0500", "none"),
-        ("explicit blocks", 0xA0, "010101", "{} BooleanValue")]
+DEEP = [("SEQUENCEs", partial(nested, 0x30), "0500", "none"), ("SETs", partial(nested, 0x31), "0500", "none"),
+        ("explicit blocks", partial(nested, 0xA0), "010101", "{} BooleanValue"), ("EXTERNALs", externals, "0500", "none"),
+        ("EXTERNALs", externals, "010101", "{} BooleanValue")]
 
 
 class Answered:

@@ -7,16 +7,19 @@ value, and the rows joined by chance. Then a million encodings stand inside one 
 each tenth certificate is taken, and each 30th change.
 """
 import sys
+from functools import partial
 
 import builds
 import der
 from changed import joined, of_certificates
 from compared import answers, compare_all, is_deep, status
 from short import part
+from x690 import externals, nested
 
 MIXTURES = 100_000
-DEEP = [("SEQUENCEs", 0x30, "0500", "true"), ("SETs", 0x31, "0500", "true"), ("explicit blocks", 0xA0, "0500", "true"),
-        ("SEQUENCEs", 0x30, "0501", "false")]
+DEEP = [("SEQUENCEs", partial(nested, 0x30), "0500", "true"), ("SETs", partial(nested, 0x31), "0500", "true"),
+        ("explicit blocks", partial(nested, 0xA0), "0500", "true"), ("SEQUENCEs", partial(nested, 0x30), "0501", "false"),
+        ("EXTERNALs", externals, "0500", "true")]
 
 
 class Answered:

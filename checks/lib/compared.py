@@ -4,8 +4,6 @@ import itertools
 import multiprocessing
 import subprocess
 
-from x690 import nested
-
 COUNT = 1000  # documents a task
 LEVELS = 1_000_000
 
@@ -37,10 +35,10 @@ def compare_all(answered, documents):
     return sum(map(len, tasks)), counted, wrong
 
 
-def is_deep(answered, kind, leading, inner, wanted):
-    """Whether a million such encodings around the inner octets get the wanted answer on a stack of 256 kB; {} in it
-    stands for the offset of the inner octets."""
-    octets = nested(leading, LEVELS, bytes.fromhex(inner))
+def is_deep(answered, kind, around, inner, wanted):
+    """Whether a million such encodings around the inner octets, which `around` puts there, get the wanted answer on a
+    stack of 256 kB; {} in it stands for the offset of the inner octets."""
+    octets = around(LEVELS, bytes.fromhex(inner))
     small = ["sh", "-c", 'ulimit -s 256 && exec "$0"', answered.program]
     ran = subprocess.run(small, input=answered.line(octets), capture_output=True, text=True)
     place = len(octets) - len(inner) // 2

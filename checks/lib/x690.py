@@ -38,3 +38,12 @@ def nested(leading, levels, inner=b"\x05\x00"):
     for _ in range(levels):
         nest.around(leading)
     return nest.octets()
+
+
+def externals(levels, inner):
+    """So many EXTERNALs inside one another (8.18), each with a reference, and the next under [0]."""
+    nest = Nest(inner)
+    for _ in range(levels):
+        nest.around(0xA0)
+        nest.around(0x28, b"\x06\x01\x2a")
+    return nest.octets()

@@ -10,7 +10,7 @@ use Rattle.asn1_headers.specs.declared.header.ASN1Class.{ASN1Class}
 use Rattle.asn1_headers.specs.declared.header.ASN1Class.TheVariants.{Universal}
 use Rattle.asn1_headers.proofs.Prefixes.{Encoding-unique, Encoding-not_empty, IsIdentifier-unique, IsLength-unique}
 use Rattle.asn1_headers.proofs.IndefiniteForms.{begins_with_end-cons}
-use Rattle.asn1_der.specs.Der.{AreDerEncodings, more_encodings, no_encodings}
+use Rattle.asn1_der.specs.Der.{AreDerEncodings, IsDerEncoding, more_encodings, no_encodings}
 use Rattle.asn1_der.proofs.Encodings.{IsLengthShortest-der}
 use Rattle.asn1_blocks.specs.Places.{HasNoEncodingAt, IsEncoding}
 use Rattle.asn1_departures.specs.Steps.{IsStep, is_at_end}
@@ -127,6 +127,22 @@ is_indefinite-shortest_length n = elim (cases_lt n 128) [
 pub unended_behind-definite : (u : ℕ) (k : Bool) (len : List ℕ) → is_indefinite len ≡ false → unended_behind u k len ≡ u
 unended_behind-definite u true len e = ap (λ b. if b then suc u else u) e
 unended_behind-definite u false len e = refl
+
+-- an encoding of DER in front is the next encoding
+pub IsNext-der : (x first rest : List ℕ) → x ≡ first ++ rest → length first < 2 ^ 64 → IsDerEncoding first →
+    IsNext 0 x first rest
+IsNext-der x first rest whole small d =
+    let s = (IsLengthShortest-der first small d).found in
+    record {
+      class = s.class;
+      constructed = s.constructed;
+      tag = s.tag;
+      contents = s.contents;
+      header = s.header;
+      encoding = s.encoding;
+      whole = whole;
+      no_end = λ more. absurd (omega (arith, more));
+    }
 
 -- encodings of DER are encodings
 pub AreDerEncodings-are_encodings : (x : List ℕ) (items : List (List ℕ)) → length x < 2 ^ 64 → AreDerEncodings x items →

@@ -55,7 +55,7 @@ MatchBool-false_case true found P e h = absurd cc
 MatchBool-false_case false found P e h = h
 
 -- an encoding of the definite form is looked into exactly if it is constructed
-is_looked_into-definite : (k : Bool) (len : List ℕ) → is_indefinite len ≡ false → is_looked_into k len ≡ k
+pub is_looked_into-definite : (k : Bool) (len : List ℕ) → is_indefinite len ≡ false → is_looked_into k len ≡ k
 is_looked_into-definite true len e = ap not e
 is_looked_into-definite false len e = refl
 
@@ -155,12 +155,12 @@ mutual
   AreDer-none_inside o s b v found (no_encodings_inside t never e) k same small none t' = absurd cc
 
 -- identifier and length octets are the shortest
-record HasShortest (id len : List ℕ) (c : ASN1Class) (k : Bool) (n : ℕ) (size : ℕ) : Type 0 where
-  identifier : id ≡ shortest_identifier c k n
-  len_is : len ≡ shortest_length size
+pub record HasShortest (id len : List ℕ) (c : ASN1Class) (k : Bool) (n : ℕ) (size : ℕ) : Type 0 where
+  pub identifier : id ≡ shortest_identifier c k n
+  pub len_is : len ≡ shortest_length size
 
 -- where an encoding is of the shortest form, its identifier octets and its length octets are the shortest
-HasShortest-encoding :
+pub HasShortest-encoding :
     (x : List ℕ) (c : ASN1Class) (k : Bool) (n : ℕ) (v : List ℕ) (h : ℕ) (e : Encoding x c k n v h) →
     length x < 2 ^ 64 →
     IsShortest x c k n v → HasShortest e.identifier e.len c k n (length v)

@@ -12,6 +12,7 @@ use crate::own::push_own;
 use crate::rule::{Departure, Rule};
 use asn1_blocks::parsed::{PlacedHeader, header_within};
 use asn1_blocks::read_loop::out_of_memory;
+use asn1_der::is_der;
 use asn1_headers::error::LocatedErr;
 use asn1_headers::header::HeaderCount;
 use std::alloc::{AllocError, Global};
@@ -54,6 +55,11 @@ pub fn departures(alloc: Global, octets: &[u8]) -> Result<Vec<Departure>, Locate
     ensures none { IfOk result (λ found. (found.items ≡ []) ↔ IsDer octets.now) }
     ensures refused { IfErr result (λ e. OutOfMemoryOr (NoEncodingsFault octets.now e.offset) e.error) }
 {
+    match is_der(alloc, octets) {
+        Ok(true) => return Ok(Vec::new(alloc)),
+        Ok(false) => {}
+        Err(_) => return Err(out_of_memory(0)),
+    }
     check_headers(alloc, octets)?;
     match list(alloc, octets) {
         Ok(found) => Ok(found),
