@@ -48,7 +48,7 @@ impl Show {
                 Ok(Document {
                     label: None,
                     octets: Ok(octets),
-                    field: block.place.spot,
+                    field: block.place.spot(),
                 })
             }
             Err(why) => Ok(unlabelled(Err(why))),

@@ -19,7 +19,7 @@ verdict_of-first (mark ∷ marks) faults = refl
 pub IsDumpOfSome-put :
     {W : Type 0} (contents : W → Option (List ℕ)) (strict : Bool) (most : Option ℕ) (place : Place)
     (octets first marks : List ℕ) (a b c : Printer W) (verdict : Verdict) → place.is_inside ≡ false →
-    place.base ≡ 0 → place.depth ≡ 0 → place.most_depth ≡ most → verdict ≡ verdict_of (marks ++ first) →
+    place.base ≡ 0 → place.depth ≡ 0 → place.style.most_depth ≡ most → verdict ≡ verdict_of (marks ++ first) →
     IsPrinted contents (IsWhole strict place octets first [] marks) a b → PrintsText contents b c →
     IsPrinted contents (IsDumpOfSome strict most octets verdict) a c
 IsDumpOfSome-put contents strict most place octets first marks a b c verdict i z d m v these (last, prints) =

@@ -75,7 +75,7 @@ pub record ShownTo (strict : Bool) (place : Place) (octets : List ℕ) (walk : W
       → AreFrontsOf octets (fronts ++ later) (faults ++ more)
   pub first_is : fault_offset first ≡ first_of faults
   pub are : AreShown place.is_inside place.base place.depth octets fronts shown
-  pub put : ArePut strict place.most_depth shown before after text
+  pub put : ArePut strict place.style.most_depth shown before after text
 
 -- before the first step of a walk, nothing was put
 pub ShownTo-none :
@@ -130,7 +130,8 @@ module _ (strict : Bool) (place : Place) (octets : List ℕ) (old new : Walk) (p
       let f = front_of p.levels piece in
       let first = shown_at place.is_inside place.base place.depth f in
       let stands : StandAt octets piece.offset p.left =
-      subst (λ z. StandAt z piece.offset p.left) same_octets p.position in
+      subst (λ z. StandAt z piece.offset p.left) same_octets
+      (StandAt-left old.cursor.octets.now p.left piece.offset p.end.offset p.left_is) in
       let behind = piece.offset + (kind_header piece.kind + before) in
       let deep : AreShown true (piece.place.base + behind) (suc (place.depth + p.levels)) part own inner =
       subst (λ z. AreShown true (piece.place.base + behind) (suc z) part own inner) depth_is is in
@@ -150,7 +151,7 @@ ShownTo-append strict place octets old new piece first before middle after text 
     let f = front_of p.levels piece in
     let faults = fault_offset piece.fault in
     let more = shown_piece piece ∷ inner in
-    let most : piece.place.most_depth ≡ place.most_depth = p.most ∙ ap (λ z. z.most_depth) s.same_place in
+    let most : piece.place.style.most_depth ≡ place.style.most_depth = ap (λ z. z.most_depth) p.style ∙ ap (λ z. z.style.most_depth) s.same_place in
     record {
       fronts = s.fronts ++ f ∷ [];
       faults = s.faults ++ faults;
@@ -165,7 +166,7 @@ ShownTo-append strict place octets old new piece first before middle after text 
       first_is = fault_offset-or first piece.fault s.faults s.first_is;
       are = AreShown-append place.is_inside place.base place.depth octets s.fronts (f ∷ []) s.shown more s.are
           (AreShown-piece strict place octets old new piece p s.same_place s.same_octets inner inside);
-      put = ArePut-append strict place.most_depth s.shown more before middle after text own s.put
+      put = ArePut-append strict place.style.most_depth s.shown more before middle after text own s.put
           (subst (λ z. ArePut strict z more middle after own) most put);
     }
 
@@ -195,7 +196,7 @@ pub IsInner-whole :
     (strict : Bool) (piece : Piece) (inside : Place) (left octets first before after text : List ℕ) (n : ℕ) →
     StandAt (slice_range left (kind_header piece.kind) (kind_header piece.kind + kind_contents piece.kind)) n octets →
     inside.is_inside ≡ true → inside.base ≡ piece.place.base + (piece.offset + (kind_header piece.kind + n)) →
-    inside.depth ≡ suc piece.place.depth → inside.most_depth ≡ piece.place.most_depth →
+    inside.depth ≡ suc piece.place.depth → inside.style.most_depth ≡ piece.place.style.most_depth →
     IsWhole strict inside octets first before after text → IsInner strict piece left before after text
 IsInner-whole strict piece inside left octets first before after text n stands i b d m s =
     let header = kind_header piece.kind in
@@ -222,12 +223,12 @@ IsInner-whole strict piece inside left octets first before after text n stands i
 pub IsOwn-put :
     (strict : Bool) (piece : Piece) (left before middle after first rest : List ℕ) →
     middle ≡ before ++ marks_of strict (shown_piece piece) →
-    AreTextsOf piece.place.most_depth (shown_piece piece ∷ []) first → IsInner strict piece left middle after rest →
+    AreTextsOf piece.place.style.most_depth (shown_piece piece ∷ []) first → IsInner strict piece left middle after rest →
     IsOwn strict piece left before after (first ++ rest)
 IsOwn-put strict piece left before middle after first rest marked line (inner, inside, put) = (
   inner,
   inside,
-  ArePut-append strict piece.place.most_depth (shown_piece piece ∷ []) inner before middle after first rest (
+  ArePut-append strict piece.place.style.most_depth (shown_piece piece ∷ []) inner before middle after first rest (
     marked ∙ ap (λ z. before ++ z) (sym (append-nil (marks_of strict (shown_piece piece)))),
     line,
   ) put,

@@ -49,18 +49,18 @@ pub record IsWhole (strict : Bool) (place : Place) (octets first before after te
   pub read : AreFrontsOf octets fronts faults
   pub first_is : first ≡ first_of faults
   pub are : AreShown place.is_inside place.base place.depth octets fronts shown
-  pub put : ArePut strict place.most_depth shown before after text
+  pub put : ArePut strict place.style.most_depth shown before after text
 
 -- those inside a piece were put
 abbrev pub IsInner : Bool → Piece → List ℕ → List ℕ → List ℕ → List ℕ → Type 0
 IsInner strict piece left before after text =
-    (inner : List Shown) × AreInside left piece inner × ArePut strict piece.place.most_depth inner before after text
+    (inner : List Shown) × AreInside left piece inner × ArePut strict piece.place.style.most_depth inner before after text
 
 -- the piece and those inside it were put
 abbrev pub IsOwn : Bool → Piece → List ℕ → List ℕ → List ℕ → List ℕ → Type 0
 IsOwn strict piece left before after text =
     (inner : List Shown) × AreInside left piece inner
-    × ArePut strict piece.place.most_depth (shown_piece piece ∷ inner) before after text
+    × ArePut strict piece.place.style.most_depth (shown_piece piece ∷ inner) before after text
 
 -- what was printed is of the piece, wherever it stands
 abbrev pub PrintsHeld :

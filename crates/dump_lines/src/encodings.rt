@@ -115,11 +115,11 @@ impl Dumper<'_> {
         printer: &mut Printer<W>,
     ) -> Result<(), StreamFault>
         requires { map (λ r. r.now) rules.now ≡ rules_of (shown_piece piece.now) }
-        ensures { OnOk result (IsPrinted W.contents (IsTextOf piece.now.place.most_depth (shown_piece piece.now))
+        ensures { OnOk result (IsPrinted W.contents (IsTextOf piece.now.place.style.most_depth (shown_piece piece.now))
             printer.old printer.new) }
     {
         let place = piece.place;
-        if is_too_deep(place.most_depth, place.depth) {
+        if is_too_deep(place.style.most_depth, place.depth) {
             return Ok(());
         }
         let offset = piece.document_offset()?;
@@ -291,7 +291,7 @@ fn fault_of<'a>(piece: &'a Piece<'_>) -> Option<RowFault<'a>> {
 // Whether rows of what stands inside a piece follow its own.
 fn has_rows_inside(piece: &Piece<'_>) -> bool {
     let place = piece.place;
-    if is_too_deep(place.most_depth, place.depth.saturating_add(1)) {
+    if is_too_deep(place.style.most_depth, place.depth.saturating_add(1)) {
         return false;
     }
     match &piece.kind {

@@ -35,7 +35,7 @@ pub fn value_in<'a>(piece: &'a Piece<'_>) -> Option<(&'a [u8], &'a LeafValue)> {
 // What a piece holds in words: its value, or its octets, if it has none; nothing where encodings inside it are shown.
 pub fn value_text(alloc: Global, piece: &Piece<'_>) -> Result<String, AllocError> {
     let mut text = String::new(alloc);
-    let is_full = piece.place.is_full;
+    let is_full = piece.place.style.is_full;
     match (value_in(piece), &piece.kind) {
         (Some((contents, value)), _) => {
             let is_opened = piece.nested.is_some();

@@ -2,7 +2,15 @@
 ghost use Rattle.std.specs.Prelude.{◌≡◌, slice_get};
 
 use crate::identifier::number_of;
+use crate::take::{Inside, Spot};
 use asn1_headers::header::ASN1Class;
+use asn1_headers::tags;
+
+const EXTERNAL: u8 = tags::EXTERNAL as u8;
+
+const EMBEDDED_PDV: u8 = tags::EMBEDDED_PDV as u8;
+
+const CHARACTER_STRING: u8 = tags::CHARACTER_STRING as u8;
 
 /// A tag: its class and its number (X.690 8.1.2).
 #[derive(Clone, Copy, Debug, PartialEq)]
@@ -122,6 +130,25 @@ impl Shapes {
             .iter()
             .position(|shape| shape.full_name == name)?;
         u16::try_from(place).ok()
+    }
+
+    /// The shape that the tag of an encoding says, whose parts name what stands inside: that of EXTERNAL, EMBEDDED PDV
+    /// or CHARACTER STRING (X.680 36, 37 and 44). `None` for any other tag.
+    pub fn own_shape(&self, tag: Tag) -> Option<u16> {
+        match (tag.class, tag.number) {
+            (ASN1Class::Universal, EXTERNAL) => self.named("EXTERNAL"),
+            (ASN1Class::Universal, EMBEDDED_PDV) => self.named("EMBEDDED PDV"),
+            (ASN1Class::Universal, CHARACTER_STRING) => self.named("CHARACTER STRING"),
+            _ => None,
+        }
+    }
+
+    /// Whether the field may be anything, so that its tag alone says its type.
+    pub fn is_anything(&self, spot: Spot) -> bool {
+        match self.shape(spot.of.shape) {
+            Some(shape) => matches!((shape.kind, spot.of.inside), (ShapeKind::Open, Inside::Nothing)),
+            None => false,
+        }
     }
 
     pub(crate) fn shape(&self, i: u16) -> Option<Shape>

@@ -174,9 +174,10 @@ impl Reader {
             "OPEN" => ShapeKind::Open,
             "KNOWN" => ShapeKind::Known,
             "SEQUENCE" | "SET" => ShapeKind::Record(self.tag_of(text)?),
-            _ => match text.parse::<u8>() {
-                Ok(tag) => ShapeKind::Leaf(tag),
-                Err(_) => ShapeKind::Leaf(self.tag_of(text)?),
+            _ => match (tagged_record(text), text.parse::<u8>()) {
+                (Some(tag), _) => ShapeKind::Record(tag),
+                (None, Ok(tag)) => ShapeKind::Leaf(tag),
+                (None, Err(_)) => ShapeKind::Leaf(self.tag_of(text)?),
             },
         })
     }
@@ -271,6 +272,12 @@ impl Shape {
         self.first = first;
         self.end = first;
     }
+}
+
+// The tag of class Universal that a SEQUENCE has in place of its own (X.680 8.4), if the words say one.
+fn tagged_record(text: &'static str) -> Option<u8> {
+    let number = text.strip_prefix("[UNIVERSAL ")?.strip_suffix("] SEQUENCE")?;
+    number.parse::<u8>().ok()
 }
 
 // What a word behind the type of a leaf says of its values, if there is one, and the words before it.

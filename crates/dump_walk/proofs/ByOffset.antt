@@ -1,17 +1,18 @@
 -- Elements by the offsets of their lines, for `block`.
-use Rattle.std.proofs.Common.{◌≡◌, ℕ, suc, ◌+◌, ◌<◌, ◌≤◌, true, false, List, [], ◌∷◌, ◌++◌, length, slice_range, refl, sym, ap, ◌∙◌, subst, append_assoc, append-nil, arith}
+use Rattle.std.proofs.Common.{◌≡◌, inl, inr, ℕ, suc, ◌+◌, ◌<◌, ◌≤◌, true, false, List, [], ◌∷◌, ◌++◌, length, slice_range, refl, sym, ap, ◌∙◌, subst, append_assoc, append-nil, arith}
 use Rattle.std.specs.List.{AllByRecursion}
-use Rattle.std.specs.Prelude.{Err, Option, Result}
-use Rattle.asn1_headers.specs.declared.header.ASN1Class.{ASN1Class}
+use Rattle.std.specs.Prelude.{Bool, Err, Option, Result}
+use Rattle.asn1_departures.specs.declared.rule.Rule.{Rule}
 use Rattle.dump_values.specs.declared.faults.Fault.{Fault}
-use Rattle.dump_walk.specs.ByOffset.{BeginWith, Finds, HasNoElementAt, IsElementAt, IsElsewhere, IsFoundAt, IsLineOf, all_elsewhere, inside_string, itself, of_definite_length, of_indefinite_form, of_other, passed}
-use Rattle.dump_walk.specs.ByOffsetSteps.{EndsAt, HasCome, HasPassed, IsWholeKind, StandsInside}
-use Rattle.dump_walk.specs.Fronts.{AreFronts, AreFrontsOf, Front, StandAt, tag_name}
+use Rattle.dump_walk.specs.ByOffset.{BeginWith, Finds, GoUpTo, HasLineAt, HasNoElementAt, IsElementAt, IsElsewhere, IsEndLine, IsFoundAt, IsLineOf, IsNoEndOf, inside_string, itself, no_line, of_definite_length, of_indefinite_form, of_other, too_short, without_end}
+use Rattle.dump_walk.specs.ByOffsetSteps.{EndsAt, HasCome, HasNoEnd, HasPassed, IsNext, IsWholeKind, StandsInside}
+use Rattle.dump_walk.specs.Fronts.{AreFronts, AreFrontsOf, Front, HoldsBehind}
 use Rattle.dump_walk.specs.PieceSteps.{IsAhead}
-use Rattle.dump_walk.specs.Pieces.{IsKind, Passes, fault_offset, front_of, kind_contents, kind_header, kind_indefinite, kind_type_name}
+use Rattle.dump_walk.specs.Pieces.{IsKind, Passes, fault_offset, front_of, kind_contents, kind_encoding, kind_front, kind_header, kind_indefinite, kind_type_name}
 use Rattle.dump_walk.specs.Steps.{ends_of}
 use Rattle.dump_walk.specs.declared.block.Block.{Block}
 use Rattle.dump_walk.specs.declared.block.Inside.{Inside}
+use Rattle.dump_walk.specs.declared.block.Next.TheVariants.{Behind, Deeper, Ended}
 use Rattle.dump_walk.specs.declared.block.NoBlock.{NoBlock}
 use Rattle.dump_walk.specs.declared.block.NoBlock.TheVariants.{CutShort, Nothing}
 use Rattle.dump_walk.specs.declared.piece.Piece.{Piece}
@@ -19,54 +20,93 @@ use Rattle.dump_walk.specs.declared.piece.PieceKind.{PieceKind}
 use Rattle.dump_walk.specs.declared.piece.PieceKind.TheVariants.{Cut, EndOfContents, Leaf, Opened, Unreadable}
 use Rattle.dump_walk.specs.declared.place.Place.{Place}
 use Rattle.dump_walk.specs.declared.walk.Walk.{Walk}
-use Rattle.dump_walk.proofs.HeaderFronts.{BeginsWithHeader-some}
-use Rattle.dump_walk.proofs.Positions.{StandAt-bound, StandAt-inside}
+use Rattle.dump_walk.proofs.Positions.{slice_range-inside}
 
 -- what holds of each of some and of one more holds of all
-pub AllByRecursion-one_more :
+AllByRecursion-one_more :
     {X : Type 0} (P : X → Type 0) (xs : List X) (x : X) → AllByRecursion P xs → P x → AllByRecursion P (xs ++ x ∷ [])
 AllByRecursion-one_more P [] x all one = (one, tt)
 AllByRecursion-one_more P (y ∷ ys) x all one = (all.0, AllByRecursion-one_more P ys x all.1 one)
-
-AllByRecursion-weaker :
-    {X : Type 0} (P Q : X → Type 0) → ((x : X) → P x → Q x) → (xs : List X) → AllByRecursion P xs →
-    AllByRecursion Q xs
-AllByRecursion-weaker P Q weaker [] all = tt
-AllByRecursion-weaker P Q weaker (x ∷ xs) all = (weaker x all.0, AllByRecursion-weaker P Q weaker xs all.1)
 
 -- before its first step a walk has passed no lines
 pub HasPassed-none :
     (octets : List ℕ) (walk : Walk) → walk.cursor.octets.now ≡ octets →
     ((fronts : List Front) (faults : List ℕ) → IsAhead walk.cursor fronts faults → AreFrontsOf octets fronts faults) →
     HasPassed octets [] walk
-HasPassed-none octets walk same ahead = record { same_octets = same; faults = []; goes_on = ahead }
+HasPassed-none octets walk same ahead = (
+  same,
+  record {
+    faults = [];
+    follow = λ later more h. ahead later more
+        (subst (λ z. AreFronts z walk.cursor.offset (ends_of walk.cursor) later more) (sym same) h);
+  },
+)
 
--- a walk that has passed lines passes that of the next piece
-pub HasPassed-next :
-    (octets : List ℕ) (fronts : List Front) (old new : Walk) (piece : Piece) (p : Passes old new piece) →
-    HasPassed octets fronts old → HasPassed octets (fronts ++ front_of p.levels piece ∷ []) new
-HasPassed-next octets fronts old new piece p h =
-    let f = front_of p.levels piece in
-    let own = fault_offset piece.fault in
-    record {
-      same_octets = p.same_octets ∙ h.same_octets;
-      faults = h.faults ++ own;
-      goes_on = λ later more ahead.
-          subst (λ z. AreFrontsOf octets z ((h.faults ++ own) ++ more)) (sym (append_assoc fronts (f ∷ []) later))
-          (subst (λ z. AreFrontsOf octets (fronts ++ f ∷ later) z) (sym (append_assoc h.faults own more))
-          (h.goes_on (f ∷ later) (own ++ more) (p.ahead later more ahead)));
+module _ (octets : List ℕ) (fronts : List Front) (old : Walk) (h : HasPassed octets fronts old) where
+  -- what the walk has yet to come to follows the lines that it has passed
+  AreFrontsOf-ahead : (later : List Front) (more : List ℕ) → IsAhead old.cursor later more →
+      AreFrontsOf octets (fronts ++ later) (h.1.faults ++ more)
+  AreFrontsOf-ahead later more ahead =
+      h.1.follow later more (subst (λ z. AreFronts z old.cursor.offset (ends_of old.cursor) later more) h.0 ahead)
+
+  -- where no lines are left, those are all
+  pub GoUpTo-none : (Is : Front → Type 0) → IsAhead old.cursor [] [] → GoUpTo octets fronts Is
+  GoUpTo-none Is ended = inl (
+    h.1.faults ++ [],
+    subst (λ z. AreFrontsOf octets z (h.1.faults ++ [])) (append-nil fronts) (AreFrontsOf-ahead [] [] ended),
+  )
+
+  module _ (new : Walk) (piece : Piece) (p : Passes old new piece) where
+    -- the walk passes the line of the next piece
+    pub HasPassed-next : HasPassed octets (fronts ++ front_of p.levels piece ∷ []) new
+    HasPassed-next =
+        let f = front_of p.levels piece in
+        let own = fault_offset piece.fault in
+        let same = p.same_octets ∙ h.0 in (
+          same,
+          record {
+            faults = h.1.faults ++ own;
+            follow = λ later more ahead.
+                subst (λ z. AreFrontsOf octets z ((h.1.faults ++ own) ++ more))
+                (sym (append_assoc fronts (f ∷ []) later))
+                (subst (λ z. AreFrontsOf octets (fronts ++ f ∷ later) z) (sym (append_assoc h.1.faults own more))
+                (AreFrontsOf-ahead (f ∷ later) (own ++ more) (p.ahead later more
+                (subst (λ z. AreFronts z new.cursor.offset (ends_of new.cursor) later more) (sym same) ahead))));
+          },
+        )
+
+    -- the lines begin with these and with that of the next piece
+    pub BeginWith-next : BeginWith octets (fronts ++ front_of p.levels piece ∷ [])
+    BeginWith-next = (new.cursor.offset, ends_of new.cursor, HasPassed-next.1)
+
+    -- the walk has come to the next piece
+    pub HasCome-next : HasCome octets fronts new piece
+    HasCome-next = record {
+      levels = p.levels;
+      end = p.end;
+      around = p.around;
+      left = p.left;
+      come = record {
+        faults = h.1.faults;
+        follow = λ later more here. AreFrontsOf-ahead later more (p.here later more
+            (subst (λ z. AreFronts z piece.offset (p.end ∷ p.around) later more) (sym h.0) here));
+      };
+      passed = HasPassed-next;
+      depth = p.depth ∙ sym (ap (λ z. z.depth + p.levels) p.same_place);
+      left_is = p.left_is ∙ ap (λ z. slice_range z piece.offset p.end.offset) h.0;
+      kind = p.kind;
     }
 
--- the lines that a walk has passed are the first
-pub BeginWith-passed :
-    (octets : List ℕ) (fronts : List Front) (walk : Walk) → HasPassed octets fronts walk → BeginWith octets fronts
-BeginWith-passed octets fronts walk h = record {
-  faults = h.faults;
-  offset = walk.cursor.offset;
-  ends = ends_of walk.cursor;
-  follow = λ later more ahead. h.goes_on later more
-      (subst (λ z. AreFronts z walk.cursor.offset (ends_of walk.cursor) later more) (sym h.same_octets) ahead);
-}
+-- a piece that holds a string is whole, and so its contents octets in what is left are those in all octets
+HoldsBehind-octets :
+    (octets left string : List ℕ) (offset end header size skipped : ℕ) (name : List ℕ) →
+    left ≡ slice_range octets offset end → header + size ≤ length left →
+    HoldsBehind name (slice_range left header (header + size)) skipped string →
+    HoldsBehind name (slice_range octets (offset + header) (offset + (header + size))) skipped string
+HoldsBehind-octets octets left string offset end header size skipped name is whole holds =
+    let within = subst (λ z. header + size ≤ length z) is whole in
+    subst (λ z. HoldsBehind name z skipped string)
+    (ap (λ z. slice_range z header (header + size)) is ∙ slice_range-inside octets offset end header size within) holds
 
 -- how far octets at the place were searched: no line that was passed stands at the offset
 pub record SearchedTo (place : Place) (octets : List ℕ) (offset : ℕ) (walk : Walk) : Type 0 where
@@ -80,56 +120,43 @@ module _ (place : Place) (octets : List ℕ) (offset : ℕ) (old new : Walk) (s 
     -- nothing stands at the offset where no lines are left
     pub Finds-none : IsAhead old.cursor [] [] → Finds octets offset (Err Nothing)
     Finds-none ended =
-        let all : AreFrontsOf octets s.fronts (s.has_passed.faults ++ []) =
-        subst (λ z. AreFrontsOf octets z (s.has_passed.faults ++ [])) (append-nil s.fronts)
-        (s.has_passed.goes_on [] [] ended) in
-        (octets, offset, itself refl refl, all_elsewhere s.fronts (s.has_passed.faults ++ []) refl all s.elsewhere)
+        let all = GoUpTo-none octets s.fronts old s.has_passed (λ next. offset < next.offset) ended in
+        (octets, offset, itself refl refl, no_line s.fronts refl s.elsewhere all)
 
     module _ (piece : Piece) (p : Passes old new piece) where
-      -- the piece that the walk came to
-      pub HasCome-next : HasCome octets s.fronts new piece
-      HasCome-next = record {
-        levels = p.levels;
-        left = p.left;
-        passed = HasPassed-next octets s.fronts old new piece p s.has_passed;
-        depth = p.depth ∙ sym (ap (λ z. z.depth + p.levels) p.same_place);
-        position = subst (λ z. StandAt z piece.offset p.left) s.has_passed.same_octets p.position;
-        kind = p.kind;
-      }
-
       -- what is found where the line of the piece stands at the offset is found there
       pub Finds-here :
           (found : Result Block NoBlock) → piece.offset ≡ offset →
           ((before : List Front) → HasCome octets before new piece → IsFoundAt octets piece.offset found) →
           Finds octets offset found
       Finds-here found there is =
-          (octets, offset, itself refl refl, subst (λ z. IsFoundAt octets z found) there (is s.fronts HasCome-next))
+          let come = HasCome-next octets s.fronts old s.has_passed new piece p in
+          (octets, offset, itself refl refl, subst (λ z. IsFoundAt octets z found) there (is s.fronts come))
 
       -- nothing stands at the offset where the line of the piece stands behind it
       pub Finds-passed : offset < piece.offset → Finds octets offset (Err Nothing)
-      unfolding HasCome-next
       Finds-passed behind =
-          let begin = BeginWith-passed octets _ new HasCome-next.passed in (
+          let begin = BeginWith-next octets s.fronts old s.has_passed new piece p in (
             octets,
             offset,
             itself refl refl,
-            passed s.fronts (front_of p.levels piece) refl begin s.elsewhere behind,
+            no_line s.fronts refl s.elsewhere (inr (front_of p.levels piece, begin, behind)),
           )
 
       -- what is found inside a string that the piece is
       pub Finds-inside :
           (inside : Inside) (found : Result Block NoBlock) → StandsInside piece offset inside →
           Finds inside.octets.now inside.offset found → Finds octets offset found
-      unfolding HasCome-next
       Finds-inside inside found stands (others, further, leads, is) =
-          let (start, at, least, most, offset_is) = stands p.left p.holding in
-          let f = front_of p.levels piece in
-          let begin = BeginWith-passed octets _ new HasCome-next.passed in
-          let there = StandAt-inside octets p.left inside.octets.now piece.offset start HasCome-next.position at in (
+          let (whole, skipped, holds, offset_is, within) = stands p.left p.holding in
+          let left_is = p.left_is ∙ ap (λ z. slice_range z piece.offset p.end.offset) s.has_passed.0 in
+          let string = HoldsBehind-octets octets p.left inside.octets.now piece.offset p.end.offset
+          (kind_header piece.kind) (kind_contents piece.kind) skipped (kind_type_name piece.kind) left_is whole
+          holds in (
             others,
             further,
-            inside_string s.fronts f (piece.offset + start) inside.octets.now inside.offset begin (omega (arith, least))
-                there (omega (arith, most)) (omega (arith, offset_is)) leads,
+            inside_string s.fronts (front_of p.levels piece) skipped inside.octets.now inside.offset
+                (BeginWith-next octets s.fronts old s.has_passed new piece p) string offset_is within leads,
             is,
           )
 
@@ -139,132 +166,173 @@ module _ (place : Place) (octets : List ℕ) (offset : ℕ) (old new : Walk) (s 
       SearchedTo-next other = record {
         same_place = p.same_place ∙ s.same_place;
         fronts = s.fronts ++ front_of p.levels piece ∷ [];
-        has_passed = HasPassed-next octets s.fronts old new piece p s.has_passed;
+        has_passed = HasPassed-next octets s.fronts old s.has_passed new piece p;
         elsewhere =
             AllByRecursion-one_more (IsElsewhere offset) s.fronts (front_of p.levels piece) s.elsewhere
             (other p.levels);
       }
 
--- a whole encoding has the line of one, and some octets, which are all there
-pub record IsWhole (left : List ℕ) (kind : PieceKind) : Type 0 where
-  pub line : (class : ASN1Class) × (tag : ℕ) × (kind_type_name kind ≡ tag_name class tag)
-  pub some : 0 < kind_header kind + kind_contents kind
-  pub within : kind_header kind + kind_contents kind ≤ length left
-
+-- a whole encoding is one, and all octets that it announces are there
 IsWhole-kind :
     (left : List ℕ) (offset : ℕ) (kind : PieceKind) (fault : Option Fault) → IsWholeKind kind →
-    IsKind left offset kind fault → IsWhole left kind
+    IsKind left offset kind fault →
+    (kind_encoding kind ≡ true) × (kind_header kind + kind_contents kind ≤ length left)
 IsWhole-kind left offset (EndOfContents size) fault whole is = absurd whole
 IsWhole-kind left offset (Unreadable octets) fault whole is = absurd whole
 IsWhole-kind left offset (Cut header contents) fault whole is = absurd whole
-IsWhole-kind left offset (Opened header contents joined) fault whole is = record {
-  line = (header.class, header.tag, refl);
-  some = omega (
-    arith,
-    BeginsWithHeader-some left header.size header.announced header.class header.constructed
-        header.tag is.0,
-  );
-  within = is.1;
-}
-IsWhole-kind left offset (Leaf header contents value) fault whole is = record {
-  line = (header.class, header.tag, refl);
-  some = omega (
-    arith,
-    BeginsWithHeader-some left header.size header.announced header.class header.constructed
-        header.tag is.0,
-  );
-  within = is.1;
-}
+IsWhole-kind left offset (Opened header contents joined) fault whole is = (refl, is.1)
+IsWhole-kind left offset (Leaf header contents value) fault whole is = (refl, is.1)
 
 module _ (octets : List ℕ) (before : List Front) (walk : Walk) (piece : Piece) (h : HasCome octets before walk piece)
   where
+    -- the lines up to that of the piece begin the lines
+    BeginWith-piece : BeginWith octets (before ++ front_of h.levels piece ∷ [])
+    BeginWith-piece = (walk.cursor.offset, ends_of walk.cursor, h.passed.1)
+
     -- no whole element has its line where that of the piece says what stands there
     pub HasNoElementAt-line :
         (why : NoBlock) → ((levels : ℕ) → IsLineOf why (front_of levels piece)) → HasNoElementAt octets piece.offset why
-    HasNoElementAt-line why line =
-        of_other before (front_of h.levels piece) (BeginWith-passed octets _ walk h.passed) refl (line h.levels)
+    HasNoElementAt-line why line = of_other before (front_of h.levels piece) BeginWith-piece refl (line h.levels)
 
-    -- a whole element of definite length is what its line says
-    pub IsElementAt-sized :
-        (block contents : List ℕ) → IsWholeKind piece.kind → kind_indefinite piece.kind ≡ false →
-        block
-        ≡ slice_range octets piece.offset (piece.offset + (kind_header piece.kind + kind_contents piece.kind)) →
-        contents
-        ≡ slice_range octets (piece.offset + kind_header piece.kind)
-        (piece.offset + (kind_header piece.kind + kind_contents piece.kind)) →
-        IsElementAt octets piece.offset block contents
-    IsElementAt-sized block contents whole definite octets_are contents_are =
-        let w = IsWhole-kind h.left piece.offset piece.kind piece.fault whole h.kind in
-        let there = StandAt-bound octets h.left piece.offset h.position (omega (arith, w.some, w.within)) in
-        of_definite_length before (front_of h.levels piece) (BeginWith-passed octets _ walk h.passed) refl w.line
-        definite
-        (omega (arith, there, w.within)) octets_are contents_are
+    -- the line of the piece is that of an encoding at its offset
+    HasLineAt-piece :
+        kind_encoding piece.kind ≡ true → HasLineAt octets piece.offset before (front_of h.levels piece) (length h.left)
+    HasLineAt-piece encoding = record {
+      end = h.end;
+      around = h.around;
+      come = h.come;
+      begin = BeginWith-piece;
+      offset_is = refl;
+      encoding = encoding;
+      left_is = ap length h.left_is;
+    }
 
-    -- an element of the indefinite form ends where the walk comes to its end
-    pub IsElementAt-ended :
-        (block contents : List ℕ) (end : ℕ) → IsWholeKind piece.kind → kind_indefinite piece.kind ≡ true →
-        EndsAt walk piece.place.depth end →
-        block ≡ slice_range octets piece.offset (end + 2) →
-        contents ≡ slice_range octets (piece.offset + kind_header piece.kind) end →
-        IsElementAt octets piece.offset block contents
-    IsElementAt-ended block contents end whole indefinite ends octets_are contents_are =
-        let f = front_of h.levels piece in
-        let w = IsWhole-kind h.left piece.offset piece.kind piece.fault whole h.kind in
-        let (inside, last, begin, deeper, is_end, depth, at) = ends octets (before ++ f ∷ []) h.passed in
-        let down = h.depth in
-        of_indefinite_form before f inside last begin refl w.line indefinite
-        (AllByRecursion-weaker _ (λ front. h.levels < front.depth) (λ front more. omega (arith, more, down)) inside
-        deeper) is_end (omega (arith, depth, down))
-        (octets_are ∙ ap (λ z. slice_range octets piece.offset (z + 2)) (sym at))
-        (contents_are ∙ ap (slice_range octets (piece.offset + kind_header piece.kind)) (sym at))
+    -- an encoding that is cut short is no whole element
+    pub HasNoElementAt-cut :
+        kind_encoding piece.kind ≡ true → length h.left < kind_header piece.kind + kind_contents piece.kind →
+        HasNoElementAt octets piece.offset CutShort
+    HasNoElementAt-cut encoding cut =
+        too_short before (front_of h.levels piece) (length h.left) refl (HasLineAt-piece encoding) cut
 
-    -- the line of an element whose end is missing is that of an encoding
-    pub HasNoElementAt-cut : IsWholeKind piece.kind → HasNoElementAt octets piece.offset CutShort
-    HasNoElementAt-cut whole =
-        HasNoElementAt-line CutShort
-        (λ levels. (IsWhole-kind h.left piece.offset piece.kind piece.fault whole h.kind).line)
+    module _ (is_whole : IsWholeKind piece.kind) where
+      whole : (kind_encoding piece.kind ≡ true)
+          × (kind_header piece.kind + kind_contents piece.kind ≤ length h.left)
+      whole = IsWhole-kind h.left piece.offset piece.kind piece.fault is_whole h.kind
 
--- how far a walk went on inside an element that stands so deep
+      -- a whole element of definite length is what its line says
+      pub IsElementAt-sized :
+          (block contents : List ℕ) → kind_indefinite piece.kind ≡ false →
+          block
+          ≡ slice_range octets piece.offset (piece.offset + (kind_header piece.kind + kind_contents piece.kind)) →
+          contents
+          ≡ slice_range octets (piece.offset + kind_header piece.kind)
+          (piece.offset + (kind_header piece.kind + kind_contents piece.kind)) →
+          IsElementAt octets piece.offset block contents
+      IsElementAt-sized block contents definite octets_are contents_are =
+          of_definite_length before (front_of h.levels piece) (length h.left) (HasLineAt-piece whole.0) definite whole.1
+          octets_are contents_are
+
+      module _ (indefinite : kind_indefinite piece.kind ≡ true) where
+        -- an element of the indefinite form ends where the walk comes to its end
+        pub IsElementAt-ended :
+            (block contents : List ℕ) (end : ℕ) → EndsAt walk piece.place.depth end →
+            block ≡ slice_range octets piece.offset (end + 2) →
+            contents ≡ slice_range octets (piece.offset + kind_header piece.kind) end →
+            IsElementAt octets piece.offset block contents
+        IsElementAt-ended block contents end ends octets_are contents_are =
+            let f = front_of h.levels piece in
+            let (inside, last, begin, are, is_end, depth, at) =
+            ends octets (before ++ f ∷ []) h.levels h.passed h.depth in
+            of_indefinite_form before f (length h.left) inside last (HasLineAt-piece whole.0) indefinite begin are
+            is_end depth (octets_are ∙ ap (λ z. slice_range octets piece.offset (z + 2)) (sym at))
+            (contents_are ∙ ap (slice_range octets (piece.offset + kind_header piece.kind)) (sym at))
+
+        -- it is cut short where the walk comes to no end
+        pub HasNoElementAt-without_end : HasNoEnd walk piece.place.depth → HasNoElementAt octets piece.offset CutShort
+        HasNoElementAt-without_end none =
+            let f = front_of h.levels piece in
+            let (inside, are, up_to) = none octets (before ++ f ∷ []) h.levels h.passed h.depth in
+            without_end before f (length h.left) inside refl (HasLineAt-piece whole.0) indefinite are up_to
+
+-- only the end of an element has the line of its end
+IsNoEnd-kind :
+    (offset levels depth : ℕ) (rules : List Rule) (spare : Bool) (kind : PieceKind) →
+    (kind ≡ EndOfContents 2 → levels ≡ suc depth → ⊥) → IsEndLine 2 (kind_front offset levels rules spare kind) →
+    levels ≡ suc depth → ⊥
+IsNoEnd-kind offset levels depth rules spare (EndOfContents size) other (words, two) = other (ap EndOfContents two)
+IsNoEnd-kind offset levels depth rules spare (Unreadable octets) other (words, two) = absurd (omega (arith, two))
+IsNoEnd-kind offset levels depth rules spare (Cut header contents) other (words, two) = absurd (cc words.0)
+IsNoEnd-kind offset levels depth rules spare (Opened header contents joined) other (words, two) =
+    absurd (cc words.0)
+IsNoEnd-kind offset levels depth rules spare (Leaf header contents value) other (words, two) = absurd (cc words.0)
+
+-- how far a walk went on inside an element that stands so deep, and did not come to its end
 pub record WentOn (start walk : Walk) (depth : ℕ) : Type 0 where
   pub same_place : walk.place ≡ start.place
-  pub further : (octets : List ℕ) (fronts : List Front) → HasPassed octets fronts start
-      → (inside : List Front) × HasPassed octets (fronts ++ inside) walk
-      × AllByRecursion (λ front. depth < start.place.depth + front.depth) inside
+  pub further : (octets : List ℕ) (fronts : List Front) (levels : ℕ) → HasPassed octets fronts start
+      → depth ≡ start.place.depth + levels
+      → (inside : List Front) × HasPassed octets (fronts ++ inside) walk × AllByRecursion (IsNoEndOf levels) inside
 
-module _ (start old new : Walk) (depth : ℕ) (piece : Piece) (p : Passes old new piece) (w : WentOn start old depth)
-  where
+module _ (start old : Walk) (depth : ℕ) (w : WentOn start old depth) where
+  -- the element has no end where no lines are left
+  pub HasNoEnd-none : IsAhead old.cursor [] [] → HasNoEnd start depth
+  HasNoEnd-none ended octets fronts levels h is =
+      let (inside, went, are) = w.further octets fronts levels h is in
+      (inside, are, GoUpTo-none octets (fronts ++ inside) old went (λ next. next.depth ≤ levels) ended)
+
+  module _ (new : Walk) (piece : Piece) (p : Passes old new piece) where
     -- a piece that stands so deep in the document stands so deep in the octets
     depth_is : piece.place.depth ≡ start.place.depth + p.levels
     depth_is = p.depth ∙ ap (λ z. z.depth + p.levels) w.same_place
 
-    -- a walk goes on by a piece that stands deeper
-    pub WentOn-next : depth < piece.place.depth → WentOn start new depth
-    WentOn-next deeper = record {
+    -- a walk goes on by a piece inside the element that is not its end
+    pub WentOn-next : IsNext depth piece Deeper → WentOn start new depth
+    WentOn-next (deeper, other) = record {
       same_place = p.same_place ∙ w.same_place;
-      further = λ octets fronts h.
-          let (inside, went, are) = w.further octets fronts h in
+      further = λ octets fronts levels h is.
+          let (inside, went, are) = w.further octets fronts levels h is in
           let f = front_of p.levels piece in (
             inside ++ f ∷ [],
             subst (λ z. HasPassed octets z new) (append_assoc fronts inside (f ∷ []))
-                (HasPassed-next octets (fronts ++ inside) old new piece p went),
-            AllByRecursion-one_more _ inside f are (omega (arith, deeper, depth_is)),
+                (HasPassed-next octets (fronts ++ inside) old went new piece p),
+            AllByRecursion-one_more (IsNoEndOf levels) inside f are (
+              omega (arith, deeper, depth_is, is),
+              IsNoEnd-kind piece.offset p.levels levels piece.breaches.rules.items piece.breaches.has_spare_bits
+                  piece.kind (λ two next. other two (omega (arith, depth_is, is, next))),
+            ),
           );
     }
 
+    -- the lines inside the element and that of the piece behind them begin the lines
+    BeginWith-behind :
+        (octets : List ℕ) (fronts inside : List Front) → HasPassed octets (fronts ++ inside) old →
+        BeginWith octets (fronts ++ (inside ++ front_of p.levels piece ∷ []))
+    BeginWith-behind octets fronts inside went =
+        subst (BeginWith octets) (append_assoc fronts inside (front_of p.levels piece ∷ []))
+        (BeginWith-next octets (fronts ++ inside) old went new piece p)
+
     -- it ends at the end-of-contents octets of the element
-    pub EndsAt-piece :
-        piece.kind ≡ EndOfContents 2 → piece.place.depth ≡ suc depth → EndsAt start depth piece.offset
-    EndsAt-piece kind deep octets fronts h =
-        let (inside, went, are) = w.further octets fronts h in
-        let f = front_of p.levels piece in
-        let next = HasPassed-next octets (fronts ++ inside) old new piece p went in
-        let last : HasPassed octets (fronts ++ (inside ++ f ∷ [])) new =
-        subst (λ z. HasPassed octets z new) (append_assoc fronts inside (f ∷ [])) next in (
+    pub EndsAt-next : (offset : ℕ) → IsNext depth piece (Ended offset) → EndsAt start depth offset
+    EndsAt-next offset (kind, deep, at) octets fronts levels h is =
+        let (inside, went, are) = w.further octets fronts levels h is in (
           inside,
-          f,
-          BeginWith-passed octets _ new last,
+          front_of p.levels piece,
+          BeginWith-behind octets fronts inside went,
           are,
-          (ap kind_type_name kind, ap kind_header kind),
-          omega (arith, deep, depth_is),
-          refl,
+          ((ap kind_encoding kind, ap kind_type_name kind), ap kind_header kind),
+          omega (arith, deep, depth_is, is),
+          sym at,
+        )
+
+    -- the element has no end where the next piece stands behind it
+    pub HasNoEnd-behind : IsNext depth piece Behind → HasNoEnd start depth
+    HasNoEnd-behind behind octets fronts levels h is =
+        let (inside, went, are) = w.further octets fronts levels h is in (
+          inside,
+          are,
+          inr (
+            front_of p.levels piece,
+            BeginWith-next octets (fronts ++ inside) old went new piece p,
+            omega (arith, behind, depth_is, is),
+          ),
         )

@@ -108,12 +108,6 @@ to_go-left_le m n o g left =
       length-reverse m.ends.items,
     )
 
--- a step leaves the octets of a cursor as they are
-pub octets-step : (m n : Cursor) (step : Step) → Goes step m n → n.octets.now ≡ m.octets.now
-octets-step m n (Into header size indefinite) (o, g, e) = o
-octets-step m n (Past size) (o, g, e) = o
-octets-step m n (Out size) (o, g, e) = o
-
 -- the depth of a cursor is how many contents octets are open around the innermost
 pub length-ends : (m : Cursor) (left : Left) (at : IsLeftOf m left) → length m.ends.items - 1 ≡ length at.around
 length-ends m left at =

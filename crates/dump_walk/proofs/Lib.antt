@@ -1,4 +1,3 @@
-pub mod FieldPaths
 pub mod Pieces
 pub mod Breach
 pub mod Walks

@@ -10,7 +10,7 @@ use Rattle.asn1_headers.specs.Front.{BeginsWithHeader, HasIndefiniteForm, IsAtFr
 use Rattle.asn1_headers.specs.Header.{Encoding, IsLength}
 use Rattle.asn1_headers.specs.declared.whole_header.Header.{Header}
 use Rattle.asn1_headers.specs.declared.header.ASN1Class.{ASN1Class}
-use Rattle.dump_walk.specs.Fronts.{HasMeaning, IsFirst, IsJudged, Meaning, cut_short, of_cut, of_stray_form, of_whole, with_encodings, with_no_value, with_value, Front}
+use Rattle.dump_walk.specs.Fronts.{AreRules, HasMeaning, IsFirst, IsJudged, Meaning, cut_short, of_cut, of_stray_form, of_whole, with_encodings, with_no_value, with_value, Front}
 use Rattle.dump_walk.specs.Ends.{taken}
 use Rattle.asn1_headers.specs.Indefinite.{begins_with_end}
 use Rattle.dump_walk.specs.Headers.{is_stray_form}
@@ -21,7 +21,7 @@ use Rattle.asn1_headers.specs.declared.header.ASN1Class.TheVariants.{Universal}
 use Rattle.dump_values.specs.Faults.{IsFault, IsNamed}
 use Rattle.dump_values.specs.Values.{IsMeaning, IsValue}
 use Rattle.dump_walk.specs.Pieces.{IsFirstPiece, IsLeafMeaning, IsNameless, IsOpenedFault, IsPiece, fault_offset, front_of, meaning_of}
-use Rattle.dump_walk.specs.PieceSteps.{AreFirstRules, AreRulesFound, StartsNext, StartsWith, header_front}
+use Rattle.dump_walk.specs.PieceSteps.{AreRulesFound, StartsNext, StartsWith, header_front}
 use Rattle.dump_walk.specs.Steps.{IsTaken}
 use Rattle.dump_walk.specs.declared.cursor.Left.{Left}
 use Rattle.dump_walk.specs.declared.cursor.Step.{Step}
@@ -73,55 +73,56 @@ pub fault_offset-nameless : (offset : ℕ) (fault : Option Fault) → IsFault (I
     fault_offset fault ≡ offset ∷ []
 fault_offset-nameless offset fault = fault_offset-at (IsNameless offset) offset fault (λ f is. is.0)
 
--- the faults are what is wrong with the encoding with the header that begins the octets
-abbrev pub IsJudgedAs :
-    (left : List ℕ) → ℕ → ℕ → List Rule → Bool → Option Meaning → (header : Header) → IsAtFront left header → List ℕ →
-    Type 0
-IsJudgedAs left offset depth rules spare meaning header h faults =
-    IsJudged left (header_front offset depth rules spare meaning header) header.class header.constructed header.tag
-    (is_stray_form header.constructed (drop (length h.identifier) left)) faults
+-- what is known of the line of an encoding with the header that begins the octets: what is wrong with it, which rules
+-- it breaks, and its meaning
+pub record IsRead (left : List ℕ) (front : Front) (header : Header) (h : IsAtFront left header) (faults : List ℕ)
+    : Type 0 where
+  pub judged :
+      IsJudged left front header.class header.constructed header.tag (is_stray_form header.constructed h.len) faults
+  pub broken : AreRules left h.identifier h.len header.size header.announced header.class header.constructed header.tag
+      front.rules
+  pub list : front.has_spare_bits ≡ true → EndsWithZero (slice_range left header.size (header.size + header.announced))
+  pub means : HasMeaning left front header.class header.constructed header.tag faults
 
--- the octets have the meaning
-abbrev pub HasMeaningAs : List ℕ → ℕ → ℕ → List Rule → Bool → Option Meaning → Header → List ℕ → Type 0
-HasMeaningAs left offset depth rules spare meaning header faults =
-    HasMeaning left (header_front offset depth rules spare meaning header) header.class header.constructed header.tag
-    faults
-
--- where the encoding is marked as a list of named bits, it is a BIT STRING with a 0 at its end
-abbrev pub IsListAs : List ℕ → Bool → Header → Type 0
-IsListAs left spare header =
-    spare ≡ true → EndsWithZero (slice_range left header.size (header.size + header.announced))
-
--- no encoding is marked that breaks no rule
-IsListAs-none : (left : List ℕ) (spare : Bool) (header : Header) → spare ≡ false → IsListAs left spare header
-IsListAs-none left spare header none is = absurd (false≢true (sym none ∙ is))
-
--- a header at the front, with what is wrong, the meaning and the broken rules of its encoding, is an encoding that
--- begins the octets
-IsFirst-begins :
+-- a line of which this is known is that of an encoding that begins the octets
+IsFirst-read :
     (left : List ℕ) (offset depth : ℕ) (rules : List Rule) (spare : Bool) (meaning : Option Meaning)
     (header : Header) (opened : Bool) (faults : List ℕ) (h : IsAtFront left header) →
-    opened ≡ is_gone_into header.class header.constructed header.tag →
     IsTrue header.is_indefinite ↔ HasIndefiniteForm left →
-    IsJudgedAs left offset depth rules spare meaning header h faults →
-    HasMeaningAs left offset depth rules spare meaning header faults → AreFirstRules left header rules →
-    IsListAs left spare header →
+    IsRead left (header_front offset depth rules spare meaning header) header h faults →
+    opened ≡ is_gone_into header.class header.constructed header.tag →
     IsFirst left offset depth (header_front offset depth rules spare meaning header) opened faults
-IsFirst-begins left offset depth rules spare meaning header opened faults h o form judged means m list = record {
+IsFirst-read left offset depth rules spare meaning header opened faults h form read o = record {
   class = header.class;
   constructed = header.constructed;
   tag = header.tag;
   header = h;
   offset_is = refl;
   depth_is = refl;
+  encoding_is = refl;
   type_name_is = refl;
   opened_is = o;
   form = form;
-  judged = judged;
-  rules = m h;
-  list = list;
-  meaning = means;
+  judged = read.judged;
+  rules = read.broken;
+  list = read.list;
+  meaning = read.means;
 }
+
+-- what begins the octets is an encoding with this line
+pub StartsWith-read :
+    (left : List ℕ) (offset depth : ℕ) (rules : List Rule) (spare : Bool) (meaning : Option Meaning) (header : Header)
+    (size : ℕ) (step : Step) (faults : List ℕ) (h : IsAtFront left header) →
+    IsTrue header.is_indefinite ↔ HasIndefiniteForm left →
+    IsRead left (header_front offset depth rules spare meaning header) header h faults → IsTaken header size step →
+    size ≡ taken header.is_indefinite (header.size + header.announced) (length left) →
+    StartsWith left offset depth (header_front offset depth rules spare meaning header) step faults
+StartsWith-read left offset depth rules spare meaning header size (Into first all indefinite) faults h form read
+    (o, p, q, i) is =
+    (p, q ∙ is, i, IsFirst-read left offset depth rules spare meaning header true faults h form read (sym o))
+StartsWith-read left offset depth rules spare meaning header size (Past all) faults h form read (o, q) is =
+    inl (q ∙ is, IsFirst-read left offset depth rules spare meaning header false faults h form read (sym o))
+StartsWith-read left offset depth rules spare meaning header size (Out all) faults h form read none is = absurd none
 
 -- a list of the offset of one fault is not empty
 one_fault-not_empty : (faults : List ℕ) (offset : ℕ) → faults ≡ offset ∷ [] → 0 < length faults
@@ -134,50 +135,20 @@ taken-cut false n there less = omega (arith, less)
 
 -- what begins the octets is an encoding that is cut short
 pub StartsWith-cut :
-    (left : List ℕ) (offset depth : ℕ) (spare : Bool) (header : Header) (step : Step) (faults : List ℕ) →
-    spare ≡ false → IsAtFront left header →
-    length left < header.size + header.announced → IsTrue header.is_indefinite ↔ HasIndefiniteForm left →
-    IsTaken header (length left) step → faults ≡ offset ∷ [] →
-    StartsWith left offset depth (header_front offset depth [] spare None header) step faults
-StartsWith-cut left offset depth spare header (Into first all indefinite) faults none h l form (o, p, q, i) e = (
-  p,
-  q ∙ taken-cut header.is_indefinite (header.size + header.announced) (length left) l,
-  i,
-  IsFirst-begins left offset depth [] spare None header true faults h (sym o) form (cut_short l e)
-      (inr (one_fault-not_empty faults offset e)) (λ f. of_cut l refl) (IsListAs-none left spare header none),
-)
-StartsWith-cut left offset depth spare header (Past all) faults none h l form (o, q) e =
-    inl (
-      q ∙ taken-cut header.is_indefinite (header.size + header.announced) (length left) l,
-      IsFirst-begins left offset depth [] spare None header false faults h (sym o) form (cut_short l e)
-          (inr (one_fault-not_empty faults offset e)) (λ f. of_cut l refl) (IsListAs-none left spare header none),
-    )
-StartsWith-cut left offset depth spare header (Out all) faults none h l form no_step e = absurd no_step
-
--- an encoding that is whole
-pub StartsWith-whole :
-    (left : List ℕ) (offset depth : ℕ) (rules : List Rule) (spare : Bool) (meaning : Option Meaning) (header : Header)
-    (size : ℕ) (step : Step) (faults : List ℕ) (h : IsAtFront left header) →
-    IsTrue header.is_indefinite ↔ HasIndefiniteForm left →
-    IsJudgedAs left offset depth rules spare meaning header h faults →
-    HasMeaningAs left offset depth rules spare meaning header faults → AreFirstRules left header rules →
-    IsListAs left spare header →
-    IsTaken header size step → size ≡ taken header.is_indefinite (header.size + header.announced) (length left) →
-    StartsWith left offset depth (header_front offset depth rules spare meaning header) step faults
-StartsWith-whole left offset depth rules spare meaning header size (Into first all indefinite) faults h form judged
-    means m list (o, p, q, i) is = (
-      p,
-      q ∙ is,
-      i,
-      IsFirst-begins left offset depth rules spare meaning header true faults h (sym o) form judged means m list,
-    )
-StartsWith-whole left offset depth rules spare meaning header size (Past all) faults h form judged means m list (o, q)
-    is = inl (
-      q ∙ is,
-      IsFirst-begins left offset depth rules spare meaning header false faults h (sym o) form judged means m list,
-    )
-StartsWith-whole left offset depth rules spare meaning header size (Out all) faults h form judged means m list none is =
-    absurd none
+    (left : List ℕ) (offset depth : ℕ) (rules : List Rule) (spare : Bool) (header : Header) (step : Step)
+    (faults : List ℕ) (h : IsAtFront left header) → IsTrue header.is_indefinite ↔ HasIndefiniteForm left →
+    rules ≡ [] → spare ≡ false → length left < header.size + header.announced → IsTaken header (length left) step →
+    faults ≡ offset ∷ [] →
+    StartsWith left offset depth (header_front offset depth rules spare None header) step faults
+StartsWith-cut left offset depth rules spare header step faults h form no_rules no_spare cut taken_is e =
+    let read : IsRead left (header_front offset depth rules spare None header) header h faults = record {
+      judged = cut_short cut e;
+      broken = of_cut cut no_rules;
+      list = λ is. absurd (false≢true (sym no_spare ∙ is));
+      means = inr (one_fault-not_empty faults offset e);
+    } in
+    StartsWith-read left offset depth rules spare None header (length left) step faults h form read taken_is
+    (taken-cut header.is_indefinite (header.size + header.announced) (length left) cut)
 
 -- a header with all contents octets that it announces is an encoding at the front of the octets
 pub Encoding-front :
@@ -200,70 +171,67 @@ Encoding-front left contents s n c k t h l e =
       size = size-length_header left s n c k t h;
     }
 
--- what was found to be wrong with an encoding that is gone into is wrong with it
-pub IsJudgedAs-opened :
+-- what is known of a whole encoding that is gone into
+pub IsRead-opened :
     (left : List ℕ) (offset depth : ℕ) (rules : List Rule) (spare : Bool) (header : Header) (fault : Option Fault)
     (h : IsAtFront left header) → header.size + header.announced ≤ length left →
-    is_gone_into header.class header.constructed header.tag ≡ true →
-    IsOpenedFault (is_stray_form header.constructed (drop (length h.identifier) left)) offset fault →
-    IsJudgedAs left offset depth rules spare None header h (fault_offset fault)
-IsJudgedAs-opened left offset depth rules spare header fault h l o (inl (stray, is)) =
-    of_stray_form stray (fault_offset-nameless offset fault is)
-IsJudgedAs-opened left offset depth rules spare header fault h l o (inr (stray, none)) =
-    with_encodings l o stray (ap fault_offset none)
+    is_gone_into header.class header.constructed header.tag ≡ true → AreRulesFound left header rules →
+    (spare ≡ true → EndsWithZero (slice_range left header.size (header.size + header.announced))) →
+    IsOpenedFault (is_stray_form header.constructed h.len) offset fault →
+    IsRead left (header_front offset depth rules spare None header) header h (fault_offset fault)
+IsRead-opened left offset depth rules spare header fault h whole opened found list (inl (stray, is)) = record {
+  judged = of_stray_form stray (fault_offset-nameless offset fault is);
+  broken = of_whole whole (found h);
+  list = list;
+  means = inl opened;
+}
+IsRead-opened left offset depth rules spare header fault h whole opened found list (inr (stray, none)) = record {
+  judged = with_encodings whole opened stray (ap fault_offset none);
+  broken = of_whole whole (found h);
+  list = list;
+  means = inl opened;
+}
 
--- what was found in contents octets judges a whole encoding that is not gone into and not of a stray form
-IsJudgedAs-meaning :
-    (left : List ℕ) (offset depth : ℕ) (rules : List Rule) (spare : Bool) (meaning : Option Meaning) (header : Header)
-    (value : Option LeafValue) (fault : Option Fault) (h : IsAtFront left header) →
-    header.size + header.announced ≤ length left →
-    is_gone_into header.class header.constructed header.tag ≡ false →
-    is_stray_form header.constructed (drop (length h.identifier) left) ≡ false →
-    IsMeaning header.class header.tag (slice_range left header.size (header.size + header.announced)) offset value
-    fault →
-    IsJudgedAs left offset depth rules spare meaning header h (fault_offset fault)
-IsJudgedAs-meaning left offset depth rules spare meaning header None fault h l o stray (u, (found, wrong, is)) =
-    with_no_value l o u found wrong (fault_offset-named offset found fault is)
-IsJudgedAs-meaning left offset depth rules spare meaning header (Some value) fault h l o stray (is, none) =
-    let contents = slice_range left header.size (header.size + header.announced) in
-    with_value l o stray
-    (HasValue-encodes (take (header.size + header.announced) left) contents header.class header.constructed header.tag
-    header.size value o
-    (Encoding-front left contents header.size header.announced header.class header.constructed header.tag h l refl) is)
-    (ap fault_offset none)
-
--- what is wrong with an encoding that is not gone into
-pub IsJudgedAs-leaf :
-    (left : List ℕ) (offset depth : ℕ) (rules : List Rule) (spare : Bool) (meaning : Option Meaning) (header : Header)
-    (value : Option LeafValue) (fault : Option Fault) (h : IsAtFront left header) →
-    header.size + header.announced ≤ length left →
-    is_gone_into header.class header.constructed header.tag ≡ false →
-    IsLeafMeaning left header (drop (length h.identifier) left) offset value fault →
-    IsJudgedAs left offset depth rules spare meaning header h (fault_offset fault)
-IsJudgedAs-leaf left offset depth rules spare meaning header value fault h l o (inl (stray, none, is)) =
-    of_stray_form stray (fault_offset-nameless offset fault is)
-IsJudgedAs-leaf left offset depth rules spare meaning header value fault h l o (inr (stray, is)) =
-    IsJudgedAs-meaning left offset depth rules spare meaning header value fault h l o stray is
-
--- the meaning of an encoding that is not gone into
-pub HasMeaningAs-leaf :
+-- what is wrong with a whole encoding that is not gone into, and its meaning
+IsJudged-leaf :
     (left : List ℕ) (offset depth : ℕ) (rules : List Rule) (spare : Bool) (header : Header) (value : Option LeafValue)
-    (fault : Option Fault) (behind : List ℕ) → IsLeafMeaning left header behind offset value fault →
-    HasMeaningAs left offset depth rules spare
-    (meaning_of (slice_range left header.size (header.size + header.announced)) value) header (fault_offset fault)
-HasMeaningAs-leaf left offset depth rules spare header None fault behind (inl (stray, none, is)) =
-    inr (one_fault-not_empty (fault_offset fault) offset (fault_offset-nameless offset fault is))
-HasMeaningAs-leaf left offset depth rules spare header None fault behind (inr (stray, (u, (found, wrong, is)))) =
-    inr (one_fault-not_empty (fault_offset fault) offset (fault_offset-named offset found fault is))
-HasMeaningAs-leaf left offset depth rules spare header (Some value) fault behind (inl (stray, none, is)) =
+    (fault : Option Fault) (h : IsAtFront left header) → header.size + header.announced ≤ length left →
+    is_gone_into header.class header.constructed header.tag ≡ false →
+    IsLeafMeaning left header h.len offset value fault →
+    let front = header_front offset depth rules spare
+    (meaning_of (slice_range left header.size (header.size + header.announced)) value) header in
+    IsJudged left front header.class header.constructed header.tag (is_stray_form header.constructed h.len)
+    (fault_offset fault)
+    × HasMeaning left front header.class header.constructed header.tag (fault_offset fault)
+IsJudged-leaf left offset depth rules spare header None fault h whole closed (inl (stray, none, is)) =
+    let e = fault_offset-nameless offset fault is in
+    (of_stray_form stray e, inr (one_fault-not_empty (fault_offset fault) offset e))
+IsJudged-leaf left offset depth rules spare header None fault h whole closed (inr (stray, (u, (found, wrong, is)))) =
+    let e = fault_offset-named offset found fault is in
+    (with_no_value whole closed u found wrong e, inr (one_fault-not_empty (fault_offset fault) offset e))
+IsJudged-leaf left offset depth rules spare header (Some value) fault h whole closed (inl (stray, none, is)) =
     absurd (cc none)
-HasMeaningAs-leaf left offset depth rules spare header (Some value) fault behind (inr (stray, (is, none))) = (refl, is)
+IsJudged-leaf left offset depth rules spare header (Some value) fault h whole closed (inr (stray, (is, none))) =
+    let contents = slice_range left header.size (header.size + header.announced) in
+    let encodes = HasValue-encodes (take (header.size + header.announced) left) contents header.class header.constructed
+    header.tag header.size value closed
+    (Encoding-front left contents header.size header.announced header.class header.constructed header.tag h whole refl)
+    is in
+    (with_value whole closed stray encodes (ap fault_offset none), (refl, is))
 
--- the rules that were found for a whole encoding are those that it breaks
-pub AreFirstRules-whole :
-    (left : List ℕ) (header : Header) (rules : List Rule) → header.size + header.announced ≤ length left →
-    AreRulesFound left header rules → AreFirstRules left header rules
-AreFirstRules-whole left header rules whole found front = of_whole whole (found front)
+-- what is known of a whole encoding that is not gone into
+pub IsRead-leaf :
+    (left : List ℕ) (offset depth : ℕ) (rules : List Rule) (spare : Bool) (header : Header) (value : Option LeafValue)
+    (fault : Option Fault) (h : IsAtFront left header) → header.size + header.announced ≤ length left →
+    is_gone_into header.class header.constructed header.tag ≡ false → AreRulesFound left header rules →
+    (spare ≡ true → EndsWithZero (slice_range left header.size (header.size + header.announced))) →
+    IsLeafMeaning left header h.len offset value fault →
+    IsRead left (header_front offset depth rules spare
+    (meaning_of (slice_range left header.size (header.size + header.announced)) value) header) header h
+    (fault_offset fault)
+IsRead-leaf left offset depth rules spare header value fault h whole closed found list is =
+    let (judged, means) = IsJudged-leaf left offset depth rules spare header value fault h whole closed is in
+    record { judged = judged; broken = of_whole whole (found h); list = list; means = means }
 
 -- the value of joined segments is the value of the string
 pub IsValue-joined :

@@ -1,8 +1,7 @@
 -- Octets that stand in others.
-use Rattle.std.proofs.Common.{◌≡◌, ℕ, zero, suc, ◌+◌, ◌-◌, ◌<◌, ◌≤◌, min, List, [], ◌∷◌, ◌++◌, drop, length, slice_range, refl, sym, ap, ◌∙◌, append_assoc, arith}
-use Rattle.std.proofs.lemmas.List.{drop-drop, length-append, length-drop, length-take}
-use Rattle.dump_walk.specs.Fronts.{StandAt}
-use Rattle.dump_walk.proofs.Walks.{StandAt-left}
+use Rattle.std.proofs.Common.{◌≡◌, inl, inr, ℕ, zero, suc, ◌+◌, ◌-◌, ◌≤◌, min, List, [], ◌∷◌, ◌++◌, drop, length, slice_range, take, refl, sym, ap, ◌∙◌, append-nil, append_assoc, arith}
+use Rattle.std.proofs.lemmas.List.{drop-drop, drop-take, length-take, take-take}
+use Rattle.dump_walk.specs.Fronts.{HoldsBehind, StandAt}
 
 -- what is left of joined octets is what is left of the first, and more
 drop-append : (n : ℕ) (xs ys : List ℕ) → (zs : List ℕ) × (drop n (xs ++ ys) ≡ drop n xs ++ zs)
@@ -20,22 +19,30 @@ StandAt-inside octets part inner m n (rest, p) (after, q) =
           ∙ (ap (drop n) p ∙ (r ∙ (ap (λ z. z ++ zs) q ∙ append_assoc inner after zs))),
     )
 
--- octets that stand in others end no later than these, if there are some
-pub StandAt-bound : (octets part : List ℕ) (n : ℕ) → StandAt octets n part → 0 < length part →
-    n + length part ≤ length octets
-StandAt-bound octets part n (rest, is) some =
-    let l : length octets - n ≡ length part + length rest =
-    sym (length-drop n octets) ∙ (ap length is ∙ length-append part rest) in
-    omega (arith, l, some)
+-- a slice of what stands in octets between two offsets is a slice of the octets
+pub slice_range-inside :
+    (octets : List ℕ) (offset end first size : ℕ) → first + size ≤ length (slice_range octets offset end) →
+    slice_range (slice_range octets offset end) first (first + size)
+    ≡ slice_range octets (offset + first) (offset + (first + size))
+slice_range-inside octets offset end first size within =
+    let rest = drop offset octets in
+    let l : length (slice_range octets offset end) ≡ min (end - offset) (length rest) =
+    length-take (end - offset) rest in
+    let m = end - offset - first in
+    let room : end - offset ≡ first + m = omega (arith, within, l) in
+    let count : first + size - first ≡ size = omega arith in
+    let count' : size ≡ offset + (first + size) - (offset + first) = omega arith in
+    ap (λ z. take z (drop first (take (end - offset) rest))) count
+    ∙ (ap (λ z. take size (drop first (take z rest))) room
+    ∙ (ap (take size) (drop-take first m rest)
+    ∙ (take-take size m (drop first rest) (omega (arith, within, l))
+    ∙ (ap (take size) (drop-drop first offset octets)
+    ∙ ap (λ z. take z (drop (offset + first) octets)) count'))))
 
--- octets in some of others, which begin at an offset of these, stand in these, and end no later than those
-pub StandAt-slice : (octets inner : List ℕ) (first size n : ℕ) →
-    StandAt (slice_range octets first (first + size)) n inner → 0 < length inner →
-    StandAt octets (first + n) inner × (n + length inner ≤ size)
-StandAt-slice octets inner first size n at some =
-    let slice = slice_range octets first (first + size) in
-    let l : length slice ≡ min (first + size - first) (length (drop first octets)) =
-    length-take (first + size - first) (drop first octets) in (
-      StandAt-inside octets slice inner first n (StandAt-left octets slice first (first + size) refl) at,
-      omega (arith, StandAt-bound slice inner n at some, l),
-    )
+-- the octets of a string stand in the contents octets that hold them
+pub StandAt-behind : (name contents string : List ℕ) (skipped : ℕ) → HoldsBehind name contents skipped string →
+    StandAt contents skipped string
+StandAt-behind name contents string skipped (inl (name_is, none, same)) =
+    ([], ap (λ z. drop z contents) none ∙ (same ∙ sym (append-nil string)))
+StandAt-behind name contents string skipped (inr (name_is, one, same)) =
+    ([], ap (λ z. drop z contents) one ∙ (ap (drop 1) same ∙ sym (append-nil string)))

@@ -25,6 +25,16 @@ AreFronts-ahead n octets offset ends fronts faults p q r h =
     (subst (λ z. AreFronts n.octets.now z ends fronts faults) q
     (subst (λ z. AreFronts n.octets.now n.offset z fronts faults) r h))
 
+-- what stands in octets at the offset of a cursor in them, with its ends, is what the cursor has yet to come to
+pub AreFronts-here :
+    (m k : Cursor) (offset : ℕ) (end : End) (around : List End) (fronts : List Front) (faults : List ℕ) →
+    m.octets.now ≡ k.octets.now → offset ≡ m.offset → ends_of m ≡ end ∷ around →
+    AreFronts k.octets.now offset (end ∷ around) fronts faults → IsAhead m fronts faults
+AreFronts-here m k offset end around fronts faults p q r h =
+    subst (λ z. AreFronts m.octets.now m.offset z fronts faults) (sym r)
+    (subst (λ z. AreFronts m.octets.now z (end ∷ around) fronts faults) q
+    (subst (λ z. AreFronts z offset (end ∷ around) fronts faults) (sym p) h))
+
 -- ends at equal offsets and of equal forms, before the same others, are equal
 cons-end_at :
     (a b : ℕ) (i j : Bool) (ends : List End) → a ≡ b → i ≡ j → end_at a i ∷ ends ≡ end_at b j ∷ ends

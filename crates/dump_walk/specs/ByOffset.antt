@@ -1,48 +1,67 @@
 -- Elements by the offsets of their lines: octets have one for each encoding, and a string may hold octets that do, too.
 use Rattle.std.specs.Prelude.{◌≡◌, ◌≢◌, ◌⊎◌, ℕ, suc, ◌+◌, ◌<◌, ◌≤◌, true, false, List, [], ◌∷◌, ◌++◌, codes, length, slice_range, Result, Ok, Err}
 use Rattle.std.specs.List.{AllByRecursion}
-use Rattle.asn1_headers.specs.declared.header.ASN1Class.{ASN1Class}
-use Rattle.dump_walk.specs.Fronts.{AreFronts, AreFrontsOf, Front, StandAt, tag_name}
+use Rattle.dump_walk.specs.Fronts.{AreFronts, AreFrontsOf, Front, HoldsBehind}
 use Rattle.dump_walk.specs.declared.block.Block.{Block}
 use Rattle.dump_walk.specs.declared.block.NoBlock.{NoBlock}
 use Rattle.dump_walk.specs.declared.block.NoBlock.TheVariants.{CutShort, EndOfContents, Nothing, Unreadable}
 use Rattle.dump_walk.specs.declared.cursor.End.{End}
 
--- the first lines of octets begin with these; others may follow
-pub record BeginWith (octets : List ℕ) (fronts : List Front) : Type 0 where
+-- the lines of octets begin with these, and those of what stands from the offset on follow them, where contents octets
+-- that end so are open, the innermost first
+pub record ComeTo (octets : List ℕ) (fronts : List Front) (offset : ℕ) (ends : List End) : Type 0 where
   pub faults : List ℕ
-  pub offset : ℕ
-  pub ends : List End
   pub follow : (later : List Front) (more : List ℕ) → AreFronts octets offset ends later more
       → AreFrontsOf octets (fronts ++ later) (faults ++ more)
 
--- a line is that of an encoding: its words are those of a tag
-abbrev pub IsEncodingLine : Front → Type 0
-IsEncodingLine front = (class : ASN1Class) × (tag : ℕ) × (front.type_name ≡ tag_name class tag)
+-- the lines of octets begin with these; others may follow
+abbrev pub BeginWith : List ℕ → List Front → Type 0
+BeginWith octets fronts = (offset : ℕ) × (ends : List End) × ComeTo octets fronts offset ends
+
+-- the lines of octets are these; or begin with these, and the next is such a one
+abbrev pub GoUpTo : List ℕ → List Front → (Front → Type 0) → Type 0
+GoUpTo octets fronts Is =
+    ((faults : List ℕ) × AreFrontsOf octets fronts faults)
+    ⊎ ((next : Front) × BeginWith octets (fronts ++ next ∷ []) × Is next)
+
+-- a line is of something else than an encoding, with these words
+abbrev pub IsOther : List ℕ → Front → Type 0
+IsOther words front = (front.encoding ≡ false) × (front.type_name ≡ words)
 
 -- a line is that of so many end-of-contents octets
 abbrev pub IsEndLine : ℕ → Front → Type 0
-IsEndLine size front = (front.type_name ≡ codes "end-of-contents") × (front.header ≡ size)
+IsEndLine size front = IsOther (codes "end-of-contents") front × (front.header ≡ size)
 
--- lines stand inside more than so many encodings
-abbrev pub AreDeeper : ℕ → List Front → Type 0
-AreDeeper depth = AllByRecursion (λ front. depth < front.depth)
+-- a line stands inside an element that stands so deep, and is not that of the end-of-contents octets of this
+abbrev pub IsNoEndOf : ℕ → Front → Type 0
+IsNoEndOf depth front = (depth < front.depth) × (IsEndLine 2 front → front.depth ≡ suc depth → ⊥)
+
+-- behind these lines stands that of an encoding, at the offset. So many octets are left from there to the end of the
+-- contents octets around it, or of all octets
+pub record HasLineAt (octets : List ℕ) (offset : ℕ) (before : List Front) (front : Front) (left : ℕ) : Type 0 where
+  pub end : End
+  pub around : List End
+  pub come : ComeTo octets before offset (end ∷ around)
+  pub begin : BeginWith octets (before ++ front ∷ [])
+  pub offset_is : front.offset ≡ offset
+  pub encoding : front.encoding ≡ true
+  pub left_is : left ≡ length (slice_range octets offset end.offset)
 
 -- the element whose line stands at the offset, and its contents octets: those that its header announces; or of the
 -- indefinite form those before the end-of-contents octets whose line is the last of those inside it
 pub data IsElementAt (octets : List ℕ) (offset : ℕ) (block contents : List ℕ) : Type 0 where
   of_definite_length :
-      (before : List Front) (front : Front) →
-      BeginWith octets (before ++ front ∷ []) → front.offset ≡ offset → IsEncodingLine front →
-      front.indefinite ≡ false → offset + (front.header + front.contents) ≤ length octets →
+      (before : List Front) (front : Front) (left : ℕ) →
+      HasLineAt octets offset before front left → front.indefinite ≡ false → front.header + front.contents ≤ left →
       block ≡ slice_range octets offset (offset + (front.header + front.contents)) →
       contents ≡ slice_range octets (offset + front.header) (offset + (front.header + front.contents)) →
       IsElementAt octets offset block contents
   of_indefinite_form :
-      (before : List Front) (front : Front) (inside : List Front) (end : Front) →
-      BeginWith octets ((before ++ front ∷ []) ++ (inside ++ end ∷ [])) → front.offset ≡ offset →
-      IsEncodingLine front → front.indefinite ≡ true → AreDeeper front.depth inside → IsEndLine 2 end →
-      end.depth ≡ suc front.depth → block ≡ slice_range octets offset (end.offset + 2) →
+      (before : List Front) (front : Front) (left : ℕ) (inside : List Front) (end : Front) →
+      HasLineAt octets offset before front left → front.indefinite ≡ true →
+      BeginWith octets ((before ++ front ∷ []) ++ (inside ++ end ∷ [])) →
+      AllByRecursion (IsNoEndOf front.depth) inside → IsEndLine 2 end → end.depth ≡ suc front.depth →
+      block ≡ slice_range octets offset (end.offset + 2) →
       contents ≡ slice_range octets (offset + front.header) end.offset →
       IsElementAt octets offset block contents
 
@@ -50,25 +69,33 @@ pub data IsElementAt (octets : List ℕ) (offset : ℕ) (block contents : List �
 abbrev pub IsElsewhere : ℕ → Front → Type 0
 IsElsewhere offset front = (front.offset ≢ offset) ⊎ IsEndLine 0 front
 
--- what the line says that stands where no whole element does
+-- what the line says that stands where no encoding does
 abbrev pub IsLineOf : NoBlock → Front → Type 0
-IsLineOf EndOfContents front = front.type_name ≡ codes "end-of-contents"
-IsLineOf Unreadable front = front.type_name ≡ codes "unreadable"
-IsLineOf CutShort front = IsEncodingLine front
+IsLineOf EndOfContents front = IsOther (codes "end-of-contents") front
+IsLineOf Unreadable front = IsOther (codes "unreadable") front
+IsLineOf CutShort front = ⊥
 IsLineOf Nothing front = ⊥
 
--- no whole element has a line at the offset: all lines stand elsewhere, or those up to one behind it; or the line there
--- is that of something else
+-- no whole element has a line at the offset: all lines stand elsewhere, or those up to one behind it; the line there is
+-- that of something else; or the element there is cut short: more is announced than is left of what is around it, or
+-- none of the lines inside is that of its end
 pub data HasNoElementAt (octets : List ℕ) (offset : ℕ) (why : NoBlock) : Type 0 where
-  all_elsewhere :
-      (fronts : List Front) (faults : List ℕ) → why ≡ Nothing → AreFrontsOf octets fronts faults →
-      AllByRecursion (IsElsewhere offset) fronts → HasNoElementAt octets offset why
-  passed :
-      (before : List Front) (front : Front) → why ≡ Nothing → BeginWith octets (before ++ front ∷ []) →
-      AllByRecursion (IsElsewhere offset) before → offset < front.offset → HasNoElementAt octets offset why
+  no_line :
+      (fronts : List Front) → why ≡ Nothing → AllByRecursion (IsElsewhere offset) fronts →
+      GoUpTo octets fronts (λ next. offset < next.offset) → HasNoElementAt octets offset why
   of_other :
       (before : List Front) (front : Front) → BeginWith octets (before ++ front ∷ []) → front.offset ≡ offset →
       IsLineOf why front → HasNoElementAt octets offset why
+  too_short :
+      (before : List Front) (front : Front) (left : ℕ) → why ≡ CutShort →
+      HasLineAt octets offset before front left → left < front.header + front.contents →
+      HasNoElementAt octets offset why
+  without_end :
+      (before : List Front) (front : Front) (left : ℕ) (inside : List Front) → why ≡ CutShort →
+      HasLineAt octets offset before front left → front.indefinite ≡ true →
+      AllByRecursion (IsNoEndOf front.depth) inside →
+      GoUpTo octets ((before ++ front ∷ []) ++ inside) (λ next. next.depth ≤ front.depth) →
+      HasNoElementAt octets offset why
 
 -- what has lines of its own where the offset stands: the octets, or those of a string in them that has a line; and how
 -- far the offset stands in it
@@ -78,9 +105,12 @@ pub data LeadsTo : List ℕ → ℕ → List ℕ → ℕ → Type 0 where
       others ≡ octets → further ≡ offset → LeadsTo octets offset others further
   inside_string :
       {octets : List ℕ} {offset : ℕ} {others : List ℕ} {further : ℕ} (before : List Front) (front : Front)
-      (start : ℕ) (string : List ℕ) (nearer : ℕ) →
-      BeginWith octets (before ++ front ∷ []) → front.offset + front.header ≤ start → StandAt octets start string →
-      start + length string ≤ front.offset + (front.header + front.contents) → offset ≡ start + nearer →
+      (skipped : ℕ) (string : List ℕ) (nearer : ℕ) →
+      BeginWith octets (before ++ front ∷ []) →
+      HoldsBehind front.type_name
+      (slice_range octets (front.offset + front.header) (front.offset + (front.header + front.contents))) skipped
+      string →
+      offset ≡ front.offset + (front.header + (skipped + nearer)) → nearer < length string →
       LeadsTo string nearer others further → LeadsTo octets offset others further
 
 -- the element whose line stands at the offset of octets, or of those of a string in them

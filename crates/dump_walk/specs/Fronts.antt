@@ -3,6 +3,7 @@
 use Rattle.std.specs.Prelude.{◌↔◌, ◌&&◌, IsTrue, ◌≡◌, ◌⊎◌, ℕ, ◌+◌, ◌^◌, ◌<◌, ◌≤◌, nat_lt, Bool, true, false, if◌then◌else◌, MatchOption, Option, None, Some, unwrap_or, List, [], ◌∷◌, ◌++◌, drop, length, take, slice_range, codes, decimal}
 use Rattle.asn1_headers.specs.Fault.{DecodeFault}
 use Rattle.asn1_headers.specs.declared.header.ASN1Class.{ASN1Class}
+use Rattle.asn1_headers.specs.declared.tags.TheConstants.{BIT_STRING, OCTET_STRING}
 use Rattle.asn1_headers.specs.declared.header.ASN1Class.TheVariants.{Universal, Application, ContextSpecific, Private}
 use Rattle.asn1_blocks.specs.Contents.{LeafFault}
 use Rattle.asn1_blocks.specs.Grammar.{Encodes}
@@ -37,16 +38,18 @@ pub record Meaning : Type 0 where
   pub octets : List ℕ
   pub value : LeafValue
 
--- what the line of an encoding begins with: its offset, the sizes of its header and of the contents octets that it
--- announces, whether its length is of the indefinite form, which announces none, how many encodings are around it, and
--- its tag in words; what its mark says: the rules of DER that it breaks, and whether it is, by a type that is known, a
--- list of named bits with a 0 at its end (X.690 11.2.2); and its contents octets with their value, if they have one
+-- what the line of an encoding, or of something else, begins with: its offset, the sizes of its header and of the
+-- contents octets that it announces, whether its length is of the indefinite form, which announces none, how many
+-- encodings are around it, whether it is an encoding, and its tag in words; what its mark says: the rules of DER that
+-- it breaks, and whether it is, by a type that is known, a list of named bits with a 0 at its end (X.690 11.2.2); and
+-- its contents octets with their value, if they have one
 pub record Front : Type 0 where
   pub offset : ℕ
   pub header : ℕ
   pub contents : ℕ
   pub indefinite : Bool
   pub depth : ℕ
+  pub encoding : Bool
   pub type_name : List ℕ
   pub rules : List Rule
   pub has_spare_bits : Bool
@@ -60,6 +63,7 @@ unreadable offset size depth = record {
   contents = size;
   indefinite = false;
   depth = depth;
+  encoding = false;
   type_name = codes "unreadable";
   rules = [];
   has_spare_bits = false;
@@ -75,6 +79,7 @@ end_of_contents offset size depth = record {
   contents = 0;
   indefinite = false;
   depth = depth;
+  encoding = false;
   type_name = codes "end-of-contents";
   rules = [];
   has_spare_bits = false;
@@ -135,11 +140,12 @@ pub record IsFirst (octets : List ℕ) (offset depth : ℕ) (front : Front) (ope
   pub header : BeginsWithHeader octets front.header front.contents class constructed tag
   pub offset_is : front.offset ≡ offset
   pub depth_is : front.depth ≡ depth
+  pub encoding_is : front.encoding ≡ true
   pub type_name_is : front.type_name ≡ tag_name class tag
   pub opened_is : opened ≡ is_gone_into class constructed tag
   pub form : IsTrue front.indefinite ↔ HasIndefiniteForm octets
   pub judged :
-      IsJudged octets front class constructed tag (is_stray_form constructed (drop (length header.identifier) octets))
+      IsJudged octets front class constructed tag (is_stray_form constructed header.len)
       faults
   pub rules :
       AreRules octets header.identifier header.len front.header front.contents class constructed tag front.rules
@@ -218,3 +224,10 @@ is_too_deep (Some most) depth = nat_lt most depth
 -- octets stand in others, after so many of them
 abbrev pub StandAt : List ℕ → ℕ → List ℕ → Type 0
 StandAt octets before part = (rest : List ℕ) × (drop before octets ≡ part ++ rest)
+
+-- contents octets of an encoding of the type are these octets of a string, behind so many others: behind none in an
+-- OCTET STRING, and in a BIT STRING behind the number of unused bits, which is 0 (X.690 8.6.2, 8.7)
+abbrev pub HoldsBehind : List ℕ → List ℕ → ℕ → List ℕ → Type 0
+HoldsBehind type_name contents skipped string =
+    ((type_name ≡ tag_name Universal OCTET_STRING) × (skipped ≡ 0) × (contents ≡ string))
+    ⊎ ((type_name ≡ tag_name Universal BIT_STRING) × (skipped ≡ 1) × (contents ≡ 0 ∷ string))

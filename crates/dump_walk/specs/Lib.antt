@@ -1,7 +1,5 @@
-pub mod Fields
 pub mod Fronts
 pub mod Marks
-pub mod PieceFields
 pub mod PieceSteps
 pub mod Pieces
 pub mod Texts
@@ -12,4 +10,3 @@ pub mod ByOffsetSteps
 pub mod Segments
 pub mod StringOctets
 pub mod Steps
-pub mod StringSteps

@@ -2,48 +2,15 @@
 use Rattle.std.specs.Prelude.{◌≡◌, Bool, true, false, ℕ, ◌/◌, ◌%◌, ◌^◌, List, [], ◌∷◌, ◌++◌, codes, map}
 use Rattle.asn1_departures.specs.Rules.{section_of, text_of}
 use Rattle.asn1_departures.specs.declared.rule.Rule.{Rule}
-use Rattle.asn1_departures.specs.declared.rule.Rule.TheVariants.{LongIdentifier, PaddedTag, IndefiniteLength, LongLength, ReservedTag, NotConstructed, NotPrimitive, ConstructedString, BooleanSize, BooleanValue, NoInteger, PaddedInteger, SpecialReal, BinaryReal, DecimalReal, UnusedCount, UnusedOfNone, UnusedBits, NullContents, Subidentifiers, Iri, Characters, UtcTime, GeneralizedTime, Time, Order, NotEncodings, External, Identification}
 use Rattle.dump_walk.specs.declared.marks.BrokenRule.{BrokenRule}
 
--- a rule that is broken: its name in a program, the clauses that say it, and what is wrong
+-- a rule that is broken: the clauses that say it, and what is wrong
 pub record Breach : Type 0 where
-  pub name : List ℕ
   pub section : List ℕ
   pub text : List ℕ
 
-abbrev pub name_of : Rule → List ℕ
-name_of LongIdentifier = codes "LongIdentifier"
-name_of PaddedTag = codes "PaddedTag"
-name_of IndefiniteLength = codes "IndefiniteLength"
-name_of LongLength = codes "LongLength"
-name_of ReservedTag = codes "ReservedTag"
-name_of NotConstructed = codes "NotConstructed"
-name_of NotPrimitive = codes "NotPrimitive"
-name_of ConstructedString = codes "ConstructedString"
-name_of BooleanSize = codes "BooleanSize"
-name_of BooleanValue = codes "BooleanValue"
-name_of NoInteger = codes "NoInteger"
-name_of PaddedInteger = codes "PaddedInteger"
-name_of SpecialReal = codes "SpecialReal"
-name_of BinaryReal = codes "BinaryReal"
-name_of DecimalReal = codes "DecimalReal"
-name_of UnusedCount = codes "UnusedCount"
-name_of UnusedOfNone = codes "UnusedOfNone"
-name_of UnusedBits = codes "UnusedBits"
-name_of NullContents = codes "NullContents"
-name_of Subidentifiers = codes "Subidentifiers"
-name_of Iri = codes "Iri"
-name_of Characters = codes "Characters"
-name_of UtcTime = codes "UtcTime"
-name_of GeneralizedTime = codes "GeneralizedTime"
-name_of Time = codes "Time"
-name_of Order = codes "Order"
-name_of NotEncodings = codes "NotEncodings"
-name_of External = codes "External"
-name_of Identification = codes "Identification"
-
 abbrev pub rule_breach : Rule → Breach
-rule_breach rule = record { name = name_of rule; section = section_of rule; text = text_of rule }
+rule_breach rule = record { section = section_of rule; text = text_of rule }
 
 -- contents octets are those of a BIT STRING whose last bit is 0 (8.6.2): the first says how many bits of the last one
 -- are unused
@@ -55,7 +22,6 @@ EndsWithZero contents =
 -- a list of named bits has no 0 at its end (11.2.2). A schema alone tells which BIT STRING is one
 abbrev pub spare_breach : Breach
 spare_breach = record {
-  name = codes "NamedBits";
   section = codes "11.2.2";
   text = codes "named bits that end with 0";
 }
@@ -75,4 +41,4 @@ are_some (x ∷ xs) = true
 
 -- what the struct of a broken rule tells
 abbrev pub breach_of : BrokenRule → Breach
-breach_of rule = record { name = rule.name.now; section = rule.section.now; text = rule.text.now }
+breach_of rule = record { section = rule.section.now; text = rule.text.now }

@@ -1,6 +1,6 @@
 -- How the pieces of octets are gone over, step by step. Private contracts alone name these.
 use Rattle.std.specs.Prelude.{◌≡◌, ◌⊎◌, ◌&&◌, ℕ, ◌+◌, ◌<◌, Bool, true, false, List, [], ◌∷◌, length, slice_range, Option}
-use Rattle.dump_walk.specs.Fronts.{AreFronts, Front, IsFirst, Meaning, AreRules, size_in, tag_name, end_of_contents, unreadable}
+use Rattle.dump_walk.specs.Fronts.{AreFronts, Front, IsFirst, Meaning, size_in, tag_name, end_of_contents, unreadable}
 use Rattle.asn1_headers.specs.Indefinite.{begins_with_end}
 use Rattle.asn1_headers.specs.Front.{HasNoHeader, IsAtFront}
 use Rattle.dump_walk.specs.declared.cursor.Cursor.{Cursor}
@@ -20,17 +20,12 @@ header_front offset depth rules spare meaning header = record {
   contents = header.announced;
   indefinite = header.is_indefinite;
   depth = depth;
+  encoding = true;
   type_name = tag_name header.class header.tag;
   rules = rules;
   has_spare_bits = spare;
   meaning = meaning;
 }
-
--- the encoding with the header, which begins the octets, breaks these rules
-abbrev pub AreFirstRules : List ℕ → Header → List Rule → Type 0
-AreFirstRules left header rules =
-    (front : IsAtFront left header) → AreRules left front.identifier front.len header.size header.announced
-    header.class header.constructed header.tag rules
 
 -- the whole encoding with the header, which begins the octets, breaks these rules
 abbrev pub AreRulesFound : List ℕ → Header → List Rule → Type 0

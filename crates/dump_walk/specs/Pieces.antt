@@ -6,7 +6,7 @@ use Rattle.asn1_headers.specs.Fault.{DecodeFault, incomplete}
 use Rattle.asn1_headers.specs.Front.{IsAtFront}
 use Rattle.asn1_headers.specs.declared.whole_header.Header.{Header}
 use Rattle.asn1_headers.specs.declared.header.ASN1Class.TheVariants.{Universal}
-use Rattle.dump_walk.specs.Fronts.{Front, Meaning, StandAt, tag_name}
+use Rattle.dump_walk.specs.Fronts.{AreFronts, Front, HoldsBehind, Meaning, tag_name}
 use Rattle.dump_walk.specs.Headers.{is_stray_form}
 use Rattle.dump_values.specs.Tags.{is_gone_into}
 use Rattle.dump_walk.specs.Ends.{taken}
@@ -15,6 +15,7 @@ use Rattle.dump_values.specs.Faults.{IsFault, IsNamed}
 use Rattle.dump_values.specs.Values.{IsMeaning, IsValue}
 use Rattle.dump_walk.specs.PieceSteps.{IsAhead, StartsNext, StartsWith}
 use Rattle.dump_walk.specs.Steps.{to_go}
+use Rattle.dump_walk.specs.declared.cursor.End.{End}
 use Rattle.dump_walk.specs.declared.cursor.Left.{Left}
 use Rattle.dump_walk.specs.declared.cursor.Step.{Step}
 use Rattle.dump_values.specs.declared.faults.Fault.{Fault}
@@ -37,11 +38,11 @@ fault_offset None = []
 fault_offset (Some fault) = fault.offset ∷ []
 
 -- the value of the contents octets of an encoding that is not gone into, or what is wrong with it: it has the header,
--- begins the octets, and stands at the offset. These octets stand behind its identifier octets
+-- these length octets, begins the octets, and stands at the offset
 abbrev pub IsLeafMeaning : List ℕ → Header → List ℕ → ℕ → Option LeafValue → Option Fault → Type 0
-IsLeafMeaning left header behind offset value fault =
-    ((is_stray_form header.constructed behind ≡ true) × (value ≡ None) × IsFault (IsNameless offset) fault)
-    ⊎ ((is_stray_form header.constructed behind ≡ false)
+IsLeafMeaning left header len offset value fault =
+    ((is_stray_form header.constructed len ≡ true) × (value ≡ None) × IsFault (IsNameless offset) fault)
+    ⊎ ((is_stray_form header.constructed len ≡ false)
     × IsMeaning header.class header.tag (slice_range left header.size (header.size + header.announced)) offset value
     fault)
 
@@ -72,12 +73,12 @@ IsKind left offset (Opened header contents joined) fault =
     × (contents.now
     ≡ slice_range left header.size (taken header.is_indefinite (header.size + header.announced) (length left)))
     × IfSome joined (IsJoined header contents.now)
-    × IsOpenedFault (is_stray_form header.constructed (drop (length front.identifier) left)) offset fault
+    × IsOpenedFault (is_stray_form header.constructed front.len) offset fault
 IsKind left offset (Leaf header contents value) fault =
     (front : IsAtFront left header) × (header.size + header.announced ≤ length left)
     × (is_gone_into header.class header.constructed header.tag ≡ false)
     × (contents.now ≡ slice_range left header.size (header.size + header.announced))
-    × IsLeafMeaning left header (drop (length front.identifier) left) offset value fault
+    × IsLeafMeaning left header front.len offset value fault
 
 -- how many octets the header of a piece has, or how many are end-of-contents octets
 abbrev pub kind_header : PieceKind → ℕ
@@ -102,6 +103,14 @@ kind_indefinite (Unreadable octets) = false
 kind_indefinite (Cut header contents) = header.is_indefinite
 kind_indefinite (Opened header contents joined) = header.is_indefinite
 kind_indefinite (Leaf header contents value) = header.is_indefinite
+
+-- whether a piece is an encoding
+abbrev pub kind_encoding : PieceKind → Bool
+kind_encoding (EndOfContents size) = false
+kind_encoding (Unreadable octets) = false
+kind_encoding (Cut header contents) = true
+kind_encoding (Opened header contents joined) = true
+kind_encoding (Leaf header contents value) = true
 
 -- the name of the type of a piece, or its tag
 abbrev pub kind_type_name : PieceKind → List ℕ
@@ -130,6 +139,7 @@ kind_front offset depth rules spare kind = record {
   contents = kind_contents kind;
   indefinite = kind_indefinite kind;
   depth = depth;
+  encoding = kind_encoding kind;
   type_name = kind_type_name kind;
   rules = rules;
   has_spare_bits = spare;
@@ -141,11 +151,12 @@ abbrev pub front_of : ℕ → Piece → Front
 front_of depth piece =
     kind_front piece.offset depth piece.breaches.rules.items piece.breaches.has_spare_bits piece.kind
 
--- the encodings that a piece holds stand inside its contents octets
+-- the encodings that a piece holds are the octets of a string, which is whole
 abbrev pub IsHolding : List ℕ → PieceKind → Place → Option Nested → Type 0
 IsHolding left kind place nested =
-    IfSome nested (λ n. (0 < place.documents)
-    × StandAt (slice_range left (kind_header kind) (kind_header kind + kind_contents kind)) n.before n.octets.now)
+    IfSome nested (λ n. (0 < place.documents) × (kind_header kind + kind_contents kind ≤ length left)
+    × HoldsBehind (kind_type_name kind)
+    (slice_range left (kind_header kind) (kind_header kind + kind_contents kind)) n.before n.octets.now)
 
 -- the piece begins octets that stand at the offset, and a line of the piece starts as this says
 pub record IsPieceAs (Starts : ℕ → Front → Step → List ℕ → Type 0) (left : List ℕ) (offset : ℕ)
@@ -162,19 +173,23 @@ IsFirstPiece left offset = IsPieceAs (StartsWith left offset) left offset
 abbrev pub IsPiece : Left → ℕ → Place → Piece → Type 0
 IsPiece left offset = IsPieceAs (StartsNext left offset) left.octets.now offset
 
--- a walk came from one place to the next by the piece
+-- a walk came from one place to the next by the piece, which begins what is left of the contents octets around it
 pub record Passes (old new : Walk) (piece : Piece) : Type 0 where
   pub levels : ℕ
+  pub end : End
+  pub around : List End
   pub left : List ℕ
+  pub here : (fronts : List Front) (faults : List ℕ)
+      → AreFronts old.cursor.octets.now piece.offset (end ∷ around) fronts faults → IsAhead old.cursor fronts faults
   pub ahead : (later : List Front) (more : List ℕ) → IsAhead new.cursor later more
       → IsAhead old.cursor (front_of levels piece ∷ later) (fault_offset piece.fault ++ more)
-  pub position : StandAt old.cursor.octets.now piece.offset left
+  pub left_is : left ≡ slice_range old.cursor.octets.now piece.offset end.offset
   pub kind : IsKind left piece.offset piece.kind piece.fault
   pub inside : piece.place.is_inside ≡ old.place.is_inside
   pub base : piece.place.base ≡ old.place.base
   pub depth : piece.place.depth ≡ old.place.depth + levels
   pub documents : piece.place.documents ≡ old.place.documents
-  pub most : piece.place.most_depth ≡ old.place.most_depth
+  pub style : piece.place.style ≡ old.place.style
   pub holding : IsHolding left piece.kind piece.place piece.nested
   pub less : to_go new.cursor < to_go old.cursor
   pub same_octets : new.cursor.octets.now ≡ old.cursor.octets.now

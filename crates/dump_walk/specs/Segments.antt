@@ -1,12 +1,16 @@
 -- The segments of a constructed string, and the contents octets that it has when they are joined.
-use Rattle.std.specs.Prelude.{◌≡◌, ◌↔◌, ◌==◌, ◌⊎◌, ◌&&◌, ℕ, ◌+◌, ◌≤◌, Bool, true, false, IsTrue, if◌then◌else◌, List, [], ◌∷◌, ◌++◌, drop, length, slice_range}
+use Rattle.std.specs.Prelude.{◌≡◌, ◌↔◌, ◌==◌, ◌⊎◌, ◌&&◌, ℕ, ◌+◌, ◌<◌, ◌≤◌, Bool, true, false, IsTrue, if◌then◌else◌, List, [], ◌∷◌, ◌++◌, length, slice_range}
 use Rattle.asn1_headers.specs.declared.tags.TheConstants.{BIT_STRING, OCTET_STRING}
-use Rattle.asn1_headers.specs.Front.{BeginsWithHeader, HasIndefiniteForm}
+use Rattle.asn1_headers.specs.Front.{HasIndefiniteForm, IsAtFront}
 use Rattle.asn1_headers.specs.declared.header.ASN1Class.TheVariants.{Universal}
 use Rattle.dump_walk.specs.Ends.{end_at, taken}
 use Rattle.asn1_headers.specs.Indefinite.{begins_with_end}
 use Rattle.dump_walk.specs.Headers.{is_stray_form}
+use Rattle.asn1_headers.specs.declared.whole_header.Header.{Header}
+use Rattle.dump_walk.specs.Steps.{ends_after, offset_after}
 use Rattle.dump_walk.specs.declared.cursor.End.{End}
+use Rattle.dump_walk.specs.declared.cursor.Step.{Step}
+use Rattle.dump_walk.specs.declared.cursor.Step.TheVariants.{Into, Out, Past}
 
 -- the tag of segments: those of a BIT STRING are BIT STRINGs (X.690 8.6.4), those of others OCTET STRINGs (8.7.3, 8.23)
 abbrev pub segment_tag : ℕ → ℕ
@@ -29,47 +33,66 @@ Joins tag before segment after =
     ((tag == BIT_STRING) ≡ true × JoinsBits before segment after)
     ⊎ ((tag == BIT_STRING) ≡ false × (after ≡ before ++ segment))
 
--- from an offset of octets on, where contents octets with these ends are open, the innermost first, stand segments
--- alone of a string with the tag: primitive ones, joined to those before, and constructed ones, which hold others
-pub data AreSegments (tag : ℕ) (octets : List ℕ) : ℕ → List End → List ℕ → List ℕ → Type 0 where
-  no_more :
-      {offset : ℕ} {ends : List End} {before after : List ℕ} → ends ≡ [] → after ≡ before →
-      AreSegments tag octets offset ends before after
+-- the octets begin with the header of a whole encoding that is a segment of a string with the tag
+abbrev pub IsSegmentHeader : ℕ → List ℕ → Header → Type 0
+IsSegmentHeader tag octets header =
+    (front : IsAtFront octets header) × (header.size + header.announced ≤ length octets)
+    × (is_stray_form header.constructed front.len ≡ false)
+    × (IsTrue header.is_indefinite ↔ HasIndefiniteForm octets)
+    × (header.class ≡ Universal) × (header.tag ≡ segment_tag tag)
+
+-- octets, which end-of-contents octets may end or not, begin with these, or with a segment of a string with the tag: a
+-- primitive one is joined to those before, and a constructed one gone into, since it holds others. A cursor goes on
+-- behind it by the step
+abbrev pub IsSegment : ℕ → List ℕ → Bool → Step → List ℕ → List ℕ → Type 0
+IsSegment tag octets within (Into first size indefinite) before after =
+    ((within && begins_with_end octets) ≡ false)
+    × (header : Header) × IsSegmentHeader tag octets header × (header.constructed ≡ true) × (first ≡ header.size)
+    × (size ≡ taken header.is_indefinite (header.size + header.announced) (length octets))
+    × (indefinite ≡ header.is_indefinite) × (after ≡ before)
+IsSegment tag octets within (Past size) before after =
+    ((within && begins_with_end octets) ≡ false)
+    × (header : Header) × IsSegmentHeader tag octets header × (header.constructed ≡ false)
+    × (size ≡ header.size + header.announced)
+    × Joins tag before (slice_range octets header.size (header.size + header.announced)) after
+IsSegment tag octets within (Out size) before after =
+    (within ≡ true) × (begins_with_end octets ≡ true) × (size ≡ 2) × (after ≡ before)
+
+-- neither a segment nor the end begins the octets
+abbrev pub HasNoSegment : ℕ → List ℕ → Bool → List ℕ → Type 0
+HasNoSegment tag octets within before =
+    (step : Step) (after : List ℕ) → IsSegment tag octets within step before after → ⊥
+
+-- contents octets of a string with the tag begin with segments alone, up to an offset, where contents octets with these
+-- ends are open, the innermost first. Joined they are these
+pub data BeginWithSegments (tag : ℕ) (contents : List ℕ) (indefinite : Bool) : ℕ → List End → List ℕ → Type 0 where
+  none_yet :
+      {offset : ℕ} {ends : List End} {joined : List ℕ} →
+      offset ≡ 0 → ends ≡ end_at (length contents) indefinite ∷ [] → joined ≡ no_segments tag →
+      BeginWithSegments tag contents indefinite offset ends joined
   one_ended :
-      {offset : ℕ} {ends : List End} {before after : List ℕ} (end : End) (around : List End) →
-      ends ≡ end ∷ around → end.is_indefinite ≡ false → slice_range octets offset end.offset ≡ [] →
-      AreSegments tag octets offset around before after → AreSegments tag octets offset ends before after
-  ended_by_octets :
-      {offset : ℕ} {ends : List End} {before after : List ℕ} (end : End) (around : List End) →
-      ends ≡ end ∷ around → end.is_indefinite ≡ true →
-      begins_with_end (slice_range octets offset end.offset) ≡ true →
-      AreSegments tag octets (offset + 2) around before after → AreSegments tag octets offset ends before after
-  primitive_one :
-      {offset : ℕ} {ends : List End} {before after : List ℕ} (left : List ℕ) (end : End) (around : List End)
-      (size announced : ℕ) (between : List ℕ) →
-      ends ≡ end ∷ around → left ≡ slice_range octets offset end.offset →
-      (end.is_indefinite && begins_with_end left) ≡ false →
-      (header : BeginsWithHeader left size announced Universal false (segment_tag tag)) →
-      size + announced ≤ length left → is_stray_form false (drop (length header.identifier) left) ≡ false →
-      Joins tag before (slice_range left size (size + announced)) between →
-      AreSegments tag octets (offset + (size + announced)) ends between after →
-      AreSegments tag octets offset ends before after
-  constructed_one :
-      {offset : ℕ} {ends : List End} {before after : List ℕ} (left : List ℕ) (end : End) (around : List End)
-      (size announced : ℕ) (indefinite : Bool) →
-      ends ≡ end ∷ around → left ≡ slice_range octets offset end.offset →
-      (end.is_indefinite && begins_with_end left) ≡ false →
-      BeginsWithHeader left size announced Universal true (segment_tag tag) → size + announced ≤ length left →
-      IsTrue indefinite ↔ HasIndefiniteForm left →
-      AreSegments tag octets (offset + size)
-      (end_at (offset + taken indefinite (size + announced) (length left)) indefinite ∷ ends) before after →
-      AreSegments tag octets offset ends before after
+      {offset : ℕ} {ends : List End} {joined : List ℕ} (end : End) →
+      BeginWithSegments tag contents indefinite offset (end ∷ ends) joined → end.is_indefinite ≡ false →
+      slice_range contents offset end.offset ≡ [] → BeginWithSegments tag contents indefinite offset ends joined
+  one_more :
+      {offset : ℕ} {ends : List End} {joined : List ℕ} (first : ℕ) (end : End) (around : List End) (before : List ℕ)
+      (step : Step) →
+      BeginWithSegments tag contents indefinite first (end ∷ around) before →
+      IsSegment tag (slice_range contents first end.offset) end.is_indefinite step before joined →
+      offset ≡ offset_after step first → ends ≡ ends_after step first (end ∷ around) →
+      BeginWithSegments tag contents indefinite offset ends joined
 
 -- contents octets are segments to their end, which joined are these
 abbrev pub AreSegmentsOf : ℕ → List ℕ → Bool → List ℕ → Type 0
 AreSegmentsOf tag contents indefinite joined =
-    AreSegments tag contents 0 (end_at (length contents) indefinite ∷ []) (no_segments tag) joined
+    (offset : ℕ) × BeginWithSegments tag contents indefinite offset [] joined
 
--- contents octets are no segments to their end
-abbrev pub HaveNoSegments : ℕ → List ℕ → Bool → Type 0
-HaveNoSegments tag contents indefinite = (joined : List ℕ) → AreSegmentsOf tag contents indefinite joined → ⊥
+-- contents octets are no segments to their end: behind some, contents octets that have not ended go on with none
+pub record HaveNoSegments (tag : ℕ) (contents : List ℕ) (indefinite : Bool) : Type 0 where
+  pub offset : ℕ
+  pub end : End
+  pub around : List End
+  pub before : List ℕ
+  pub begin : BeginWithSegments tag contents indefinite offset (end ∷ around) before
+  pub not_ended : end.is_indefinite ≡ false → 0 < length (slice_range contents offset end.offset)
+  pub no_segment : HasNoSegment tag (slice_range contents offset end.offset) end.is_indefinite before

@@ -1,11 +1,12 @@
 -- The octets that a string holds, in one piece or in segments.
-use Rattle.std.specs.Prelude.{◌≡◌, ◌↔◌, ◌==◌, ◌⊎◌, ◌||◌, ◌&&◌, ℕ, ◌≤◌, nat_le, Bool, true, false, IsTrue, List, [], ◌∷◌, Result, Ok, Err, Vec, drop, length}
+use Rattle.std.specs.Prelude.{◌≡◌, ◌↔◌, ◌==◌, ◌⊎◌, ◌||◌, ◌&&◌, ℕ, ◌≤◌, nat_le, Bool, true, false, IsTrue, List, [], ◌∷◌, Result, Ok, Err, Vec, drop}
 use Rattle.std.specs.Global.{Global}
 use Rattle.asn1_headers.specs.declared.tags.TheConstants.{BIT_STRING, OCTET_STRING, OBJECT_DESCRIPTOR, UTF8_STRING, NUMERIC_STRING, UNIVERSAL_STRING, BMP_STRING}
-use Rattle.asn1_headers.specs.Front.{BeginsWithHeader, HasIndefiniteForm}
+use Rattle.asn1_headers.specs.Front.{HasIndefiniteForm, IsAtFront}
 use Rattle.asn1_headers.specs.declared.header.ASN1Class.TheVariants.{Universal}
 use Rattle.dump_walk.specs.Headers.{is_stray_form}
-use Rattle.dump_walk.specs.Segments.{AreSegmentsOf}
+use Rattle.asn1_headers.specs.declared.whole_header.Header.{Header}
+use Rattle.dump_walk.specs.Segments.{AreSegmentsOf, HaveNoSegments}
 use Rattle.dump_walk.specs.declared.string_value.NoString.{NoString}
 use Rattle.dump_walk.specs.declared.string_value.NoString.TheVariants.{Malformed, OtherType}
 
@@ -15,12 +16,26 @@ is_string_tag tag =
     tag == BIT_STRING || tag == OCTET_STRING || tag == OBJECT_DESCRIPTOR || tag == UTF8_STRING
     || (nat_le NUMERIC_STRING tag && nat_le tag UNIVERSAL_STRING) || tag == BMP_STRING
 
+-- an element begins with the header of a string with the tag
+abbrev pub IsStringHeader : List ℕ → ℕ → Header → Type 0
+IsStringHeader element tag header =
+    IsAtFront element header × (IsTrue header.is_indefinite ↔ HasIndefiniteForm element)
+    × (header.class ≡ Universal) × (header.tag ≡ tag) × (is_string_tag tag ≡ true)
+
 -- contents octets in one piece: those of a primitive encoding, or the segments of a constructed one, joined
-abbrev pub AreInOnePiece : List ℕ → Bool → ℕ → List ℕ → List ℕ → Type 0
-AreInOnePiece element false tag contents joined = joined ≡ contents
-AreInOnePiece element true tag contents joined =
-    (indefinite : Bool) × (IsTrue indefinite ↔ HasIndefiniteForm element)
-    × AreSegmentsOf tag contents indefinite joined
+abbrev pub AreInOnePiece : List ℕ → ℕ → Header → Bool → List ℕ → Type 0
+AreInOnePiece element tag header true contents =
+    AreSegmentsOf tag (drop header.size element) header.is_indefinite contents
+AreInOnePiece element tag header false contents =
+    (contents ≡ drop header.size element)
+    × ((front : IsAtFront element header) → is_stray_form false front.len ≡ false)
+
+-- there are none in one piece: a constructed encoding has something else than segments, or a primitive one has a length
+-- of the indefinite form
+abbrev pub AreInNoPiece : List ℕ → ℕ → Header → Bool → Type 0
+AreInNoPiece element tag header true = HaveNoSegments tag (drop header.size element) header.is_indefinite
+AreInNoPiece element tag header false =
+    (front : IsAtFront element header) → is_stray_form false front.len ≡ true
 
 -- the octets of a string, by its contents octets: those of a BIT STRING stand behind the number of unused bits, which
 -- is 7 at most, and 0 where there are no bits (X.690 8.6.2)
@@ -32,28 +47,31 @@ AreOctetsOf tag contents octets =
 
 -- the element is a string that holds the octets
 pub record HoldsOctets (element octets : List ℕ) : Type 0 where
-  pub size : ℕ
-  pub announced : ℕ
-  pub constructed : Bool
   pub tag : ℕ
-  pub header : BeginsWithHeader element size announced Universal constructed tag
-  pub is_string : is_string_tag tag ≡ true
-  pub form : is_stray_form constructed (drop (length header.identifier) element) ≡ false
+  pub header : Header
   pub contents : List ℕ
-  pub in_one_piece : AreInOnePiece element constructed tag (drop size element) contents
+  pub is_string : IsStringHeader element tag header
+  pub in_one_piece : AreInOnePiece element tag header header.constructed contents
   pub are_octets : AreOctetsOf tag contents octets
 
--- the element is a string, well-formed or not
-abbrev pub IsString : List ℕ → Type 0
-IsString element =
-    (size announced : ℕ) × (constructed : Bool) × (tag : ℕ)
-    × BeginsWithHeader element size announced Universal constructed tag × (is_string_tag tag ≡ true)
+-- the element is no string
+abbrev pub IsNoString : List ℕ → Type 0
+IsNoString element = (tag : ℕ) (header : Header) → IsStringHeader element tag header → ⊥
+
+-- the element is a string whose contents octets are in no piece, or hold no octets
+pub record IsMalformed (element : List ℕ) : Type 0 where
+  pub tag : ℕ
+  pub header : Header
+  pub is_string : IsStringHeader element tag header
+  pub holds_none : AreInNoPiece element tag header header.constructed
+      ⊎ ((contents : List ℕ) × AreInOnePiece element tag header header.constructed contents
+      × ((octets : List ℕ) → AreOctetsOf tag contents octets → ⊥))
 
 abbrev pub HoldsNoOctets : List ℕ → Type 0
-HoldsNoOctets element = (octets : List ℕ) → HoldsOctets element octets → ⊥
+HoldsNoOctets element = IsNoString element ⊎ IsMalformed element
 
 -- the octets that an element holds as a string, or why it holds none: it is no string, or a malformed one
 abbrev pub IsStringAnswer : List ℕ → Result (Vec ℕ Global) NoString → Type 0
 IsStringAnswer element (Ok octets) = HoldsOctets element octets.items
-IsStringAnswer element (Err OtherType) = IsString element → ⊥
-IsStringAnswer element (Err Malformed) = IsString element × HoldsNoOctets element
+IsStringAnswer element (Err OtherType) = IsNoString element
+IsStringAnswer element (Err Malformed) = IsMalformed element

@@ -1,10 +1,9 @@
 // Whole elements by the offsets of their rows.
-ghost use Rattle.std.specs.Prelude.{◌≡◌, ◌+◌, ◌<◌, ℕ, List, suc, true, false, IfOk, IfSome, slice_range};
+ghost use Rattle.std.specs.Prelude.{◌≡◌, ◌+◌, ◌<◌, ℕ, List, true, false, IfOk, IfSome, MatchOption, slice_range};
 ghost use Rattle.dump_walk.specs.ByOffset.{Finds, IsElsewhere, IsFoundAt};
-ghost use Rattle.dump_walk.specs.ByOffsetSteps.{EndsAt, HasCome, IsWholeKind, StandsInside};
+ghost use Rattle.dump_walk.specs.ByOffsetSteps.{EndsAt, HasCome, HasNoEnd, IsFound, IsNext, IsWholeKind};
 ghost use Rattle.dump_walk.specs.Fronts.{Front};
 ghost use Rattle.dump_walk.specs.Pieces.{front_of, kind_contents, kind_header, kind_indefinite};
-ghost use Rattle.dump_walk.specs.declared.piece.PieceKind.TheVariants.{EndOfContents};
 
 use crate::cursor::octets_between;
 use crate::piece::{Piece, PieceKind};
@@ -59,11 +58,12 @@ pub fn block_at<'a>(
         if has_row_at(&piece, offset) {
             return block_of(alloc, &mut walk, octets, &piece);
         }
-        if offset < piece.offset {
-            return Ok(Err(NoBlock::Nothing));
-        }
-        if let Some(inside) = inside_at(&piece, offset)? {
-            return block_at(alloc, shapes, inside.octets, inside.place, inside.offset);
+        match found_behind(piece, offset)? {
+            Found::Within(inside) => {
+                return block_at(alloc, shapes, inside.octets, inside.place, inside.offset);
+            }
+            Found::Passed => return Ok(Err(NoBlock::Nothing)),
+            Found::Elsewhere => {}
         }
     }
     Ok(Err(NoBlock::Nothing))
@@ -80,30 +80,50 @@ fn has_row_at(piece: &Piece<'_>, offset: usize) -> bool
     }
 }
 
+// Where an offset stands at which no row of a piece does.
+#[derive(Clone, Copy, Drop)]
+enum Found<'a> {
+    // in octets of the string that the piece is
+    Within(Inside<'a>),
+    // before the piece
+    Passed,
+    // maybe behind the piece
+    Elsewhere,
+}
+
 // Octets of a string, the place of what they hold, and an offset in them.
-#[derive(Clone, Copy)]
+#[derive(Clone, Copy, Drop)]
 struct Inside<'a> {
     octets: &'a [u8],
     place: Place,
     offset: usize,
 }
 
-// The octets of a string, which have rows of their own, if the offset stands in them.
-fn inside_at<'a>(piece: &Piece<'a>, offset: usize) -> Result<Option<Inside<'a>>, AllocError>
-    requires { IfSome piece.now.nested (λ _. 0 < piece.now.place.documents) }
-    ensures inside { IfOk result (λ found. IfSome found (StandsInside piece.now offset)) }
-    ensures fewer { IfOk result (λ found. IfSome found (λ inside.
-        piece.now.place.documents ≡ suc inside.place.documents)) }
+// Where the offset stands, seen from the piece, which ends here: no loop has to end it.
+fn found_behind<'a>(piece: Piece<'a>, offset: usize) -> Result<Found<'a>, AllocError>
+    requires { IfSome piece.nested (λ _. 0 < piece.place.documents) }
+    ensures { IfOk result (IsFound offset piece.entry) }
 {
+    found_by(&piece, offset)
+}
+
+// Where the offset stands, seen from the piece.
+fn found_by<'a>(piece: &Piece<'a>, offset: usize) -> Result<Found<'a>, AllocError>
+    requires { IfSome piece.now.nested (λ _. 0 < piece.now.place.documents) }
+    ensures { IfOk result (IsFound offset piece.now) }
+{
+    if offset < piece.offset {
+        return Ok(Found::Passed);
+    }
     let Some(nested) = piece.nested else {
-        return Ok(None);
+        return Ok(Found::Elsewhere);
     };
     let before = checked_sum(piece.header_size(), nested.before)?;
     let first = checked_sum(piece.offset, before)?;
     if offset < first || offset - first >= nested.octets.len() {
-        return Ok(None);
+        return Ok(Found::Elsewhere);
     }
-    Ok(Some(Inside {
+    Ok(Found::Within(Inside {
         octets: nested.octets,
         place: piece.place.inside(checked_sum(piece.place.base, first)?)?,
         offset: offset - first,
@@ -187,29 +207,50 @@ fn ended_block<'a>(
     }))
 }
 
-// Where the end-of-contents octets stand of the element that the walk came to last, which stands so deep.
+// Where the end-of-contents octets stand of the element that the walk came to last, which stands so deep. `None` where
+// they are missing.
 fn end_of(alloc: Global, walk: &mut Walk<'_>, depth: usize) -> Result<Option<usize>, AllocError>
-    ensures { IfOk result (λ found. IfSome found (EndsAt walk.old depth)) }
+    ensures { IfOk result (λ found. MatchOption found
+        (HasNoEnd walk.old depth)
+        (EndsAt walk.old depth)) }
 {
     while let Some(piece) = walk.next(alloc)? {
-        if piece.place.depth <= depth {
-            return Ok(None);
-        }
-        if is_end(&piece, depth) {
-            return Ok(Some(piece.offset));
+        match next_of(piece, depth) {
+            Next::Ended(offset) => return Ok(Some(offset)),
+            Next::Behind => return Ok(None),
+            Next::Deeper => {}
         }
     }
     Ok(None)
 }
 
-// Whether a piece inside an element that stands so deep is the end-of-contents octets of that.
-fn is_end(piece: &Piece<'_>, depth: usize) -> bool
-    requires { depth < piece.now.place.depth }
-    ensures kind { result ≡ true → piece.now.kind ≡ EndOfContents 2 }
-    ensures depth { result ≡ true → piece.now.place.depth ≡ suc depth }
+// What comes next in or behind an element.
+#[derive(Clone, Copy, Drop)]
+enum Next {
+    // something inside it
+    Deeper,
+    // its end-of-contents octets, at the offset
+    Ended(usize),
+    // something behind it
+    Behind,
+}
+
+// What a piece is to an element that stands so deep, and inside which the pieces between are. The piece ends here.
+fn next_of(piece: Piece<'_>, depth: usize) -> Next
+    ensures { IsNext depth piece.entry result }
 {
-    match piece.kind {
-        PieceKind::EndOfContents(2) => piece.place.depth - depth == 1,
-        _ => false,
+    next_by(&piece, depth)
+}
+
+// What a piece is to an element that stands so deep.
+fn next_by(piece: &Piece<'_>, depth: usize) -> Next
+    ensures { IsNext depth piece.now result }
+{
+    if piece.place.depth <= depth {
+        Next::Behind
+    } else if piece.place.depth - depth == 1 && piece.is_end() {
+        Next::Ended(piece.offset)
+    } else {
+        Next::Deeper
     }
 }

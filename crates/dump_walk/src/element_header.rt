@@ -1,5 +1,5 @@
 // The headers of encodings, by their octets.
-ghost use Rattle.std.specs.Prelude.{◌≡◌, ◌↔◌, ◌+◌, ◌≤◌, IfNone, IfOk, IfSome, IsTrue, MatchOption, drop, false, length};
+ghost use Rattle.std.specs.Prelude.{◌≡◌, ◌↔◌, ◌+◌, ◌≤◌, IfNone, IfOk, IfSome, IsTrue, MatchOption, false, length};
 ghost use Rattle.asn1_headers.specs.Indefinite.{is_indefinite};
 ghost use Rattle.asn1_headers.specs.Front.{HasIndefiniteForm, HasNoHeader, IsAtFront};
 ghost use Rattle.dump_walk.specs.Headers.{is_stray_form};
@@ -40,20 +40,23 @@ pub fn step_of(header: &Header, size: usize) -> Step
 // Whether the encoding is primitive, and its length has the indefinite form, which it may not have.
 pub fn has_stray_form(octets: &[u8], header: &Header) -> bool
     requires { IsAtFront octets.now header.now }
-    ensures { (front : IsAtFront octets.now header.now) →
-        result ≡ is_stray_form header.now.constructed (drop (length front.identifier) octets.now) }
+    ensures { (front : IsAtFront octets.now header.now) → result ≡ is_stray_form header.now.constructed front.len }
 {
-    let is_indefinite = has_indefinite_length(octets, header);
-    is_indefinite && !header.constructed
+    if header.constructed {
+        return false;
+    }
+    has_indefinite_length(octets, header)
 }
 
 // Whether the length at the front has the indefinite form, also where the encoding is primitive, whose length has to be
-// definite.
-fn has_indefinite_length(octets: &[u8], _header: &Header) -> bool
-    requires { IsAtFront octets.now _header.now }
-    ensures { (front : IsAtFront octets.now _header.now) →
-        result ≡ is_indefinite (drop (length front.identifier) octets.now) }
+// definite. That form is read as a length of 0.
+fn has_indefinite_length(octets: &[u8], header: &Header) -> bool
+    requires { IsAtFront octets.now header.now }
+    ensures { (front : IsAtFront octets.now header.now) → result ≡ is_indefinite front.len }
 {
+    if header.announced > 0 {
+        return false;
+    }
     let (_, behind) = split_identifier(octets);
     is_indefinite(behind)
 }
@@ -66,7 +69,7 @@ pub fn whole_header(alloc: Global, octets: &[u8]) -> Result<Option<Header>, Allo
     ensures form { IfOk result (λ found. IfSome found (λ header.
         IsTrue header.is_indefinite ↔ HasIndefiniteForm octets.now)) }
     ensures no_stray { IfOk result (λ found. IfSome found (λ header. (front : IsAtFront octets.now header) →
-        is_stray_form header.constructed (drop (length front.identifier) octets.now) ≡ false)) }
+        is_stray_form header.constructed front.len ≡ false)) }
     ensures none { IfOk result (λ found. IfNone found (HasNoWhole octets.now)) }
 {
     let Some(header) = find_header(alloc, octets)? else {

@@ -1,55 +1,67 @@
 // Which fields the pieces of octets are.
-ghost use Rattle.std.specs.Prelude.{◌≡◌, IfOk, IfSome, MatchOption};
-ghost use Rattle.dump_walk.specs.Fields.{EndsPath, GoesOver};
-ghost use Rattle.dump_walk.specs.declared.place.Around.TheVariants.{Nothing};
-
 use crate::cursor::Left;
 use crate::piece::{Piece, PieceKind};
-use crate::place::{Around, Place};
+use crate::style::Known;
 use dump_shapes::{FieldWalk, Held, LeafType, Shapes, Spot, Tag};
 use std::alloc::{AllocError, Global};
+
+// What says which fields blocks are.
+#[derive(Clone, Copy, Drop)]
+pub enum Around {
+    // nothing: they have no names
+    Nothing,
+    // a document, whose shape may be known
+    Document(Option<u16>),
+    // a string that is this field
+    String(Spot),
+    // nothing: there is one block, which is this field
+    Alone(Spot),
+}
+
+impl Around {
+    // What says which fields the blocks of a document are.
+    pub fn of(known: Known) -> Around {
+        match known {
+            Known::Nothing => Around::Document(None),
+            Known::Shape(shape) => Around::Document(Some(shape)),
+            Known::Field(spot) => Around::Alone(spot),
+        }
+    }
+}
+
+// A field.
+#[derive(Clone, Copy, Drop)]
+pub struct Field {
+    pub spot: Spot,
+    // its type, if that has no parts
+    pub leaf: Option<LeafType>,
+    // what its octets are, if it is a string
+    pub held: Held,
+}
 
 // How far the pieces of octets were gone over, as fields.
 #[derive(Drop)]
 pub struct Fields<'a> {
     shapes: &'a Shapes,
     walk: FieldWalk<'a>,
-    // what says which fields they are
+    // what says which fields they are that come next
     around: Around,
-    // the shape of the next outermost encoding of a document, where it is known
-    shape: Option<u16>,
-    ghost over: { ∥ (GoesOver shapes.now around walk) ∥₁ },
 }
 
 impl<'a> Fields<'a> {
-    // Before the first piece of octets that stand at the place. `None` where they have no names.
-    pub fn at(alloc: Global, shapes: &'a Shapes, place: Place) -> Option<Fields<'a>>
-        ensures { MatchOption result
-            (place.around ≡ Nothing)
-            (λ fields. (fields.shapes.now ≡ shapes.now) × (fields.around ≡ place.around)) }
-    {
-        let around = place.around;
-        match around {
-            Around::Nothing => None,
-            Around::Document(shape) => Some(Fields {
-                shapes,
-                walk: FieldWalk::over(alloc, shapes, shape),
-                around,
-                shape,
-            }),
-            Around::String(string) => Some(Fields {
-                shapes,
-                walk: FieldWalk::inside(alloc, shapes, string),
-                around,
-                shape: None,
-            }),
-            Around::Alone(spot) => Some(Fields {
-                shapes,
-                walk: FieldWalk::alone(alloc, shapes, spot),
-                around,
-                shape: None,
-            }),
-        }
+    // Before the first piece of octets that stand in this. `None` where they have no names.
+    pub fn inside(alloc: Global, shapes: &'a Shapes, around: Around) -> Option<Fields<'a>> {
+        let walk = match around {
+            Around::Nothing => return None,
+            Around::Document(shape) => FieldWalk::over(alloc, shapes, shape),
+            Around::String(string) => FieldWalk::inside(alloc, shapes, string),
+            Around::Alone(spot) => FieldWalk::alone(alloc, shapes, spot),
+        };
+        Some(Fields {
+            shapes,
+            walk,
+            around,
+        })
     }
 
     // Which field the piece is that begins what is left, inside so many encodings.
@@ -58,62 +70,44 @@ impl<'a> Fields<'a> {
         alloc: Global,
         depth: usize,
         left: Left<'_>,
-    ) -> Result<Option<Spot>, AllocError>
-        ensures shapes { self.new.shapes.now ≡ self.old.shapes.now }
-        ensures around { self.new.around ≡ self.old.around }
-        ensures field { IfOk result (λ found. IfSome found (EndsPath self.old.shapes.now self.old.around depth)) }
-    {
-        self.begin(alloc, depth, left.octets)?;
+    ) -> Result<Option<Field>, AllocError> {
+        if depth == 0 {
+            self.begin(alloc, left.octets)?;
+        }
         let tag = if left.begins_with_end() {
             None
         } else {
             left.octets.first().map(|leading| Tag::of(*leading))
         };
-        self.walk.next(depth, tag)
+        let Some(spot) = self.walk.next(depth, tag)? else {
+            return Ok(None);
+        };
+        Ok(Some(Field {
+            spot,
+            leaf: self.shapes.leaf_type(spot),
+            held: self.shapes.held_in(spot),
+        }))
     }
 
-    // Begins an encoding that stands inside so many others. An outermost one of a document is one of its own, which may
-    // have any shape: the first has the shape that is known, and any other one that fits.
-    fn begin(&mut self, alloc: Global, depth: usize, octets: &[u8]) -> Result<(), AllocError>
-        ensures shapes { self.new.shapes.now ≡ self.old.shapes.now }
-        ensures around { self.new.around ≡ self.old.around }
-    {
-        if depth > 0 {
-            return Ok(());
-        }
-        let Around::Document(_) = self.around else {
+    // Begins an encoding that no other is around. In a document it is one of its own, which may have any shape: the
+    // first has the shape that is known, and any other one that fits.
+    fn begin(&mut self, alloc: Global, octets: &[u8]) -> Result<(), AllocError> {
+        let Around::Document(known) = self.around else {
             return Ok(());
         };
-        let root = match self.shape {
+        let shape = match known {
             Some(shape) => Some(shape),
             None => self.shapes.fitting(alloc, octets)?,
         };
-        self.shape = None;
-        self.walk = FieldWalk::over(alloc, self.shapes, root);
+        self.around = Around::Document(None);
+        self.walk = FieldWalk::over(alloc, self.shapes, shape);
         Ok(())
     }
 
-    // The type of the field, if it has no parts.
-    pub fn leaf_type(&self, spot: Spot) -> Option<LeafType> {
-        self.shapes.leaf_type(spot)
-    }
-
-    // What a string holds that is the field.
-    pub fn held_in(&self, spot: Spot) -> Held {
-        self.shapes.held_in(spot)
-    }
-
     // Sees the piece that was gone on to.
-    pub fn see(&mut self, piece: &Piece<'_>)
-        ensures shapes { self.new.shapes.now ≡ self.old.shapes.now }
-        ensures around { self.new.around ≡ self.old.around }
-    {
-        match &piece.kind {
-            PieceKind::Leaf(_, contents, _) => self.walk.see(contents),
-            PieceKind::EndOfContents(_)
-            | PieceKind::Unreadable(_)
-            | PieceKind::Cut(_, _)
-            | PieceKind::Opened(_, _, _) => {}
+    pub fn see(&mut self, piece: &Piece<'_>) {
+        if let PieceKind::Leaf(_, contents, _) = &piece.kind {
+            self.walk.see(contents);
         }
     }
 }

@@ -1,9 +1,9 @@
-//! A document gone over by its headers, once for lines, pages and JSON.
+//! A document gone over by its headers, once for lines, pages, JSON and accounts.
 //!
 //! `walk::Walk` goes over the octets of a document by their headers. Each `piece::Piece` that it returns is an
 //! encoding, end-of-contents octets, or octets that begin with no header: with its value, what is wrong with it,
-//! which rules of DER it breaks, and the encodings inside the octets of a string. `dump_lines` and `dump_json` show the
-//! same pieces.
+//! which rules of DER it breaks, and the encodings inside the octets of a string. `dump_lines`, `dump_json` and
+//! `dump_text` show the same pieces.
 //!
 //! An element is an encoding, or what has a length of the indefinite form of BER (X.690 8.1.3.6), with its
 //! end-of-contents octets. [`block_at`] finds the one whose row stands at an offset, by the same walk, and

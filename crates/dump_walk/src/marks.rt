@@ -1,7 +1,7 @@
 // Which rules of DER an encoding breaks.
-ghost use Rattle.std.specs.Prelude.{◌≡◌, ◌++◌, ◌∷◌, ◌+◌, ◌≤◌, [], IfOk, OnOk, false, true, length, map, slice_range};
+ghost use Rattle.std.specs.Prelude.{◌≡◌, ◌+◌, ◌≤◌, [], IfOk, false, true, length, map, slice_range};
 ghost use Rattle.asn1_headers.specs.Front.{IsAtFront};
-ghost use Rattle.dump_walk.specs.Marks.{EndsWithZero, name_of as name_of_is, rule_breach as rule_breach_is, spare_if, breach_of, breaches_of, spare_breach as spare_breach_is};
+ghost use Rattle.dump_walk.specs.Marks.{EndsWithZero, rule_breach as rule_breach_is, breach_of, breaches_of, spare_breach as spare_breach_is};
 ghost use Rattle.dump_walk.specs.PieceSteps.{AreRulesFound};
 
 use crate::place::Place;
@@ -47,7 +47,10 @@ impl Breaches {
             ≡ breaches_of self.now.rules.items self.now.has_spare_bits) }
     {
         let mut broken = described_rules(alloc, &self.rules)?;
-        push_spare(self.has_spare_bits, &mut broken)?;
+        if !self.has_spare_bits {
+            return Ok(broken);
+        }
+        broken.push(spare_breach())?;
         Ok(broken)
     }
 }
@@ -60,23 +63,6 @@ fn described_rules(alloc: Global, rules: &[Rule]) -> Result<Vec<BrokenRule>, All
         broken.push(rule_breach(*rule))?;
     }
     Ok(broken)
-}
-
-fn push_spare(is_spare: bool, broken: &mut Vec<BrokenRule>) -> Result<(), AllocError>
-    ensures { OnOk result (map breach_of broken.new.items ≡ map breach_of broken.old.items ++ spare_if is_spare) }
-{
-    if is_spare {
-        push_breach(spare_breach(), broken)
-    } else {
-        Ok(())
-    }
-}
-
-fn push_breach(rule: BrokenRule, broken: &mut Vec<BrokenRule>) -> Result<(), AllocError>
-    ensures { OnOk result (map breach_of broken.new.items ≡ map breach_of broken.old.items ++ breach_of rule ∷ []) }
-{
-    broken.push(rule)?;
-    Ok(())
 }
 
 fn rule_breach(rule: Rule) -> BrokenRule
@@ -137,9 +123,7 @@ fn ends_with_zero(contents: &[u8]) -> bool
 }
 
 // The name of a rule in a program.
-fn name_of(rule: Rule) -> &'static str
-    ensures { result.now ≡ name_of_is rule }
-{
+fn name_of(rule: Rule) -> &'static str {
     match rule {
         Rule::LongIdentifier => "LongIdentifier",
         Rule::PaddedTag => "PaddedTag",

@@ -1,6 +1,6 @@
 // Encodings inside octets of strings.
 ghost use Rattle.std.specs.Prelude.{◌+◌, ◌<◌, ◌≤◌, IfOk, IfSome, length};
-ghost use Rattle.dump_walk.specs.Fronts.{StandAt};
+ghost use Rattle.dump_walk.specs.Fronts.{HoldsBehind, tag_name};
 ghost use Rattle.dump_walk.specs.Steps.{Takes};
 
 use crate::cursor::{Cursor, Left, Step};
@@ -40,13 +40,15 @@ pub fn nested_in<'a>(
     place: Place,
 ) -> Result<Option<Nested<'a>>, AllocError>
     ensures { IfOk result (λ nested. IfSome nested (λ n.
-        (0 < place.documents) × StandAt contents.now n.before n.octets.now)) }
+        (0 < place.documents)
+        × HoldsBehind (tag_name header.now.class header.now.tag) contents.now n.before n.octets.now)) }
 {
     if !place.shows_inside() {
         return Ok(None);
     }
-    match octets_inside(header, contents, place.held) {
-        Some(nested) if hold(alloc, nested.octets, place.held)? => Ok(Some(nested)),
+    let held = place.held();
+    match octets_inside(header, contents, held) {
+        Some(nested) if hold(alloc, nested.octets, held)? => Ok(Some(nested)),
         _ => Ok(None),
     }
 }
@@ -85,7 +87,8 @@ fn has_likely_type(header: &Header) -> bool {
 // The octets of a string which holds this, in which encodings may stand: those of an OCTET STRING, and of a BIT STRING
 // without unused bits.
 fn octets_inside<'a>(header: &Header, contents: &'a [u8], held: Held) -> Option<Nested<'a>>
-    ensures { IfSome result (λ h. StandAt contents.now h.before h.octets.now) }
+    ensures { IfSome result (λ h.
+        HoldsBehind (tag_name header.now.class header.now.tag) contents.now h.before h.octets.now) }
 {
     let is_guess = held == Held::Anything;
     match (universal_tag(header), contents) {

@@ -1,10 +1,10 @@
 // The pieces of octets, read once for lines and for JSON.
-ghost use Rattle.std.specs.Prelude.{◌≡◌, ◌↔◌, ◌+◌, ◌<◌, ◌≤◌, drop, false, length, string_bytes, true, IfOk, IfSome, IsTrue};
+ghost use Rattle.std.specs.Prelude.{◌≡◌, ◌↔◌, ◌+◌, ◌<◌, ◌≤◌, false, length, string_bytes, true, IfOk, IsTrue};
 ghost use Rattle.asn1_headers.specs.Front.{HasIndefiniteForm, HasNoHeader, IsAtFront};
 ghost use Rattle.asn1_headers.specs.Indefinite.{begins_with_end};
 ghost use Rattle.dump_walk.specs.Headers.{is_stray_form};
 ghost use Rattle.dump_values.specs.Tags.{is_gone_into};
-ghost use Rattle.dump_walk.specs.PieceFields.{AreNamesOf};
+ghost use Rattle.dump_walk.specs.declared.piece.PieceKind.TheVariants.{EndOfContents};
 ghost use Rattle.dump_walk.specs.Pieces.{IsFirstPiece, IsLeafMeaning, IsNameless, IsOpenedFault, IsPiece, kind_contents, kind_header, kind_indefinite, kind_type_name};
 
 use crate::cursor::{Left, Step};
@@ -118,18 +118,23 @@ impl<'a> Piece<'a> {
     }
 
     // The names of the field that it is, if it is one and they are shown.
-    pub fn names(&self, shapes: &Shapes) -> Option<Named>
-        ensures { IfSome result (AreNamesOf shapes.now self.now) }
-    {
-        if self.place.is_plain {
+    pub fn names(&self, shapes: &Shapes) -> Option<Named> {
+        if self.place.style.is_plain {
             return None;
         }
-        let spot = self.place.spot?;
+        let spot = self.place.spot()?;
         match &self.kind {
             PieceKind::EndOfContents(_) | PieceKind::Unreadable(_) => None,
             PieceKind::Cut(_, _) | PieceKind::Opened(_, _, _) => shapes.names_of(spot, b""),
             PieceKind::Leaf(_, contents, _) => shapes.names_of(spot, contents),
         }
+    }
+
+    // Whether it is end-of-contents octets that are there.
+    pub fn is_end(&self) -> bool
+        ensures { IsTrue result ↔ (self.now.kind ≡ EndOfContents 2) }
+    {
+        matches!(self.kind, PieceKind::EndOfContents(2))
     }
 
     // Whether it is a whole string that is constructed.
@@ -150,7 +155,7 @@ impl<'a> Piece<'a> {
 
     // The bits of it that are set, with their names, if its type has names for bits.
     pub fn set_bits(&self, alloc: Global, shapes: &Shapes) -> Result<Vec<SetBit>, AllocError> {
-        match (self.place.leaf, self.bits()) {
+        match (self.place.leaf_type(), self.bits()) {
             (Some(leaf), Some(bits)) => shapes.set_bits(alloc, leaf, bits.count, &bits.octets),
             _ => Ok(Vec::new(alloc)),
         }
@@ -343,7 +348,7 @@ fn opened_fault(
 ) -> Result<Option<Fault>, AllocError>
     requires { IsAtFront left.now header.now }
     ensures { IfOk result (λ fault. (front : IsAtFront left.now header.now) →
-        IsOpenedFault (is_stray_form header.now.constructed (drop (length front.identifier) left.now)) offset fault) }
+        IsOpenedFault (is_stray_form header.now.constructed front.len) offset fault) }
 {
     if has_stray_form(left, header) {
         return Ok(Some(stray_fault(alloc, offset)?));
@@ -406,7 +411,7 @@ fn read_leaf(
     requires whole { header.now.size + header.now.announced ≤ length left.now }
     requires closed { is_gone_into header.now.class header.now.constructed header.now.tag ≡ false }
     ensures { IfOk result (λ read. (front : IsAtFront left.now header.now) →
-        IsLeafMeaning left.now header.now (drop (length front.identifier) left.now) offset read.value read.fault) }
+        IsLeafMeaning left.now header.now front.len offset read.value read.fault) }
 {
     if has_stray_form(left, header) {
         return Ok(Read {

@@ -2,7 +2,8 @@
 ghost use Rattle.std.specs.Prelude.{◌≡◌, ◌+◌, ◌<◌, suc, IfOk, false, true, if◌then◌else◌};
 ghost use Rattle.dump_walk.specs.Fronts.{is_too_deep};
 
-use crate::style::{Known, Style};
+use crate::fields::{Around, Field};
+use crate::style::Style;
 use crate::sum::checked_sum;
 use dump_shapes::{Held, LeafType, Spot, ValueRule};
 use dump_values::leaf::ContentsType;
@@ -22,45 +23,13 @@ pub struct Place {
     pub depth: usize,
     // how many documents are shown inside one another in them
     pub documents: usize,
-    // whether octets are written whole
-    pub is_full: bool,
-    // the most levels that may be around a block that is shown, if there is a most
-    pub most_depth: Option<usize>,
-    // whether fields have no names
-    pub is_plain: bool,
     // whether they stand in a string that is constructed
     pub is_segment: bool,
-    // which fields they are, as far as what is around them says it, and which field the one that stands here is
+    pub style: Style,
+    // what says which fields they are
     pub around: Around,
-    pub spot: Option<Spot>,
-    // its type, if that has no parts
-    pub leaf: Option<LeafType>,
-    // what its octets are, if it is a string
-    pub held: Held,
-}
-
-// What says which fields blocks are.
-#[derive(Clone, Copy, Drop)]
-pub enum Around {
-    // nothing: they have no names
-    Nothing,
-    // a document, whose shape may be known
-    Document(Option<u16>),
-    // a string that is this field
-    String(Spot),
-    // nothing: there is one block, which is this field
-    Alone(Spot),
-}
-
-impl Around {
-    // What says which fields the blocks of a document are.
-    fn of(style: Style) -> Around {
-        match style.known {
-            Known::Nothing => Around::Document(None),
-            Known::Shape(shape) => Around::Document(Some(shape)),
-            Known::Field(spot) => Around::Alone(spot),
-        }
-    }
+    // which field the one is that stands here, if it is one
+    pub field: Option<Field>,
 }
 
 // The place of the document itself.
@@ -68,7 +37,7 @@ pub fn outermost(style: Style) -> Place
     ensures outside { result.is_inside ≡ false }
     ensures base { result.base ≡ 0 }
     ensures depth { result.depth ≡ 0 }
-    ensures most { result.most_depth ≡ style.most_depth }
+    ensures style { result.style ≡ style }
     ensures documents { result.documents ≡ (if style.is_flat then 0 else 8) }
 {
     Place {
@@ -76,14 +45,10 @@ pub fn outermost(style: Style) -> Place
         base: 0,
         depth: 0,
         documents: if style.is_flat { 0 } else { MOST_DOCUMENTS },
-        is_full: style.is_full,
-        most_depth: style.most_depth,
-        is_plain: style.is_plain,
         is_segment: false,
-        around: Around::of(style),
-        spot: None,
-        leaf: None,
-        held: Held::Anything,
+        style,
+        around: Around::of(style.known),
+        field: None,
     }
 }
 
@@ -92,36 +57,30 @@ impl Place {
     pub fn shows_inside(self) -> bool
         ensures { result ≡ true → 0 < self.documents }
     {
-        let is_deep = match self.most_depth {
+        let is_deep = match self.style.most_depth {
             Some(most) => most <= self.depth,
             None => false,
         };
         self.documents > 0 && !is_deep
     }
 
-    // The place of an encoding that stands so many levels further in, maybe in a string, and is this field of this
-    // type, a string of which holds this.
+    // The place of an encoding that stands so many levels further in, maybe in a string, and is this field.
     pub fn deeper(
         self,
         levels: usize,
         is_segment: bool,
-        spot: Option<Spot>,
-        leaf: Option<LeafType>,
-        held: Held,
+        field: Option<Field>,
     ) -> Result<Place, AllocError>
         ensures same { IfOk result (λ p. p.is_inside ≡ self.is_inside) }
         ensures base { IfOk result (λ p. p.base ≡ self.base) }
         ensures depth { IfOk result (λ p. p.depth ≡ self.depth + levels) }
         ensures documents { IfOk result (λ p. p.documents ≡ self.documents) }
-        ensures most { IfOk result (λ p. p.most_depth ≡ self.most_depth) }
-        ensures spot { IfOk result (λ p. p.spot ≡ spot) }
+        ensures style { IfOk result (λ p. p.style ≡ self.style) }
     {
         Ok(Place {
             depth: checked_sum(self.depth, levels)?,
             is_segment,
-            spot,
-            leaf,
-            held,
+            field,
             ..self
         })
     }
@@ -133,7 +92,7 @@ impl Place {
         ensures inside { IfOk result (λ p. p.is_inside ≡ true) }
         ensures base { IfOk result (λ p. p.base ≡ offset) }
         ensures depth { IfOk result (λ p. p.depth ≡ suc self.depth) }
-        ensures most { IfOk result (λ p. p.most_depth ≡ self.most_depth) }
+        ensures style { IfOk result (λ p. p.style ≡ self.style) }
         ensures fewer { IfOk result (λ p. self.documents ≡ suc p.documents) }
     {
         Ok(Place {
@@ -142,22 +101,42 @@ impl Place {
             depth: checked_sum(self.depth, 1)?,
             documents: self.documents - 1,
             is_segment: false,
-            around: match self.spot {
+            around: match self.spot() {
                 Some(spot) => Around::String(spot),
                 None => Around::Nothing,
             },
-            spot: None,
-            leaf: None,
-            held: Held::Anything,
+            field: None,
             ..self
         })
     }
-}
 
-impl Place {
+    // Which field the one is that stands here, if it is one.
+    pub fn spot(self) -> Option<Spot> {
+        match self.field {
+            Some(field) => Some(field.spot),
+            None => None,
+        }
+    }
+
+    // Its type, if that is known and has no parts.
+    pub fn leaf_type(self) -> Option<LeafType> {
+        match self.field {
+            Some(field) => field.leaf,
+            None => None,
+        }
+    }
+
+    // What its octets are, if it is a string.
+    pub fn held(self) -> Held {
+        match self.field {
+            Some(field) => field.held,
+            None => Held::Anything,
+        }
+    }
+
     // Of which type the contents octets of a primitive encoding here are.
     pub fn contents_type(self) -> ContentsType {
-        match self.leaf {
+        match self.leaf_type() {
             Some(leaf) if leaf.rule == ValueRule::Address => ContentsType::Address,
             Some(leaf) => ContentsType::Known(leaf.tag),
             None => ContentsType::OfTag,
@@ -166,7 +145,7 @@ impl Place {
 
     // Whether a primitive encoding here is a list of named bits (X.680 22.2).
     pub fn is_bit_list(self) -> bool {
-        match self.leaf {
+        match self.leaf_type() {
             Some(leaf) => leaf.rule == ValueRule::Named,
             None => false,
         }

@@ -1,8 +1,7 @@
 // Constructed strings, which hold their octets in segments.
 ghost use Rattle.std.specs.Prelude.{◌≡◌, ℕ, List, IfOk, IsTrue, MatchOption, ◌↔◌, false, true};
 ghost use Rattle.asn1_headers.specs.declared.header.ASN1Class.TheVariants.{Universal};
-ghost use Rattle.dump_walk.specs.Segments.{AreSegmentsOf, HaveNoSegments, Joins, JoinsBits, segment_tag as segment_tag_is};
-ghost use Rattle.dump_walk.specs.Steps.{HasNoSegment, IsSegment};
+ghost use Rattle.dump_walk.specs.Segments.{AreSegmentsOf, HasNoSegment, HaveNoSegments, IsSegment, Joins, JoinsBits, segment_tag as segment_tag_is};
 
 use crate::cursor::{Cursor, Left, Step};
 use crate::element_header::{size_of, whole_header};
@@ -49,8 +48,9 @@ fn join_next(
     joined: &mut Vec<u8>,
 ) -> Result<Option<Step>, AllocError>
     ensures { IfOk result (λ found. MatchOption found
-        (HasNoSegment tag left.entry joined.old.items)
-        (λ step. IsSegment tag left.entry step joined.old.items joined.new.items)) }
+        (HasNoSegment tag left.entry.octets.now left.entry.is_indefinite joined.old.items)
+        (λ step. IsSegment tag left.entry.octets.now left.entry.is_indefinite step
+        joined.old.items joined.new.items)) }
 {
     if left.begins_with_end() {
         return Ok(Some(Step::Out(2)));

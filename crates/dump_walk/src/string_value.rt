@@ -2,8 +2,7 @@
 ghost use Rattle.std.specs.Prelude.{◌≡◌, ℕ, List, IfOk, MatchOption, true};
 ghost use Rattle.asn1_headers.specs.Front.{IsAtFront};
 ghost use Rattle.asn1_headers.specs.declared.header.ASN1Class.TheVariants.{Universal};
-ghost use Rattle.dump_walk.specs.StringOctets.{AreOctetsOf, IsStringAnswer, is_string_tag as is_string_tag_is};
-ghost use Rattle.dump_walk.specs.StringSteps.{HasNoPiece, HasPiece};
+ghost use Rattle.dump_walk.specs.StringOctets.{AreInNoPiece, AreInOnePiece, AreOctetsOf, IsStringAnswer, is_string_tag as is_string_tag_is};
 
 use crate::element_header::{find_header, has_stray_form};
 use crate::segments::joined_segments;
@@ -84,8 +83,8 @@ fn contents_in_one_piece(
 ) -> Result<Option<Vec<u8>>, AllocError>
     requires { IsAtFront element.now header.now }
     ensures { IfOk result (λ found. MatchOption found
-        (HasNoPiece tag header.now element.now)
-        (λ contents. HasPiece tag header.now element.now contents.items)) }
+        (AreInNoPiece element.now tag header.now header.now.constructed)
+        (λ contents. AreInOnePiece element.now tag header.now header.now.constructed contents.items)) }
 {
     let (_, contents) = element.split_at(header.size);
     if header.constructed {

@@ -1,9 +1,10 @@
 -- For `block::block_at`: its loop begins with its invariant, keeps it and ends, and what it returns is right.
-use Rattle.std.proofs.Common.{[], ◌≡◌, ap, arith, suc}
+use Rattle.std.proofs.Common.{[], ap, arith}
 use Rattle.std.proofs.lemmas.Result.{IfOk-weaker}
-use Rattle.dump_walk.specs.ByOffsetSteps.{StandsInside}
+use Rattle.dump_walk.specs.ByOffsetSteps.{IsFound}
 use Rattle.dump_walk.specs.PieceSteps.{IsAhead}
 use Rattle.dump_walk.specs.Pieces.{Passes}
+use Rattle.dump_walk.specs.declared.block.Found.TheVariants.{Passed, Within}
 use Rattle.dump_walk.proofs.ByOffset.{Finds-here, Finds-inside, Finds-none, Finds-passed, HasPassed-none, SearchedTo-next}
 use Rattle.dump_walk.proofs.block.+block_at.Goals as goal
 
@@ -26,49 +27,34 @@ returns-then-has_row_at t c =
     (λ found is. Finds-here c.args.place c.args.octets.now c.args.offset c.loop-walk.walk c.next.new.self
     c.loop-walk.invariant piece p found there is) c.block_of.ensures
 
-pub returns-then-offset-piece : goal.returns-then-offset-piece
-returns-then-offset-piece t c =
-    let piece = c.in-Some.piece in
-    let p : Passes c.loop-walk.walk c.next.new.self piece = rw c.in-Some.is at c.in_ok-piece.ensures.passes in
-    Finds-passed c.args.place c.args.octets.now c.args.offset c.loop-walk.walk c.next.new.self c.loop-walk.invariant
-    piece p c.if-offset-piece.true
-
 pub block_at-requires : goal.block_at-requires
 block_at-requires t c =
     let piece = c.in-Some.piece in
     let p : Passes c.loop-walk.walk c.next.new.self piece = rw c.in-Some.is at c.in_ok-piece.ensures.passes in
-    let inside = c.in-Some-2.inside in
-    let fewer : piece.place.documents ≡ suc inside.place.documents =
-    rw c.in-Some-2.is at c.in_ok-inside.ensures.fewer in
+    let is : IsFound c.args.offset piece (Within c.in-Within.inside) = rw c.in-Within.is at c.in_ok-inside.ensures in
     let same = ap (λ z. z.documents) c.loop-walk.invariant.same_place in
-    omega (arith, fewer, p.documents, same)
+    omega (arith, is.1, p.documents, same)
 
-pub returns-in-Some-2 : goal.returns-in-Some-2
-returns-in-Some-2 t c =
+pub returns-in-Within : goal.returns-in-Within
+returns-in-Within t c =
     let piece = c.in-Some.piece in
     let p : Passes c.loop-walk.walk c.next.new.self piece = rw c.in-Some.is at c.in_ok-piece.ensures.passes in
-    let inside = c.in-Some-2.inside in
-    let stands : StandsInside piece c.args.offset inside = rw c.in-Some-2.is at c.in_ok-inside.ensures.inside in
+    let inside = c.in-Within.inside in
+    let is : IsFound c.args.offset piece (Within inside) = rw c.in-Within.is at c.in_ok-inside.ensures in
     IfOk-weaker c.block_at.result _ _
-    (λ found is. Finds-inside c.args.place c.args.octets.now c.args.offset c.loop-walk.walk c.next.new.self
-    c.loop-walk.invariant piece p inside found stands is) c.block_at.ensures
+    (λ found in_string. Finds-inside c.args.place c.args.octets.now c.args.offset c.loop-walk.walk c.next.new.self
+    c.loop-walk.invariant piece p inside found is.0 in_string) c.block_at.ensures
+
+pub returns-in-Passed : goal.returns-in-Passed
+returns-in-Passed t c =
+    let piece = c.in-Some.piece in
+    let p : Passes c.loop-walk.walk c.next.new.self piece = rw c.in-Some.is at c.in_ok-piece.ensures.passes in
+    let is : IsFound c.args.offset piece Passed = rw c.in-Passed.is at c.in_ok-inside.ensures in
+    Finds-passed c.args.place c.args.octets.now c.args.offset c.loop-walk.walk c.next.new.self c.loop-walk.invariant
+    piece p is
 
 pub loop-walk-preserved : goal.loop-walk-preserved
 loop-walk-preserved t c =
-    let piece = c.in-Some.piece in
-    let p : Passes c.loop-walk.walk c.next.new.self piece = rw c.in-Some.is at c.in_ok-piece.ensures.passes in
-    SearchedTo-next c.args.place c.args.octets.now c.args.offset c.loop-walk.walk c.next.new.self c.loop-walk.invariant
-    piece p (c.has_row_at.ensures.elsewhere c.if-has_row_at.false)
-
-pub loop-walk-preserved-in_default-2 : goal.loop-walk-preserved-in_default-2
-loop-walk-preserved-in_default-2 t c =
-    let piece = c.in-Some.piece in
-    let p : Passes c.loop-walk.walk c.next.new.self piece = rw c.in-Some.is at c.in_ok-piece.ensures.passes in
-    SearchedTo-next c.args.place c.args.octets.now c.args.offset c.loop-walk.walk c.next.new.self c.loop-walk.invariant
-    piece p (c.has_row_at.ensures.elsewhere c.if-has_row_at.false)
-
-pub loop-walk-preserved-in_default-2-2 : goal.loop-walk-preserved-in_default-2-2
-loop-walk-preserved-in_default-2-2 t c =
     let piece = c.in-Some.piece in
     let p : Passes c.loop-walk.walk c.next.new.self piece = rw c.in-Some.is at c.in_ok-piece.ensures.passes in
     SearchedTo-next c.args.place c.args.octets.now c.args.offset c.loop-walk.walk c.next.new.self c.loop-walk.invariant

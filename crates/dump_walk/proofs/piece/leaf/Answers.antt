@@ -1,7 +1,7 @@
 -- For `piece::leaf`: what it returns is right.
-use Rattle.std.proofs.Common.{◌+◌, drop, length, refl, slice_range}
-use Rattle.dump_walk.specs.Pieces.{meaning_of}
-use Rattle.dump_walk.proofs.Pieces.{IsJudgedAs-leaf, HasMeaningAs-leaf, AreFirstRules-whole, StartsWith-whole}
+use Rattle.std.proofs.Common.{refl}
+use Rattle.std.proofs.lemmas.Option.{IfSome_then}
+use Rattle.dump_walk.proofs.Pieces.{IsRead-leaf, StartsWith-read}
 use Rattle.dump_walk.proofs.piece.leaf.Goals as goal
 
 pub returns : goal.returns
@@ -10,20 +10,18 @@ returns c =
     let left = c.args.left.now in
     let offset = c.args.offset in
     let header = c.args.header in
-    let rules = c.in_ok-breaches.breaches.rules.items in
-    let spare = c.in_ok-breaches.breaches.has_spare_bits in
-    let first = AreFirstRules-whole left header rules r.whole c.in_ok-breaches.ensures.rules in
+    let breaches = c.in_ok-breaches.breaches in
+    let rules = breaches.rules.items in
+    let spare = breaches.has_spare_bits in
+    let found = c.in_ok-breaches.ensures in
     let read = c.in_ok-value.ensures r.front in
-    let value = c.in_ok-value.field-0.value in
-    let meaning = meaning_of (slice_range left header.size (header.size + header.announced)) value in
     record {
-      starts = λ depth. StartsWith-whole left offset depth rules spare meaning header c.size_of.result
-          c.step_of-step.result _ r.front r.form
-          (IsJudgedAs-leaf left offset depth rules spare meaning header value _ r.front r.whole r.closed read)
-          (HasMeaningAs-leaf left offset depth rules spare header value _ (drop (length r.front.identifier) left) read)
-          first c.in_ok-breaches.ensures.list c.step_of-step.ensures c.size_of.ensures;
+      starts = λ depth. StartsWith-read left offset depth rules spare _ header c.size_of.result c.step_of-step.result _
+          r.front r.form
+          (IsRead-leaf left offset depth rules spare header _ _ r.front r.whole r.closed found.rules found.list read)
+          c.step_of-step.ensures c.size_of.ensures;
       kind = (r.front, r.whole, r.closed, refl, read);
       offset_is = refl;
       place_is = refl;
-      holding = c.in_ok-nested.ensures;
+      holding = IfSome_then c.in_ok-nested.nested c.in_ok-nested.ensures (λ n holds. (holds.0, r.whole, holds.1));
     }

@@ -1,7 +1,7 @@
 -- For `piece::opened`: what it returns is right.
-use Rattle.std.proofs.Common.{ap, inl, refl, slice_range}
+use Rattle.std.proofs.Common.{ap, refl, slice_range}
 use Rattle.std.specs.Prelude.{None}
-use Rattle.dump_walk.proofs.Pieces.{IsJudgedAs-opened, AreFirstRules-whole, StartsWith-whole}
+use Rattle.dump_walk.proofs.Pieces.{IsRead-opened, StartsWith-read}
 use Rattle.dump_walk.proofs.piece.opened.Goals as goal
 
 pub returns : goal.returns
@@ -10,15 +10,16 @@ returns c =
     let left = c.args.left.now in
     let offset = c.args.offset in
     let header = c.args.header in
-    let rules = c.in_ok-breaches.breaches.rules.items in
-    let spare = c.in_ok-breaches.breaches.has_spare_bits in
-    let first = AreFirstRules-whole left header rules r.whole c.in_ok-breaches.ensures.rules in
+    let breaches = c.in_ok-breaches.breaches in
+    let rules = breaches.rules.items in
+    let spare = breaches.has_spare_bits in
+    let found = c.in_ok-breaches.ensures in
     let fault = c.in_ok-fault.ensures r.front in
     record {
-      starts = λ depth. StartsWith-whole left offset depth rules spare None header c.size_of-size.result
+      starts = λ depth. StartsWith-read left offset depth rules spare None header c.size_of-size.result
           c.step_of-step.result _ r.front r.form
-          (IsJudgedAs-opened left offset depth rules spare header _ r.front r.whole r.opened fault) (inl r.opened) first
-          c.in_ok-breaches.ensures.list c.step_of-step.ensures c.size_of-size.ensures;
+          (IsRead-opened left offset depth rules spare header _ r.front r.whole r.opened found.rules found.list fault)
+          c.step_of-step.ensures c.size_of-size.ensures;
       kind = (
         r.front,
         r.whole,

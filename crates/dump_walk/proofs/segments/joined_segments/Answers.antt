@@ -1,10 +1,16 @@
--- For `segments::joined_segments`: its loop keeps its invariant, what it returns is right, and its loop ends.
-use Rattle.std.proofs.Common.{◌<◌, ◌≤◌, arith, refl}
-use Rattle.dump_walk.specs.Segments.{no_more}
-use Rattle.dump_walk.specs.Steps.{HasNoSegment, IsSegment, to_go}
+-- For `segments::joined_segments`: its loop begins with its invariant, keeps it and ends, and what it returns is right.
+use Rattle.std.proofs.Common.{◌<◌, ◌≤◌, arith, ap, length, reverse, rules, subst, ◌∙◌}
+use Rattle.dump_walk.specs.Segments.{BeginWithSegments, HasNoSegment, IsSegment, none_yet}
+use Rattle.dump_walk.specs.Steps.{to_go}
 use Rattle.dump_walk.proofs.Cursors.{to_go-left_le, to_go-step_lt}
-use Rattle.dump_walk.proofs.JoinedSegments.{AreLeft-back, AreLeft-before_segment, AreLeft-behind_segment, AreLeft-no_segment, Takes-segment, AreLeft-on}
+use Rattle.dump_walk.proofs.JoinedSegments.{BeginWithSegments-at, HasJoined-left, HasJoined-next, Takes-segment, slice_range-left}
 use Rattle.dump_walk.proofs.segments.joined_segments.Goals as goal
+
+pub loop-left-init : goal.loop-left-init
+loop-left-init c = record {
+  same_octets = c.in_ok-cursor.ensures.octets;
+  begin = none_yet c.in_ok-cursor.ensures.offset (ap reverse c.in_ok-cursor.ensures.ends) (search rules);
+}
 
 pub loop-left-smaller : goal.loop-left-smaller
 loop-left-smaller c =
@@ -12,49 +18,63 @@ loop-left-smaller c =
     let m = c.next.new.self in
     let n = c.go.new.self in
     let e = c.in-Some.ensures in
-    let segment : IsSegment c.args.tag c.in-Some.left c.in-Some-2.step c.loop-left.joined.items
+    let left = c.in-Some.left in
+    let step = c.in-Some-2.step in
+    let segment : IsSegment c.args.tag left.octets.now left.is_indefinite step c.loop-left.joined.items
     c.join_next.new.joined.items =
     rw c.in-Some-2.is at c.in_ok-step.ensures in
-    let takes = Takes-segment c.args.tag c.in-Some.left c.in-Some-2.step _ _ segment in
-    let less : to_go n < to_go m = to_go-step_lt m n c.in-Some.left c.in-Some-2.step e.left takes c.in_ok-go.ensures in
+    let takes = Takes-segment c.args.tag left step _ _ segment in
+    let less : to_go n < to_go m = to_go-step_lt m n left step e.left takes c.in_ok-go.ensures in
     let fewer : to_go m ≤ to_go k = to_go-left_le k m e.octets e.offset e.ended in
     omega (arith, less, fewer)
 
 pub loop-left-preserved : goal.loop-left-preserved
-loop-left-preserved c after =
+loop-left-preserved c =
     let tag = c.args.tag in
-    let k = c.loop-left.cursor in
+    let contents = c.args.contents.now in
     let m = c.next.new.self in
-    let n = c.go.new.self in
     let e = c.in-Some.ensures in
-    let segment : IsSegment tag c.in-Some.left c.in-Some-2.step c.loop-left.joined.items c.join_next.new.joined.items =
+    let left = c.in-Some.left in
+    let step = c.in-Some-2.step in
+    let segment : IsSegment tag left.octets.now left.is_indefinite step c.loop-left.joined.items
+    c.join_next.new.joined.items =
     rw c.in-Some-2.is at c.in_ok-step.ensures in
-    let same = c.loop-left.invariant after in (
-      λ later.
-          same.0 (AreLeft-back tag k m _ after e.octets e.offset e.ended
-          (AreLeft-before_segment tag m n c.in-Some.left c.in-Some-2.step _ _ after e.left segment c.in_ok-go.ensures
-          later)),
-      λ all.
-          AreLeft-behind_segment tag m n c.in-Some.left c.in-Some-2.step _ _ after e.left segment c.in_ok-go.ensures
-          (AreLeft-on tag k m _ after e.octets e.offset e.ended (same.1 all)),
-    )
+    HasJoined-next tag contents c.args.is_indefinite m left e.left _
+    (HasJoined-left tag contents c.args.is_indefinite c.loop-left.cursor m _ e.octets e.offset e.ended
+    c.loop-left.invariant) c.go.new.self step _ segment c.in_ok-go.ensures
 
 pub returns-in_default-2 : goal.returns-in_default-2
-returns-in_default-2 c after all =
+returns-in_default-2 c =
     let tag = c.args.tag in
-    let k = c.loop-left.cursor in
+    let contents = c.args.contents.now in
     let m = c.next.new.self in
     let e = c.in-Some.ensures in
-    let none : HasNoSegment tag c.in-Some.left c.loop-left.joined.items =
+    let left = c.in-Some.left in
+    let at = e.left in
+    let before = c.loop-left.joined.items in
+    let none : HasNoSegment tag left.octets.now left.is_indefinite before =
     rw c.in_default-2.is at c.in_ok-step.ensures in
-    AreLeft-no_segment tag m c.in-Some.left c.loop-left.joined.items after e.left none
-    (AreLeft-on tag k m _ after e.octets e.offset e.ended ((c.loop-left.invariant after).1 all))
+    let h = HasJoined-left tag contents c.args.is_indefinite c.loop-left.cursor m _ e.octets e.offset e.ended
+    c.loop-left.invariant in
+    let is = slice_range-left tag contents c.args.is_indefinite m left at before h in
+    record {
+      offset = m.offset;
+      end = at.end;
+      around = at.around;
+      before = before;
+      begin = BeginWithSegments-at tag contents c.args.is_indefinite m left at before h;
+      not_ended = λ definite. subst (λ z. 0 < length z) is (at.some (at.form ∙ definite));
+      no_segment = subst (λ z. HasNoSegment tag z at.end.is_indefinite before) is
+          (subst (λ z. HasNoSegment tag left.octets.now z before) at.form none);
+    }
 
 pub returns : goal.returns
 returns c =
-    let tag = c.args.tag in
-    let k = c.loop-left.cursor in
     let m = c.next.new.self in
     let e = c.next.ensures in
-    (c.loop-left.invariant _).0
-    (AreLeft-back tag k m _ _ e.octets e.offset e.ended (no_more c.in_default.ensures.none refl))
+    let h = HasJoined-left c.args.tag c.args.contents.now c.args.is_indefinite c.loop-left.cursor m _ e.octets e.offset
+    e.ended c.loop-left.invariant in (
+      m.offset,
+      subst (λ z. BeginWithSegments c.args.tag c.args.contents.now c.args.is_indefinite m.offset z
+          c.loop-left.joined.items) c.in_default.ensures.none h.begin,
+    )

@@ -1,12 +1,13 @@
 -- For the cycle `encodings` of `encodings`: its loop keeps its invariant and what it returns is right.
-use Rattle.std.proofs.Common.{◌≡◌, ◌+◌, [], append-nil, arith, refl, sym}
+use Rattle.std.proofs.Common.{◌≡◌, ◌+◌, [], ap, append-nil, arith, refl, sym}
 use Rattle.std.specs.Prelude.{None}
 use Rattle.std.specs.Option.{option_or}
 use Rattle.std.proofs.lemmas.Result.{on_ok_weaker}
 use Rattle.dump_lines.specs.Dump.{IsTextOf}
 use Rattle.dump_lines.specs.Steps.{IsInner, IsOwn, mark_offsets, shown_piece}
-use Rattle.dump_walk.specs.Pieces.{Passes, kind_header}
+use Rattle.dump_walk.specs.Pieces.{Passes, kind_header, kind_type_name}
 use Rattle.dump_walk.specs.PieceSteps.{IsAhead}
+use Rattle.dump_walk.proofs.Positions.{StandAt-behind}
 use Rattle.dump_rows.proofs.Printed.{IsPrinted-append, IsPrinted-nil, IsPrinted-weaker}
 use Rattle.dump_lines.proofs.Shown.{IsInner-none, IsInner-whole, IsOwn-put, IsWhole-shown, ShownTo, ShownTo-append, ShownTo-none}
 use Rattle.dump_lines.proofs.document.Dumper.+encodings.Goals as goal
@@ -53,7 +54,8 @@ push_nested-returns g t c = λ left holding.
     let piece = c.args.piece.now in
     let nested = c.in-Some.nested in
     let i = c.in_ok-inside.ensures in
-    let (documents, stands) = rw c.in-Some.is at holding in
+    let (documents, whole, holds) = rw c.in-Some.is at holding in
+    let stands = StandAt-behind (kind_type_name piece.kind) _ nested.octets.now nested.before holds in
     let base : c.in_ok-inside.inside.base
     ≡ piece.place.base + (piece.offset + (kind_header piece.kind + nested.before)) =
     omega (
@@ -66,7 +68,7 @@ push_nested-returns g t c = λ left holding.
     ) in
     IsPrinted-weaker g.W.Write.contents _ _ c.args.printer.now c.push_encodings.new.printer
     (λ text. IsInner-whole c.args.self.now.is_strict piece c.in_ok-inside.inside left nested.octets.now _ _ _ text
-    nested.before stands i.inside base i.depth i.most) c.in_ok-push_encodings.ensures
+    nested.before stands i.inside base i.depth (ap (λ z. z.most_depth) i.style)) c.in_ok-push_encodings.ensures
 
 pub push_piece-returns : goal.push_piece-returns
 push_piece-returns g t c =
@@ -77,7 +79,7 @@ push_piece-returns g t c =
     let after = mark_offsets c.push_nested.new.marks.items in
     on_ok_weaker c.push_nested.result
     (λ inside left holding.
-    IsPrinted-append g.W.Write.contents (IsTextOf piece.place.most_depth (shown_piece piece))
+    IsPrinted-append g.W.Write.contents (IsTextOf piece.place.style.most_depth (shown_piece piece))
     (IsInner strict piece left middle after) (IsOwn strict piece left before after)
     c.args.printer.now c.push_row.new.printer c.push_nested.new.printer
     (λ first rest line inner. IsOwn-put strict piece left before middle after first rest c.in_ok-keep_mark.ensures

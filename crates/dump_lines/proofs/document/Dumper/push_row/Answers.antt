@@ -10,7 +10,7 @@ use Rattle.dump_lines.proofs.document.Dumper.push_row.Goals as goal
 pub returns-then-is_too_deep : goal.returns-then-is_too_deep
 returns-then-is_too_deep g c =
     let piece = c.args.piece.now in
-    let most = piece.place.most_depth in
+    let most = piece.place.style.most_depth in
     let deep : is_too_deep most piece.place.depth ≡ true = sym c.is_too_deep.ensures ∙ c.if-is_too_deep.true in
     IsPrinted-nil g.W.Write.contents (IsTextOf most (shown_piece piece)) c.args.printer.now
     (subst (λ z. IsTextUnless z (shown_piece piece) []) (sym deep) refl)
@@ -18,7 +18,7 @@ returns-then-is_too_deep g c =
 pub returns : goal.returns
 returns g c =
     let piece = c.args.piece.now in
-    let most = piece.place.most_depth in
+    let most = piece.place.style.most_depth in
     let row = c.row_of.result in
     let deep : is_too_deep most piece.place.depth ≡ false = sym c.is_too_deep.ensures ∙ c.if-is_too_deep.false in
     IsPrinted-weaker g.W.Write.contents (IsLine (IsRowLine row)) (IsTextOf most (shown_piece piece))

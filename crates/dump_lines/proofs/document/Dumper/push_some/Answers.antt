@@ -19,5 +19,6 @@ returns g c =
     c.push_encodings.new.printer) c.new-marks.ensures.items c.in_ok-first.ensures in
     IsDumpOfSome-put g.W.Write.contents strict c.args.style.most_depth c.outermost.result octets first marks
     c.args.printer.now c.push_encodings.new.printer c.push_problems.new.printer c.verdict_on.result o.outside o.base
-    o.depth o.most (c.verdict_on.ensures ∙ ap (λ z. verdict_of (mark_offsets z ++ first)) c.deref-2.ensures.value) these
+    o.depth (ap (λ z. z.most_depth) o.style)
+    (c.verdict_on.ensures ∙ ap (λ z. verdict_of (mark_offsets z ++ first)) c.deref-2.ensures.value) these
     c.in_ok-push_problems.ensures

@@ -1,20 +1,19 @@
 -- For `walk::Walk::next`: what it returns is right.
-use Rattle.std.proofs.Common.{◌∙◌, ◌<◌, ◌≤◌, ◌+◌, ap, arith, length, refl, subst, sym}
-use Rattle.dump_walk.specs.Fronts.{StandAt}
-use Rattle.dump_walk.specs.PieceFields.{IsSpotIn}
+use Rattle.std.proofs.Common.{◌∙◌, ◌<◌, ◌≤◌, ◌+◌, ap, arith, length, refl, slice_range, subst, sym}
 use Rattle.dump_walk.specs.Pieces.{IsHolding, IsKind, fault_offset, front_of}
 use Rattle.dump_walk.specs.Steps.{to_go}
-use Rattle.dump_walk.proofs.Walks.{IsAhead-back, IsAhead-none, Takes-next, IsAhead-step, StandAt-left}
-use Rattle.dump_walk.proofs.Cursors.{length-ends, octets-step, to_go-left_le, to_go-step_lt}
+use Rattle.dump_walk.proofs.Walks.{IsAhead-back, IsAhead-none, Takes-next, IsAhead-step, AreFronts-here}
+use Rattle.dump_walk.proofs.Cursors.{length-ends, to_go-left_le, to_go-step_lt}
 use Rattle.dump_walk.proofs.walk.Walk.next.Goals as goal
 
-pub returns-in_default-clause-passes : goal.returns-in_default-clause-passes
-returns-in_default-clause-passes c =
-    IsAhead-none c.args.self.now.cursor c.next.new.self c.next.ensures.octets c.next.ensures.offset c.next.ensures.ended
-    c.in_default.ensures.none
+pub returns-in_default : goal.returns-in_default
+returns-in_default c = record {
+  passes = IsAhead-none c.args.self.now.cursor c.next.new.self c.next.ensures.octets c.next.ensures.offset
+      c.next.ensures.ended c.in_default.ensures.none;
+}
 
-pub returns-clause-passes : goal.returns-clause-passes
-returns-clause-passes c =
+pub returns : goal.returns
+returns c =
     let k = c.args.self.now.cursor in
     let m = c.next.new.self in
     let n = c.go.new.self in
@@ -32,32 +31,29 @@ returns-clause-passes c =
     let less : to_go n < to_go m =
     to_go-step_lt m n left piece.step at (Takes-next m.offset levels left f piece.step own starts) goes in
     let no_more : to_go m ≤ to_go k = to_go-left_le k m e.octets e.offset e.ended in
-    let position = StandAt-left m.octets.now left.octets.now m.offset at.end.offset at.octets_are in
     record {
-      levels = levels;
-      left = left.octets.now;
-      ahead = λ later more ahead. IsAhead-back k m _ _ e.octets e.offset e.ended
-          (IsAhead-step m n left f piece.step own later more at starts goes ahead);
-      position = subst (λ z. StandAt k.octets.now z left.octets.now) (sym p.offset_is)
-          (subst (λ z. StandAt z m.offset left.octets.now) e.octets position);
-      kind = subst (λ z. IsKind left.octets.now z piece.kind piece.fault) (sym p.offset_is) p.kind;
-      inside = ap (λ z. z.is_inside) p.place_is ∙ h.same;
-      base = ap (λ z. z.base) p.place_is ∙ h.base;
-      depth = ap (λ z. z.depth) p.place_is ∙ (h.depth
-          ∙ ap (λ z. c.args.self.now.place.depth + z) (c.depth-depth.ensures ∙ length-ends m left at));
-      documents = ap (λ z. z.documents) p.place_is ∙ h.documents;
-      most = ap (λ z. z.most_depth) p.place_is ∙ h.most;
-      holding = subst (λ z. IsHolding left.octets.now piece.kind z piece.nested) (sym p.place_is) p.holding;
-      less = omega (arith, less, no_more);
-      same_octets = octets-step m n piece.step goes ∙ e.octets;
-      same_place = refl;
+      passes = record {
+        levels = levels;
+        end = at.end;
+        around = at.around;
+        left = left.octets.now;
+        here = λ fronts faults fs. IsAhead-back k m fronts faults e.octets e.offset e.ended
+            (AreFronts-here m k piece.offset at.end at.around fronts faults e.octets p.offset_is at.ends_are fs);
+        ahead = λ later more ahead. IsAhead-back k m _ _ e.octets e.offset e.ended
+            (IsAhead-step m n left f piece.step own later more at starts goes ahead);
+        left_is = at.octets_are
+            ∙ (ap (λ z. slice_range z m.offset at.end.offset) e.octets
+            ∙ ap (λ z. slice_range k.octets.now z at.end.offset) (sym p.offset_is));
+        kind = subst (λ z. IsKind left.octets.now z piece.kind piece.fault) (sym p.offset_is) p.kind;
+        inside = ap (λ z. z.is_inside) p.place_is ∙ h.same;
+        base = ap (λ z. z.base) p.place_is ∙ h.base;
+        depth = ap (λ z. z.depth) p.place_is ∙ (h.depth
+            ∙ ap (λ z. c.args.self.now.place.depth + z) (c.depth-depth.ensures ∙ length-ends m left at));
+        documents = ap (λ z. z.documents) p.place_is ∙ h.documents;
+        style = ap (λ z. z.style) p.place_is ∙ h.style;
+        holding = subst (λ z. IsHolding left.octets.now piece.kind z piece.nested) (sym p.place_is) p.holding;
+        less = omega (arith, less, no_more);
+        same_octets = goes.0 ∙ e.octets;
+        same_place = refl;
+      };
     }
-
-pub returns-clause-field : goal.returns-clause-field
-returns-clause-field c =
-    let h = c.in_ok-place.ensures in
-    let p = c.in_ok-piece.ensures in (
-      _,
-      ap (λ z. z.depth) p.place_is ∙ h.depth,
-      subst (IsSpotIn c.args.self.now.fields _) (sym (ap (λ z. z.spot) p.place_is ∙ h.spot)) c.in_ok-spot.ensures.spot,
-    )
