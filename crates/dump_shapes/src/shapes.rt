@@ -146,7 +146,10 @@ impl Shapes {
     /// Whether the field may be anything, so that its tag alone says its type.
     pub fn is_anything(&self, spot: Spot) -> bool {
         match self.shape(spot.of.shape) {
-            Some(shape) => matches!((shape.kind, spot.of.inside), (ShapeKind::Open, Inside::Nothing)),
+            Some(shape) => matches!(
+                (shape.kind, spot.of.inside),
+                (ShapeKind::Open, Inside::Nothing)
+            ),
             None => false,
         }
     }

@@ -276,7 +276,9 @@ impl Shape {
 
 // The tag of class Universal that a SEQUENCE has in place of its own (X.680 8.4), if the words say one.
 fn tagged_record(text: &'static str) -> Option<u8> {
-    let number = text.strip_prefix("[UNIVERSAL ")?.strip_suffix("] SEQUENCE")?;
+    let number = text
+        .strip_prefix("[UNIVERSAL ")?
+        .strip_suffix("] SEQUENCE")?;
     number.parse::<u8>().ok()
 }
 

@@ -46,6 +46,39 @@ pub struct Fields<'a> {
     walk: FieldWalk<'a>,
     // what says which fields they are that come next
     around: Around,
+    // the innermost encoding that is open and of which its tag alone says the type
+    own: Option<OwnFields<'a>>,
+}
+
+// How far the pieces of an encoding were gone over, as fields of the type that its tag says.
+#[derive(Drop)]
+struct OwnFields<'a> {
+    // how many encodings are around it
+    depth: usize,
+    walk: FieldWalk<'a>,
+}
+
+impl<'a> OwnFields<'a> {
+    // Inside an encoding with the tag, which says the shape.
+    fn of(
+        alloc: Global,
+        shapes: &'a Shapes,
+        depth: usize,
+        tag: Option<Tag>,
+        shape: u16,
+    ) -> Result<OwnFields<'a>, AllocError> {
+        let mut walk = FieldWalk::over(alloc, shapes, Some(shape));
+        walk.next(0, tag)?;
+        Ok(OwnFields { depth, walk })
+    }
+
+    // Which field the piece is that stands inside so many encodings, this one among them.
+    fn next(&mut self, depth: usize, tag: Option<Tag>) -> Result<Option<Spot>, AllocError> {
+        match depth.checked_sub(self.depth) {
+            Some(0) | None => Ok(None),
+            Some(inside) => self.walk.next(inside, tag),
+        }
+    }
 }
 
 impl<'a> Fields<'a> {
@@ -61,6 +94,7 @@ impl<'a> Fields<'a> {
             shapes,
             walk,
             around,
+            own: None,
         })
     }
 
@@ -79,14 +113,56 @@ impl<'a> Fields<'a> {
         } else {
             left.octets.first().map(|leading| Tag::of(*leading))
         };
-        let Some(spot) = self.walk.next(depth, tag)? else {
-            return Ok(None);
+        let spot = match self.walk.next(depth, tag)? {
+            Some(spot) => Some(spot),
+            None => self.next_own(depth, tag)?,
         };
-        Ok(Some(Field {
+        self.go_own(alloc, depth, tag, spot)?;
+        Ok(self.field_of(spot))
+    }
+
+    // The field that a piece is.
+    fn field_of(&self, spot: Option<Spot>) -> Option<Field> {
+        let spot = spot?;
+        Some(Field {
             spot,
             leaf: self.shapes.leaf_type(spot),
             held: self.shapes.held_in(spot),
-        }))
+        })
+    }
+
+    // Which field the piece is of an encoding of which its tag alone says the type.
+    fn next_own(&mut self, depth: usize, tag: Option<Tag>) -> Result<Option<Spot>, AllocError> {
+        match &mut self.own {
+            Some(own) => own.next(depth, tag),
+            None => Ok(None),
+        }
+    }
+
+    // Goes into the piece if its tag alone says its type, and leaves the one of these that has ended.
+    fn go_own(
+        &mut self,
+        alloc: Global,
+        depth: usize,
+        tag: Option<Tag>,
+        spot: Option<Spot>,
+    ) -> Result<(), AllocError> {
+        if let Some(shape) = self.own_shape(tag, spot) {
+            self.own = Some(OwnFields::of(alloc, self.shapes, depth, tag, shape)?);
+        } else if let Some(own) = &self.own
+            && own.depth >= depth
+        {
+            self.own = None;
+        }
+        Ok(())
+    }
+
+    // The shape that the tag of a piece says, where no field does.
+    fn own_shape(&self, tag: Option<Tag>, spot: Option<Spot>) -> Option<u16> {
+        match spot {
+            Some(spot) if !self.shapes.is_anything(spot) => None,
+            _ => self.shapes.own_shape(tag?),
+        }
     }
 
     // Begins an encoding that no other is around. In a document it is one of its own, which may have any shape: the
