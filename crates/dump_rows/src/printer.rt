@@ -67,7 +67,9 @@ impl<W: Write> Printer<W> {
     pub fn push(&mut self, row: &Row<'_>) -> Result<(), StreamFault>
         ensures { OnOk result (IsPrinted W.contents (IsLine (IsRowLine row.now)) self.old self.new) }
     {
-        let is_fold = row.has_rows_inside && row.depth < MOST_LEVELS;
+        let is_fold = matches!(self.look, Look::Page)
+            && row.has_rows_inside
+            && row.depth < MOST_LEVELS;
         self.begin(is_fold, row.fault.is_some(), Some(row))?;
         push_row_line(self.alloc, self.look, row, &mut self.line)?;
         push_end(self.look, is_fold, &mut self.line)?;
