@@ -19,8 +19,8 @@ from x690 import externals, nested
 
 MIXTURES = 50_000
 DEEP = [("SEQUENCEs", partial(nested, 0x30), "0500", "none"), ("SETs", partial(nested, 0x31), "0500", "none"),
-        ("explicit blocks", partial(nested, 0xA0), "010101", "{} BooleanValue"), ("EXTERNALs", externals, "0500", "none"),
-        ("EXTERNALs", externals, "010101", "{} BooleanValue")]
+        ("explicit blocks", partial(nested, 0xA0), "010101", "{} BooleanValue"),
+        ("EXTERNALs", externals, "0500", "none"), ("EXTERNALs", externals, "010101", "{} BooleanValue")]
 
 
 class Answered:

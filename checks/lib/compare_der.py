@@ -18,8 +18,8 @@ from x690 import externals, nested
 
 MIXTURES = 100_000
 DEEP = [("SEQUENCEs", partial(nested, 0x30), "0500", "true"), ("SETs", partial(nested, 0x31), "0500", "true"),
-        ("explicit blocks", partial(nested, 0xA0), "0500", "true"), ("SEQUENCEs", partial(nested, 0x30), "0501", "false"),
-        ("EXTERNALs", externals, "0500", "true")]
+        ("explicit blocks", partial(nested, 0xA0), "0500", "true"),
+        ("SEQUENCEs", partial(nested, 0x30), "0501", "false"), ("EXTERNALs", externals, "0500", "true")]
 
 
 class Answered:

@@ -54,14 +54,20 @@ pub Lists-none_of_der : (most o : ℕ) (x : List ℕ) → length x < most → le
 unfolding OwnRules-right_alone
 Lists-none_of_der zero o x less small d = absurd (omega (arith, less))
 Lists-none_of_der (suc most) o x less small (items, no_encodings) = none_left refl refl refl
-Lists-none_of_der (suc most) o x less small (items, more_encodings {first = first} {rest = rest} {items = more} w d ds) =
+Lists-none_of_der (suc most) o x less small
+    (items, more_encodings {first = first} {rest = rest} {items = more} w d ds) =
     let size : length x ≡ length first + length rest = ap length w ∙ length-append first rest in
     let small_first : length first < 2 ^ 64 = omega (arith, small, size) in
     let n : IsNext 0 x first rest = IsNext-der x first rest w small_first d in
     let e = n.encoding in
     let some = Encoding-not_empty first n.class n.constructed n.tag n.contents n.header e in
     let part : length first ≡ length e.identifier + (length e.len + length n.contents) =
-    omega (arith, ap length e.whole, length-append e.identifier (e.len ++ n.contents), length-append e.len n.contents) in
+    omega (
+      arith,
+      ap length e.whole,
+      length-append e.identifier (e.len ++ n.contents),
+      length-append e.len n.contents,
+    ) in
     let behind_len = IsLength-some e.len (length n.contents) e.length_octets in
     let whole : IsWhole first n.class n.constructed n.tag n.contents =
     IsWhole-der first n.class n.constructed n.tag n.contents n.header small_first e d in

@@ -151,7 +151,8 @@ ShownTo-append strict place octets old new piece first before middle after text 
     let f = front_of p.levels piece in
     let faults = fault_offset piece.fault in
     let more = shown_piece piece ∷ inner in
-    let most : piece.place.style.most_depth ≡ place.style.most_depth = ap (λ z. z.most_depth) p.style ∙ ap (λ z. z.style.most_depth) s.same_place in
+    let most : piece.place.style.most_depth ≡ place.style.most_depth =
+    ap (λ z. z.most_depth) p.style ∙ ap (λ z. z.style.most_depth) s.same_place in
     record {
       fronts = s.fronts ++ f ∷ [];
       faults = s.faults ++ faults;
@@ -223,7 +224,8 @@ IsInner-whole strict piece inside left octets first before after text n stands i
 pub IsOwn-put :
     (strict : Bool) (piece : Piece) (left before middle after first rest : List ℕ) →
     middle ≡ before ++ marks_of strict (shown_piece piece) →
-    AreTextsOf piece.place.style.most_depth (shown_piece piece ∷ []) first → IsInner strict piece left middle after rest →
+    AreTextsOf piece.place.style.most_depth (shown_piece piece ∷ []) first →
+    IsInner strict piece left middle after rest →
     IsOwn strict piece left before after (first ++ rest)
 IsOwn-put strict piece left before middle after first rest marked line (inner, inside, put) = (
   inner,

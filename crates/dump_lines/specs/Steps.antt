@@ -54,7 +54,8 @@ pub record IsWhole (strict : Bool) (place : Place) (octets first before after te
 -- those inside a piece were put
 abbrev pub IsInner : Bool → Piece → List ℕ → List ℕ → List ℕ → List ℕ → Type 0
 IsInner strict piece left before after text =
-    (inner : List Shown) × AreInside left piece inner × ArePut strict piece.place.style.most_depth inner before after text
+    (inner : List Shown) × AreInside left piece inner
+    × ArePut strict piece.place.style.most_depth inner before after text
 
 -- the piece and those inside it were put
 abbrev pub IsOwn : Bool → Piece → List ℕ → List ℕ → List ℕ → List ℕ → Type 0
