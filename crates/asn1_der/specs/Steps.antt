@@ -1,5 +1,5 @@
 -- What is found step by step. Private contracts alone name these.
-use Rattle.std.specs.Prelude.{◌≡◌, ◌++◌, ◌≤◌, ℕ, Bool, true, false, List, [], ◌∷◌, slice_range, ◌==◌, ◌&&◌, ◌%◌, nat_lt, not, Option, None, Some}
+use Rattle.std.specs.Prelude.{◌≡◌, ◌++◌, ◌≤◌, ℕ, Bool, true, List, [], ◌∷◌, slice_range, Option, None, Some}
 use Rattle.asn1_headers.specs.Header.{IsIdentifier, IsLength, IsSomeIdentifier}
 use Rattle.asn1_der.specs.declared.order.Order.{Order}
 use Rattle.asn1_der.specs.declared.order.Order.TheVariants.{Tags, Octets}
@@ -59,8 +59,3 @@ pub record IsHeaderOf (octets : List ℕ) (class : ASN1Class) (constructed : Boo
   pub whole : octets ≡ identifier ++ len
   pub identifier_octets : IsIdentifier identifier class constructed tag
   pub length_octets : IsLength len size
-
--- an identifier octet of a tag number below 31, and a length octet of the short form
-abbrev pub is_short : List ℕ → Bool
-is_short (leading ∷ size ∷ []) = not (leading % 32 == 31) && nat_lt size 128
-is_short octets = false

@@ -3,7 +3,7 @@ ghost use Rattle.std.specs.Prelude.{◌≡◌, ◌↔◌, IsTrue};
 ghost use Rattle.std.specs.Char.{is_ascii};
 ghost use Rattle.std.specs.List.{list_all};
 ghost use Rattle.std.specs.Str.{is_utf8 as is_utf8_is};
-ghost use Rattle.asn1_der.specs.Contents.{HasDerContents, HasDerTime, are_bmp as are_bmp_is, are_subidentifiers as are_subidentifiers_is, are_universal as are_universal_is, has_der_octets as has_der_octets_is, is_bit_string as is_bit_string_is, is_boolean as is_boolean_is, is_graphic as is_graphic_is, is_numeric, is_visible, is_scalar_value as is_scalar_value_is};
+ghost use Rattle.asn1_der.specs.Contents.{HasDerContents, are_bmp as are_bmp_is, are_subidentifiers as are_subidentifiers_is, are_universal as are_universal_is, has_der_octets as has_der_octets_is, is_bit_string as is_bit_string_is, is_boolean as is_boolean_is, is_graphic as is_graphic_is, is_numeric, is_visible, is_scalar_value as is_scalar_value_is};
 
 use crate::iri::{are_labels, is_iri};
 use crate::padding::{has_padded_component, is_padded_number, last_octet};
@@ -34,7 +34,13 @@ const SINGLE_SHIFT_3: u8 = 0x8F;
 pub fn has_der_contents(tag: u64, contents: &[u8]) -> bool
     ensures { IsTrue result ↔ HasDerContents tag contents.now }
 {
-    has_der_octets(tag, contents) && has_der_time(tag, contents)
+    match tag {
+        UTC_TIME => is_utc_time(contents),
+        GENERALIZED_TIME => is_generalized_time(contents),
+        DATE => is_date(contents),
+        DATE_TIME => is_date_time(contents),
+        _ => has_der_octets(tag, contents),
+    }
 }
 
 fn has_der_octets(tag: u64, contents: &[u8]) -> bool
@@ -107,6 +113,7 @@ pub fn are_subidentifiers(contents: &[u8]) -> bool
     !contents.is_empty() && last_octet(contents) < 128 && !has_padded_component(contents)
 }
 
+#[inline(never)]
 fn is_utf8(contents: &[u8]) -> bool
     ensures { result ≡ is_utf8_is contents.now }
 {
@@ -126,6 +133,7 @@ fn is_graphic(c: u8) -> bool
     )
 }
 
+#[inline(never)]
 fn are_graphic(contents: &[u8]) -> bool
     ensures { result ≡ list_all is_graphic_is contents.now }
 {
@@ -138,6 +146,7 @@ fn is_scalar_value(n: u32) -> bool
     n < 0xD800 || n > 0xDFFF && n < 0x11_0000
 }
 
+#[inline(never)]
 fn are_universal(contents: &[u8]) -> bool
     ensures { result ≡ are_universal_is contents.now }
 {
@@ -152,6 +161,7 @@ fn are_universal(contents: &[u8]) -> bool
     rest.is_empty()
 }
 
+#[inline(never)]
 fn are_bmp(contents: &[u8]) -> bool
     ensures { result ≡ are_bmp_is contents.now }
 {
@@ -163,17 +173,4 @@ fn are_bmp(contents: &[u8]) -> bool
         rest = more;
     }
     rest.is_empty()
-}
-
-// Whether contents octets are those of a time, where the tag number is that of one.
-fn has_der_time(tag: u64, contents: &[u8]) -> bool
-    ensures { IsTrue result ↔ HasDerTime tag contents.now }
-{
-    match tag {
-        UTC_TIME => is_utc_time(contents),
-        GENERALIZED_TIME => is_generalized_time(contents),
-        DATE => is_date(contents),
-        DATE_TIME => is_date_time(contents),
-        _ => true,
-    }
 }

@@ -1,21 +1,24 @@
 // What DER asks of an encoding by its header, beside what it holds.
-ghost use Rattle.std.specs.Prelude.{◌≡◌, ◌↔◌, ◌-◌, ◌≤◌, ◌++◌, ℕ, List, IsTrue, length, slice_range, true};
+ghost use Rattle.std.specs.Prelude.{◌≡◌, ◌↔◌, ◌≤◌, ◌++◌, ℕ, Bool, List, IsTrue, length, slice_range, false, true};
 ghost use Rattle.asn1_headers.specs.declared.header.ASN1Class.TheVariants.{Universal};
-ghost use Rattle.asn1_headers.specs.Header.{shortest_identifier, shortest_length};
+ghost use Rattle.asn1_headers.specs.Header.{IsIdentifier, IsLength, shortest_identifier, shortest_length};
 ghost use Rattle.asn1_blocks.specs.Places.{HeaderFound};
 ghost use Rattle.asn1_der.specs.Der.{AreDerEncodings, AreOfType, IsRightAlone, is_constructed_type as is_constructed_type_is, is_reserved as is_reserved_is};
-ghost use Rattle.asn1_der.specs.Steps.{AreDer, IsDerAlone, IsHeaderOf, IsWhole, is_short as is_short_is};
+ghost use Rattle.asn1_der.specs.Steps.{AreDer, IsDerAlone, IsHeaderOf, IsWhole};
 
 use crate::contents::has_der_contents;
 use crate::external::{is_external, is_identified};
 use crate::order::is_in_order;
 use asn1_blocks::parsed::PlacedHeader;
-use asn1_headers::header::{ASN1Class, identifier_size, length_size, push_identifier, push_length};
+use asn1_headers::header::{ASN1Class, split_identifier};
 use asn1_headers::tags::{
-    CHARACTER_STRING, EMBEDDED_PDV, END_OF_CONTENTS, EXTERNAL, RELATIVE_OID_IRI, RESERVED,
-    SEQUENCE, SET,
+    BMP_STRING, BOOLEAN, CHARACTER_STRING, EMBEDDED_PDV, END_OF_CONTENTS, ENUMERATED, EXTERNAL,
+    NUMERIC_STRING, OBJECT_DESCRIPTOR, REAL, RELATIVE_OID_IRI, RESERVED, SEQUENCE, SET, TIME,
+    UNIVERSAL_STRING, UTF8_STRING,
 };
-use asn1_numbers::sink::Comparison;
+
+// The least tag number that the short form of identifier octets does not have.
+pub const LEAST_HIGH_TAG: u8 = 31;
 
 // Whether an encoding with the header is one of DER, if its items are.
 pub fn is_der_alone(octets: &[u8], offset: usize, _limit: usize, header: &PlacedHeader) -> bool
@@ -28,59 +31,48 @@ pub fn is_der_alone(octets: &[u8], offset: usize, _limit: usize, header: &Placed
         IsTrue result }
 {
     let contents = &octets[header.start..header.end];
-    is_shortest(&octets[offset..header.start], header) && is_right(header, contents)
+    is_shortest(&octets[offset..header.start]) && is_right(header, contents)
 }
 
-// Whether identifier and length octets are the shortest of the header that was read from them.
-fn is_shortest(front: &[u8], header: &PlacedHeader) -> bool
-    requires order { header.now.start ≤ header.now.end }
-    requires read { IsHeaderOf front.now header.now.class header.now.constructed header.now.tag
-        (header.now.end - header.now.start) }
-    ensures { IsTrue result
-        ↔ (front.now ≡ shortest_identifier header.now.class header.now.constructed header.now.tag
-        ++ shortest_length (header.now.end - header.now.start)) }
-{
-    if is_short(front) {
-        return true;
-    }
-    is_written(front, header)
-}
-
-// Whether a header has two octets, as most have: these are the shortest.
-fn is_short(front: &[u8]) -> bool
-    ensures { result ≡ is_short_is front.now }
+// Whether identifier and length octets are the shortest of their header. Most are one octet each.
+fn is_shortest(front: &[u8]) -> bool
+    ensures { (class : ASN1Class) (constructed : Bool) (tag size : ℕ)
+        → IsHeaderOf front.now class constructed tag size → IsTrue result
+        ↔ (front.now ≡ shortest_identifier class constructed tag ++ shortest_length size) }
 {
     match front {
-        [leading, size] => *leading % 32 != 31 && *size < 128,
-        _ => false,
+        [_, size] => *size < 128,
+        _ => {
+            let (identifier, len) = split_identifier(front);
+            is_shortest_identifier(identifier) && is_shortest_length(len)
+        }
     }
 }
 
-// Whether identifier and length octets are those that would be written.
-fn is_written(front: &[u8], header: &PlacedHeader) -> bool
-    requires { header.now.start ≤ header.now.end }
-    ensures { IsTrue result
-        ↔ (front.now ≡ shortest_identifier header.now.class header.now.constructed header.now.tag
-        ++ shortest_length (header.now.end - header.now.start)) }
+// Whether identifier octets are the shortest of their tag: the long form has no number below 31, and does not begin
+// with an octet 80.
+pub fn is_shortest_identifier(identifier: &[u8]) -> bool
+    ensures { (class : ASN1Class) (constructed : Bool) (tag : ℕ)
+        → IsIdentifier identifier.now class constructed tag
+        → IsTrue result ↔ (identifier.now ≡ shortest_identifier class constructed tag) }
 {
-    let announced = header.end - header.start;
-    let identifier = identifier_size(header.class, header.constructed, &header.tag);
-    let length = length_size(announced);
-    if front.len() < length || front.len() - length != identifier {
-        return false;
+    match identifier {
+        [_, first, ..] => *first >= LEAST_HIGH_TAG && *first != 128,
+        _ => true,
     }
-    let mut comparison = Comparison {
-        rest: front,
-        same: true,
-    };
-    push_identifier(
-        header.class,
-        header.constructed,
-        &header.tag,
-        &mut comparison,
-    );
-    push_length(announced, &mut comparison);
-    comparison.same
+}
+
+// Whether length octets are the shortest of their length: of the long form a single octet has no number below 128, and
+// several do not begin with 0.
+pub fn is_shortest_length(len: &[u8]) -> bool
+    ensures { (size : ℕ) → IsLength len.now size → IsTrue result ↔ (len.now ≡ shortest_length size) }
+{
+    match len {
+        [] => false,
+        [initial] => *initial < 128,
+        [_, only] => *only >= 128,
+        [_, first, ..] => *first != 0,
+    }
 }
 
 // Whether contents octets are right for the class, the form and the tag, if the items are.
@@ -102,10 +94,17 @@ fn is_right_type(constructed: bool, tag: u64, contents: &[u8]) -> bool
         → (constructed ≡ true → AreDer contents.now) → IsTrue result }
 {
     if constructed {
-        is_constructed_type(tag) && are_of_type(tag, contents)
+        tag == SEQUENCE || is_constructed_type(tag) && are_of_type(tag, contents)
     } else {
-        !is_reserved(tag) && !is_constructed_type(tag) && has_der_contents(tag, contents)
+        is_right_primitive(tag, contents)
     }
+}
+
+// Whether contents octets are right for a primitive encoding of class Universal with the tag number.
+pub fn is_right_primitive(tag: u64, contents: &[u8]) -> bool
+    ensures { IsTrue result ↔ IsRightAlone Universal false tag contents.now }
+{
+    is_primitive_type(tag) && has_der_contents(tag, contents)
 }
 
 // Whether encodings are those that the constructed type with the tag number has, if they are DER.
@@ -126,6 +125,21 @@ pub fn is_reserved(tag: u64) -> bool
     ensures { result ≡ is_reserved_is tag }
 {
     tag == END_OF_CONTENTS || tag == RESERVED || tag > RELATIVE_OID_IRI
+}
+
+// Whether a type with the tag number is primitive.
+fn is_primitive_type(tag: u64) -> bool
+    ensures { IsTrue result ↔ (is_reserved_is tag ≡ false) × (is_constructed_type_is tag ≡ false) }
+{
+    matches!(
+        tag,
+        BOOLEAN..=OBJECT_DESCRIPTOR
+            | REAL
+            | ENUMERATED
+            | UTF8_STRING..=TIME
+            | NUMERIC_STRING..=UNIVERSAL_STRING
+            | BMP_STRING..=RELATIVE_OID_IRI
+    )
 }
 
 // Whether the type with the tag number is always constructed.

@@ -7,6 +7,7 @@ ghost use Rattle.asn1_der.specs.Iri.{are_label_characters as are_label_character
 use crate::real::are_digits;
 
 // Whether contents octets are those of an OID-IRI.
+#[inline(never)]
 pub fn is_iri(contents: &[u8]) -> bool
     ensures { result ≡ is_iri_is contents.now }
 {
@@ -18,6 +19,7 @@ pub fn is_iri(contents: &[u8]) -> bool
 
 // Whether octets are labels with a solidus between each two, as those of a RELATIVE-OID-IRI are.
 #[tactic(auto, unfolding(crate::specs::Iri::are_labels))]
+#[inline(never)]
 pub fn are_labels(octets: &[u8]) -> bool
     ensures { result ≡ are_labels_is octets.now }
 {

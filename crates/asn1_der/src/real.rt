@@ -7,6 +7,7 @@ ghost use Rattle.asn1_der.specs.Real.{behind_digits as behind_digits_is, behind_
 use crate::padding::{is_padded_number, last_octet};
 
 // Whether contents octets are those of a REAL.
+#[inline(never)]
 pub fn is_real(contents: &[u8]) -> bool
     ensures { result ≡ is_real_is contents.now }
 {

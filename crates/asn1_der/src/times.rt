@@ -10,6 +10,7 @@ use asn1_leaves::contents::{generalized_time, utc_time};
 // The first year of the setting Year=Basic.
 const FIRST_YEAR: &[u8] = b"1582";
 
+#[inline(never)]
 pub fn is_utc_time(contents: &[u8]) -> bool
     ensures { IsTrue result ↔ IsUtcTime contents.now }
 {
@@ -25,6 +26,7 @@ fn is_moment(contents: &[u8]) -> bool
     }
 }
 
+#[inline(never)]
 pub fn is_generalized_time(contents: &[u8]) -> bool
     ensures { IsTrue result ↔ IsGeneralizedTime contents.now }
 {
@@ -88,6 +90,7 @@ fn is_only(c: u8, octets: &[u8]) -> bool
 }
 
 // Whether YYYYMMDD are a date.
+#[inline(never)]
 pub fn is_date(contents: &[u8]) -> bool
     ensures { IsTrue result ↔ IsDate contents.now }
 {
@@ -106,6 +109,7 @@ fn is_day(contents: &[u8]) -> bool
 }
 
 // Whether hhmmss are a time of day.
+#[inline(never)]
 pub fn is_time_of_day(contents: &[u8]) -> bool
     ensures { result ≡ is_time_of_day_is contents.now }
 {
@@ -150,6 +154,7 @@ fn is_second(tens: u8, ones: u8) -> bool
 }
 
 // Whether YYYYMMDDhhmmss are a date and a time of day.
+#[inline(never)]
 pub fn is_date_time(contents: &[u8]) -> bool
     ensures { IsTrue result ↔ IsDateTime contents.now }
 {
@@ -159,6 +164,7 @@ pub fn is_date_time(contents: &[u8]) -> bool
 
 // Whether contents octets are those of a DURATION.
 #[tactic(auto, unfolding(crate::specs::Times::is_duration))]
+#[inline(never)]
 pub fn is_duration(contents: &[u8]) -> bool
     ensures { result ≡ is_duration_is contents.now }
 {
@@ -228,6 +234,7 @@ fn is_last_fraction(designator: u8, text: &[u8]) -> bool
 
 // Whether contents octets may be those of a TIME.
 #[tactic(auto, unfolding(crate::specs::Times::is_time))]
+#[inline(never)]
 pub fn is_time(contents: &[u8]) -> bool
     ensures { result ≡ is_time_is contents.now }
 {
