@@ -1,17 +1,19 @@
 // What one encoding breaks by itself.
-ghost use Rattle.std.specs.Prelude.{◌≡◌, ◌↔◌, ◌++◌, true, false, IfOk, IsTrue, nat_lt};
+ghost use Rattle.std.specs.Prelude.{◌≡◌, ◌↔◌, ◌++◌, ℕ, true, IfOk, IsTrue, length, nat_lt};
 ghost use Rattle.asn1_headers.specs.declared.header.ASN1Class.TheVariants.{Universal};
-ghost use Rattle.asn1_headers.specs.Header.{shortest_identifier, shortest_length};
+ghost use Rattle.asn1_headers.specs.Header.{IsIdentifier, IsLength, shortest_identifier};
 ghost use Rattle.asn1_der.specs.Der.{IsRightAlone};
 ghost use Rattle.asn1_departures.specs.Departures.{Found, LengthFound, OwnRules, TypeFound, listed, own_departures};
 ghost use Rattle.asn1_departures.specs.Rules.{bits_rule as bits_rule_is, contents_rule as contents_rule_is, form_rule as form_rule_is, identifier_rule, items_rule as items_rule_is, is_string as is_string_is, real_rule as real_rule_is, type_rule as type_rule_is};
 
 use crate::rule::{Departure, Rule};
 use asn1_blocks::parsed::PlacedHeader;
-use asn1_der::contents::has_der_contents;
-use asn1_der::header_rules::{are_of_type, is_constructed_type, is_reserved};
+use asn1_der::header_rules::{
+    LEAST_HIGH_TAG, are_of_type, is_constructed_type, is_reserved, is_right_primitive,
+    is_shortest_identifier, is_shortest_length,
+};
 use asn1_der::is_der;
-use asn1_headers::header::{ASN1Class, identifier_size, length_size, push_identifier, push_length};
+use asn1_headers::header::ASN1Class;
 use asn1_headers::indefinite::is_indefinite;
 use asn1_headers::tags::{
     BIT_STRING, BMP_STRING, BOOLEAN, CHARACTER_STRING, DATE, DURATION, EMBEDDED_PDV, ENUMERATED,
@@ -20,11 +22,7 @@ use asn1_headers::tags::{
     UNIVERSAL_STRING, UTC_TIME, UTF8_STRING,
 };
 use asn1_numbers::number::big_uint::BigUint;
-use asn1_numbers::sink::Comparison;
 use std::alloc::{AllocError, Global};
-
-// The least tag number that takes more than one octet.
-const LEAST_HIGH_TAG: u64 = 31;
 
 // Lists what an encoding at the offset breaks by itself.
 pub fn push_own(
@@ -36,12 +34,14 @@ pub fn push_own(
     contents: &[u8],
     found: &mut Vec<Departure>,
 ) -> Result<(), AllocError>
-    ensures { IfOk result (λ _. (rules : OwnRules identifier.now len.now header.now.class header.now.constructed
-        header.now.tag contents.now) × (found.new.items ≡ found.old.items ++ own_departures offset rules)) }
+    ensures { IfOk result (λ _. IsIdentifier identifier.now header.now.class header.now.constructed header.now.tag →
+        IsLength len.now (length contents.now) → (rules : OwnRules identifier.now len.now header.now.class
+        header.now.constructed header.now.tag contents.now)
+        × (found.new.items ≡ found.old.items ++ own_departures offset rules)) }
 {
     let of_type = type_found(alloc, is_indefinite(len), header, contents)?;
     push_rule(offset, identifier_found(identifier, header), found)?;
-    push_rule(offset, length_found(len, contents.len()), found)?;
+    push_rule(offset, length_found(len), found)?;
     push_rule(offset, of_type, found)?;
     Ok(())
 }
@@ -60,10 +60,11 @@ fn push_rule(
 }
 
 pub fn identifier_found(identifier: &[u8], header: &PlacedHeader) -> Option<Rule>
-    ensures { Found (identifier.now ≡ shortest_identifier header.now.class header.now.constructed header.now.tag)
+    ensures { IsIdentifier identifier.now header.now.class header.now.constructed header.now.tag →
+        Found (identifier.now ≡ shortest_identifier header.now.class header.now.constructed header.now.tag)
         (identifier_rule header.now.tag) result }
 {
-    if is_shortest_identifier(identifier, header) {
+    if is_shortest_identifier(identifier) {
         return None;
     }
     if is_low(&header.tag) {
@@ -77,59 +78,22 @@ fn is_low(tag: &BigUint) -> bool
     ensures { result ≡ nat_lt tag.now 31 }
 {
     match tag.to_u64() {
-        Some(n) => n < LEAST_HIGH_TAG,
+        Some(n) => n < LEAST_HIGH_TAG as u64,
         None => false,
     }
 }
 
-// Whether identifier octets are those that would be written.
-fn is_shortest_identifier(identifier: &[u8], header: &PlacedHeader) -> bool
-    ensures { IsTrue result ↔ (identifier.now ≡ shortest_identifier header.now.class header.now.constructed
-        header.now.tag) }
-{
-    let size = identifier_size(header.class, header.constructed, &header.tag);
-    if identifier.len() != size {
-        return false;
-    }
-    let mut comparison = Comparison {
-        rest: identifier,
-        same: true,
-    };
-    push_identifier(
-        header.class,
-        header.constructed,
-        &header.tag,
-        &mut comparison,
-    );
-    comparison.same
-}
-
-pub fn length_found(len: &[u8], size: usize) -> Option<Rule>
-    ensures { LengthFound len.now size result }
+pub fn length_found(len: &[u8]) -> Option<Rule>
+    ensures { (size : ℕ) → IsLength len.now size → LengthFound len.now size result }
 {
     if is_indefinite(len) {
         return Some(Rule::IndefiniteLength);
     }
-    if is_shortest_length(len, size) {
+    if is_shortest_length(len) {
         None
     } else {
         Some(Rule::LongLength)
     }
-}
-
-// Whether length octets are those that would be written.
-fn is_shortest_length(len: &[u8], size: usize) -> bool
-    ensures { IsTrue result ↔ (len.now ≡ shortest_length size) }
-{
-    if len.len() != length_size(size) {
-        return false;
-    }
-    let mut comparison = Comparison {
-        rest: len,
-        same: true,
-    };
-    push_length(size, &mut comparison);
-    comparison.same
 }
 
 pub fn type_found(
@@ -176,12 +140,6 @@ fn is_right(alloc: Global, constructed: bool, tag: u64, contents: &[u8]) -> Resu
         return Ok(is_right_primitive(tag, contents));
     }
     is_right_constructed(alloc, tag, contents)
-}
-
-fn is_right_primitive(tag: u64, contents: &[u8]) -> bool
-    ensures { IsTrue result ↔ IsRightAlone Universal false tag contents.now }
-{
-    !is_reserved(tag) && !is_constructed_type(tag) && has_der_contents(tag, contents)
 }
 
 // Whether the type with the tag number is constructed, and the items are those that it has, if they are DER.

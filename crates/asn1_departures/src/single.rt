@@ -43,7 +43,7 @@ pub fn broken_rules(alloc: Global, octets: &[u8], header: &Header) -> Result<Vec
     let of_type = type_found(alloc, is_indefinite(len), &placed, contents)?;
     let mut rules = Vec::new(alloc);
     push_rule(identifier_found(identifier, &placed), &mut rules)?;
-    push_rule(length_found(len, contents.len()), &mut rules)?;
+    push_rule(length_found(len), &mut rules)?;
     push_rule(of_type, &mut rules)?;
     push_rule(items_found(header.constructed, len, contents), &mut rules)?;
     Ok(rules)

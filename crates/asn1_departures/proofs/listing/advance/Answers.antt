@@ -5,7 +5,9 @@ use Rattle.asn1_departures.specs.Steps.{AreExtents, ListsUpTo}
 use Rattle.std.specs.Prelude.{List, Some}
 use Rattle.asn1_departures.specs.declared.rule.Departure.{Departure}
 use Rattle.asn1_departures.specs.declared.rule.Rule.TheVariants.{NotEncodings}
+use Rattle.asn1_blocks.proofs.ReadSteps.{length-slice_range}
 use Rattle.asn1_blocks.proofs.Reader.Popping.{reverse-append_last}
+use Rattle.asn1_headers.specs.Header.{IsLength}
 use Rattle.asn1_departures.proofs.Walk.{ListsUpTo-behind, ListsUpTo-inside, unended_behind-not_open, unended_behind-open, AreExtents-le, is_looked_into-constructed, is_looked_into-open, is_looked_into-primitive}
 use Rattle.asn1_der.proofs.Shortest.{IsHeaderOf-front}
 use Rattle.asn1_departures.proofs.listing.advance.Goals as goal
@@ -30,7 +32,10 @@ returns-then-is_open c =
     let es = reverse w.outer.items in
     let within = AreExtents-le w.inner.end es (length x) p.around in
     let len = c.split_header.result.1.now in
-    let (r, pushed) = c.in_ok-push_own.ensures in
+    let parted = c.split_header.ensures in
+    let size = length-slice_range x h.start h.end f.order (omega (arith, f.ends_within, within)) in
+    let says = subst (λ z. IsLength len z) (sym size) parted.length_octets in
+    let (r, pushed) = c.in_ok-push_own.ensures parted.identifier_octets says in
     let own = own_departures w.index r in
     let is : is_open h.constructed len ≡ true = sym c.is_open.ensures ∙ c.if-is_open.true in
     record {
@@ -56,7 +61,10 @@ returns-then-not-header c =
     let es = reverse w.outer.items in
     let within = AreExtents-le w.inner.end es (length x) p.around in
     let len = c.split_header.result.1.now in
-    let (r, pushed) = c.in_ok-push_own.ensures in
+    let parted = c.split_header.ensures in
+    let size = length-slice_range x h.start h.end f.order (omega (arith, f.ends_within, within)) in
+    let says = subst (λ z. IsLength len z) (sym size) parted.length_octets in
+    let (r, pushed) = c.in_ok-push_own.ensures parted.identifier_octets says in
     let own = own_departures w.index r in
     let is : is_open h.constructed len ≡ false = sym c.is_open.ensures ∙ c.if-is_open.false in
     record {
@@ -83,7 +91,10 @@ returns-then-are_encodings c =
     let es = reverse w.outer.items in
     let within = AreExtents-le w.inner.end es (length x) p.around in
     let len = c.split_header.result.1.now in
-    let (r, pushed) = c.in_ok-push_own.ensures in
+    let parted = c.split_header.ensures in
+    let size = length-slice_range x h.start h.end f.order (omega (arith, f.ends_within, within)) in
+    let says = subst (λ z. IsLength len z) (sym size) parted.length_octets in
+    let (r, pushed) = c.in_ok-push_own.ensures parted.identifier_octets says in
     let is : is_open h.constructed len ≡ false = sym c.is_open.ensures ∙ c.if-is_open.false in
     let put : c.push.new.self.items ≡ w.outer.items ++ w.inner ∷ [] = c.in_ok-push.ensures.items in
     let round = reverse-append_last c.push.new.self.items w.outer.items w.inner put in
@@ -124,7 +135,10 @@ returns c =
     let es = reverse w.outer.items in
     let within = AreExtents-le w.inner.end es (length x) p.around in
     let len = c.split_header.result.1.now in
-    let (r, pushed) = c.in_ok-push_own.ensures in
+    let parted = c.split_header.ensures in
+    let size = length-slice_range x h.start h.end f.order (omega (arith, f.ends_within, within)) in
+    let says = subst (λ z. IsLength len z) (sym size) parted.length_octets in
+    let (r, pushed) = c.in_ok-push_own.ensures parted.identifier_octets says in
     let own = own_departures w.index r in
     let is : is_open h.constructed len ≡ false = sym c.is_open.ensures ∙ c.if-is_open.false in
     let none : List Departure = listed w.index (Some NotEncodings) in

@@ -14,15 +14,14 @@ MatchBool-false true found P e p = absurd cc
 MatchBool-false false found P e p = p
 
 pub returns-then-is_shortest_length : goal.returns-then-is_shortest_length
-returns-then-is_shortest_length c =
-    MatchBool-false _ None (Found (c.args.len.now ≡ shortest_length c.args.size) LongLength None)
+returns-then-is_shortest_length c size is =
+    MatchBool-false _ None (Found (c.args.len.now ≡ shortest_length size) LongLength None)
     (sym c.is_indefinite.ensures ∙ c.if-is_indefinite.false)
-    (kept (c.is_shortest_length.ensures.0 c.if-is_shortest_length.true))
+    (kept ((c.is_shortest_length.ensures size is).0 c.if-is_shortest_length.true))
 
 pub returns-else-is_shortest_length : goal.returns-else-is_shortest_length
-returns-else-is_shortest_length c =
-    MatchBool-false _ (Some LongLength)
-    (Found (c.args.len.now ≡ shortest_length c.args.size) LongLength (Some LongLength))
+returns-else-is_shortest_length c size is =
+    MatchBool-false _ (Some LongLength) (Found (c.args.len.now ≡ shortest_length size) LongLength (Some LongLength))
     (sym c.is_indefinite.ensures ∙ c.if-is_indefinite.false)
-    (broken (λ e. let is : c.is_shortest_length.result ≡ true = c.is_shortest_length.ensures.1 e in
+    (broken (λ e. let t : c.is_shortest_length.result ≡ true = (c.is_shortest_length.ensures size is).1 e in
     let not : c.is_shortest_length.result ≡ false = c.if-is_shortest_length.false in absurd cc))

@@ -4,7 +4,7 @@ use Rattle.asn1_departures.specs.Departures.{TypeFound, listed}
 use Rattle.asn1_departures.proofs.own.push_own.Goals as goal
 
 pub returns : goal.returns
-returns c =
+returns c is says =
     let h = c.args.header.now in
     let o = c.args.offset in
     let a = listed o c.identifier_found.result in
@@ -15,8 +15,8 @@ returns c =
         of_identifier = c.identifier_found.result;
         of_length = c.length_found.result;
         of_type = c.in_ok-of_type.of_type;
-        identifier_found = c.identifier_found.ensures;
-        length_found = c.length_found.ensures;
+        identifier_found = c.identifier_found.ensures is;
+        length_found = c.length_found.ensures _ says;
         type_found = subst (λ z. TypeFound z h.class h.constructed h.tag c.args.contents.now c.in_ok-of_type.of_type)
             c.is_indefinite.ensures c.in_ok-of_type.ensures;
       },
