@@ -1,6 +1,6 @@
 -- What encodings one after another begin with, an encoding or end-of-contents octets, for `encodings`, `listing` and
 -- `laws::law_departures`.
-use Rattle.std.proofs.Common.{◌≡◌, ℕ, ◌+◌, ◌-◌, ◌<◌, ◌≤◌, ◌^◌, Bool, true, false, List, [], ◌∷◌, ◌++◌, drop, inl, inr, length, refl, sym, ap, ◌∙◌, subst, arith, append_assoc, length-append}
+use Rattle.std.proofs.Common.{◌≡◌, ℕ, ◌+◌, ◌<◌, ◌≤◌, ◌^◌, Bool, true, false, List, [], ◌∷◌, ◌++◌, inl, inr, length, refl, sym, ap, ◌∙◌, subst, arith, append_assoc, length-append}
 use Rattle.std.proofs.lemmas.Bool.{and_parts, cases_lt, cond_below}
 use Rattle.std.specs.Prelude.{◌&&◌, nat_lt, suc, if◌then◌else◌}
 use Rattle.std.specs.Int.Digits.{digits_of}
@@ -9,12 +9,11 @@ use Rattle.asn1_headers.specs.Header.{Encoding, IsLength, shortest_length}
 use Rattle.asn1_headers.specs.declared.header.ASN1Class.{ASN1Class}
 use Rattle.asn1_headers.specs.declared.header.ASN1Class.TheVariants.{Universal}
 use Rattle.asn1_headers.proofs.Prefixes.{Encoding-unique, Encoding-not_empty, IsIdentifier-unique, IsLength-unique}
-use Rattle.asn1_headers.proofs.IndefiniteForms.{begins_with_end-cons}
 use Rattle.asn1_der.specs.Der.{AreDerEncodings, IsDerEncoding, more_encodings, no_encodings}
 use Rattle.asn1_der.proofs.Encodings.{IsLengthShortest-der}
-use Rattle.asn1_blocks.specs.Places.{HasNoEncodingAt, IsEncoding}
-use Rattle.asn1_departures.specs.Steps.{IsStep, is_at_end}
-use Rattle.asn1_departures.specs.Departures.{AreEncodings, IsNext, end_of_contents, is_open, next, no_more, unended_behind}
+use Rattle.asn1_blocks.specs.Places.{HasNoEncodingAt}
+use Rattle.asn1_departures.specs.Steps.{is_at_end}
+use Rattle.asn1_departures.specs.Departures.{AreEncodings, IsNext, end_of_contents, next, no_more, unended_behind}
 use Rattle.asn1_headers.specs.Indefinite.{begins_with_end, is_indefinite}
 
 -- whether length octets are of the indefinite form does not depend on what is behind them
@@ -186,51 +185,10 @@ is_at_end-none_in_front u x first rest w t some is =
     let no : begins_with_end x ≡ false = begins_with_end-not_at_end u x t some in
     absurd cc
 
--- where end-of-contents octets close an encoding, the octets are encodings exactly if the ones behind these two are
-pub IsStep-end : (u : ℕ) (x behind : List ℕ) → is_at_end u x ≡ true → behind ≡ drop 2 x → IsStep u x (u - 1) behind
-IsStep-end u x behind t is =
-    let (some, front) = is_at_end-parts u x t in
-    let whole : x ≡ 0 ∷ 0 ∷ behind = begins_with_end-cons x front ∙ ap (λ z. 0 ∷ 0 ∷ z) (sym is) in
-    record {
-      same = (
-        λ a. AreEncodings-behind_end u (u - 1) x behind (omega (arith, some)) whole a,
-        λ a. end_of_contents (omega (arith, some)) whole a,
-      );
-      fewer = omega (arith, ap length whole);
-      room = omega (arith, ap length whole);
-    }
-
 -- behind an encoding at most one encoding more is open than before it
 pub unended-le : (o : Bool) (u v : ℕ) → v ≡ (if o then suc u else u) → v ≤ u + 1
 unended-le true u v e = omega (arith, e)
 unended-le false u v e = omega (arith, e)
-
--- where an encoding stands in front, and no end-of-contents octets that close one, the octets are encodings exactly if
--- the ones behind it are
-pub IsStep-next :
-    (u v : ℕ) (x part behind : List ℕ) (e : IsEncoding part) (o : Bool) → x ≡ part ++ behind → is_at_end u x ≡ false →
-    o ≡ is_open e.constructed e.encoding.len → v ≡ (if o then suc u else u) → IsStep u x v behind
-IsStep-next u v x part behind e o w t is count =
-    let n : IsNext u x part behind = record {
-      class = e.class;
-      constructed = e.constructed;
-      tag = e.tag;
-      contents = e.contents;
-      header = e.header;
-      encoding = e.encoding;
-      whole = w;
-      no_end = is_at_end-none_in_front u x part behind w t;
-    } in
-    let open_behind : v ≡ unended_behind u e.constructed e.encoding.len = count ∙ ap (λ b. if b then suc u else u) is in
-    let some = Encoding-not_empty part e.class e.constructed e.tag e.contents e.header e.encoding in
-    record {
-      same = (
-        λ a. subst (λ z. AreEncodings z behind) (sym open_behind) (AreEncodings-behind_next u x part behind n a),
-        λ a. next n (subst (λ z. AreEncodings z behind) open_behind a),
-      );
-      fewer = omega (arith, some, ap length w, length-append part behind);
-      room = omega (arith, some, ap length w, length-append part behind, unended-le o u v count);
-    }
 
 -- octets, one or more, with no encoding in front and no end-of-contents octets that close one are no encodings
 pub AreEncodings-some_here :

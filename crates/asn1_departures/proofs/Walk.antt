@@ -3,16 +3,17 @@ use Rattle.std.proofs.Common.{◌≡◌, ℕ, ◌+◌, ◌-◌, ◌<◌, ◌≤�
 use Rattle.std.specs.List.{slice_range}
 use Rattle.std.specs.Prelude.{suc, if◌then◌else◌, not}
 use Rattle.std.proofs.lemmas.List.{drop_at}
-use Rattle.asn1_headers.specs.Fault.{DecodeFault}
-use Rattle.asn1_departures.proofs.Fronts.{is_at_end-parts, is_at_end-none_in_front}
+use Rattle.asn1_departures.proofs.Fronts.{AreEncodings-behind_end, AreEncodings-behind_next, is_at_end-parts, is_at_end-none_in_front, unended-le}
 use Rattle.asn1_headers.proofs.IndefiniteForms.{begins_with_end-cons}
+use Rattle.asn1_headers.proofs.Prefixes.{Encoding-not_empty, append-injective}
 use Rattle.asn1_headers.specs.Header.{Encoding, IsLength}
-use Rattle.asn1_blocks.specs.Places.{HeaderFound}
+use Rattle.asn1_blocks.specs.Places.{EncodingAt, HeaderFound}
 use Rattle.asn1_blocks.specs.declared.parsed.PlacedHeader.{PlacedHeader}
 use Rattle.asn1_blocks.proofs.PlacedHeaders.{length-slice_range-at_header, slice_range-at_header, starts_before_end}
 use Rattle.asn1_blocks.proofs.ReadSteps.{slice_range-append, length-slice_range}
-use Rattle.asn1_departures.specs.Departures.{HeaderFaultBehind, IsNext, Lists, behind, behind_end_of_contents, ListsInside, OwnRules, encoding_listed, encodings_inside, end_listed, is_looked_into, is_open, none_left, own_departures, unended_behind}
-use Rattle.asn1_departures.specs.Steps.{AreExtents, IsParted, ListsUpTo, is_at_end, rest_of}
+use Rattle.asn1_departures.specs.Departures.{AreEncodings, HeaderFaultBehind, IsNext, Lists, behind, behind_end_of_contents, end_of_contents, next, ListsInside, OwnRules, encoding_listed, encodings_inside, end_listed, is_looked_into, is_open, none_left, own_departures, unended_behind}
+use Rattle.asn1_departures.specs.Steps.{AreExtents, IsParted, IsPassed, ListsUpTo, is_at_end, rest_of}
+use Rattle.asn1_departures.specs.declared.encodings.Cursor.{Cursor}
 use Rattle.asn1_headers.specs.Indefinite.{begins_with_end}
 use Rattle.asn1_departures.specs.declared.listing.Extent.{Extent}
 use Rattle.asn1_departures.specs.declared.rule.Departure.{Departure}
@@ -145,49 +146,75 @@ ListsUpTo-ended x u i e es later some order within front (a, b, la, lb, w) =
 pub Lists-none_left : (x : List ℕ) (u i e : ℕ) → u ≡ 0 → i ≡ e → Lists u i (slice_range x i e) []
 Lists-none_left x u i e none h = none_left none (slice_range-empty x i e h) refl
 
--- the encoding of a header that was found stands in front of what follows it
-pub IsNext-found :
-    (x : List ℕ) (i e : ℕ) (h : PlacedHeader) (f : HeaderFound x i e h) (u : ℕ) →
-    is_at_end u (slice_range x i e) ≡ false →
-    IsNext u (slice_range x i e) (slice_range x i h.end) (slice_range x h.end e)
-IsNext-found x i e h f u t =
-    let w : slice_range x i e ≡ slice_range x i h.end ++ slice_range x h.end e =
-    slice_range-append x i h.end e (omega (arith, f.starts_after, f.order)) f.ends_within in
+-- where no end-of-contents octets close an encoding, the place behind an encoding is the next
+pub IsPassed-next :
+    (x : List ℕ) (at to : Cursor) (part : List ℕ) (f : EncodingAt (rest_of x at.index) 0 part) (o : Bool) →
+    at.index ≤ length x → at.unended ≤ at.index → is_at_end at.unended (rest_of x at.index) ≡ false →
+    o ≡ is_open f.encoding.constructed f.encoding.encoding.len → to.index ≡ at.index + length part →
+    to.unended ≡ (if o then suc at.unended else at.unended) → IsPassed x at to
+IsPassed-next x at to part f o order room t is behind_part count =
+    let all = rest_of x at.index in
+    let rest = rest_of x to.index in
+    let e = f.encoding in
+    let some = Encoding-not_empty part e.class e.constructed e.tag e.contents e.header e.encoding in
+    let size = length-slice_range x at.index (length x) order (omega arith) in
+    let fit : to.index ≤ length x =
+    omega (arith, order, size, ap length f.at_offset, length-append part f.rest, behind_part) in
+    let before : at.index ≤ to.index = omega (arith, behind_part) in
+    let join : all ≡ slice_range x at.index to.index ++ rest =
+    slice_range-append x at.index to.index (length x) before fit in
+    let first : length (slice_range x at.index to.index) ≡ length part =
+    omega (arith, length-slice_range x at.index to.index before fit, behind_part) in
+    let parts = append-injective (slice_range x at.index to.index) part rest f.rest first (sym join ∙ f.at_offset) in
+    let whole : all ≡ part ++ rest = join ∙ ap (λ z. z ++ rest) parts.0 in
+    let n : IsNext at.unended all part rest = record {
+      class = e.class;
+      constructed = e.constructed;
+      tag = e.tag;
+      contents = e.contents;
+      header = e.header;
+      encoding = e.encoding;
+      whole = whole;
+      no_end = is_at_end-none_in_front at.unended all part rest whole t;
+    } in
+    let open_behind : to.unended ≡ unended_behind at.unended e.constructed e.encoding.len =
+    count ∙ ap (λ b. if b then suc at.unended else at.unended) is in
     record {
-      class = h.class;
-      constructed = h.constructed;
-      tag = h.tag;
-      contents = slice_range x h.start h.end;
-      header = h.start - i;
-      encoding = f.encoding;
-      whole = w;
-      no_end = is_at_end-none_in_front u (slice_range x i e) (slice_range x i h.end) (slice_range x h.end e) w t;
+      same = (
+        λ a. subst (λ z. AreEncodings z rest) (sym open_behind) (AreEncodings-behind_next at.unended all part rest n a),
+        λ a. next n (subst (λ z. AreEncodings z rest) open_behind a),
+      );
+      fault = λ place fault w.
+          behind n (subst (λ z. HeaderFaultBehind z (at.index + length part) rest place fault) open_behind
+          (subst (λ z. HeaderFaultBehind to.unended z rest place fault) behind_part w));
+      more = omega (arith, some, behind_part);
+      within = fit;
+      room = omega (arith, room, some, behind_part, unended-le o at.unended to.unended count);
     }
 
--- where no end-of-contents octets close an encoding, a fault behind the encoding found there is one from it on
-pub HeaderFaultBehind-next :
-    (x : List ℕ) (i : ℕ) (h : PlacedHeader) (f : HeaderFound x i (length x) h) (u v : ℕ) (o : Bool) (place : ℕ)
-    (fault : DecodeFault) →
-    is_at_end u (rest_of x i) ≡ false → o ≡ is_open h.constructed f.encoding.len → v ≡ (if o then suc u else u) →
-    HeaderFaultBehind v h.end (rest_of x h.end) place fault → HeaderFaultBehind u i (rest_of x i) place fault
-unfolding IsNext-found
-HeaderFaultBehind-next x i h f u v o place fault t is count w =
-    let before : i ≤ h.end = omega (arith, f.starts_after, f.order) in
-    let size : length (slice_range x i h.end) ≡ h.end - i = length-slice_range x i h.end before f.ends_within in
-    let to : h.end ≡ i + length (slice_range x i h.end) = omega (arith, size, before) in
-    let open_behind : v ≡ unended_behind u h.constructed f.encoding.len = count ∙ ap (λ b. if b then suc u else u) is in
-    behind (IsNext-found x i (length x) h f u t)
-    (subst (λ z. HeaderFaultBehind z (i + length (slice_range x i h.end)) (rest_of x h.end) place fault) open_behind
-    (subst (λ z. HeaderFaultBehind v z (rest_of x h.end) place fault) to w))
-
--- a fault behind end-of-contents octets that close an encoding is a fault from the offset of these octets on
-pub HeaderFaultBehind-end :
-    (x : List ℕ) (i u place : ℕ) (fault : DecodeFault) → i < length x → is_at_end u (rest_of x i) ≡ true →
-    HeaderFaultBehind (u - 1) (i + 2) (rest_of x (i + 2)) place fault → HeaderFaultBehind u i (rest_of x i) place fault
-HeaderFaultBehind-end x i u place fault more t w =
-    let (some, front) = is_at_end-parts u (rest_of x i) t in
-    behind_end_of_contents (omega (arith, some))
-    (slice_range-end_of_contents x i (length x) (omega (arith, more)) (omega arith) front).1 w
+-- the place behind end-of-contents octets that close an encoding is the next
+pub IsPassed-end :
+    (x : List ℕ) (at to : Cursor) → at.index ≤ length x → at.unended ≤ at.index →
+    is_at_end at.unended (rest_of x at.index) ≡ true → to.index ≡ at.index + 2 → to.unended ≡ at.unended - 1 →
+    IsPassed x at to
+IsPassed-end x at to order room t two fewer =
+    let (some, front) = is_at_end-parts at.unended (rest_of x at.index) t in
+    let (within, parts) = slice_range-end_of_contents x at.index (length x) order (omega arith) front in
+    let whole : rest_of x at.index ≡ 0 ∷ 0 ∷ rest_of x to.index =
+    parts ∙ ap (λ z. 0 ∷ 0 ∷ rest_of x z) (sym two) in
+    let one : at.unended ≡ to.unended + 1 = omega (arith, some, fewer) in
+    record {
+      same = (
+        λ a. AreEncodings-behind_end at.unended to.unended (rest_of x at.index) (rest_of x to.index) one whole a,
+        λ a. end_of_contents one whole a,
+      );
+      fault = λ place fault w.
+          behind_end_of_contents one whole
+          (subst (λ z. HeaderFaultBehind to.unended z (rest_of x to.index) place fault) two w);
+      more = omega (arith, two);
+      within = omega (arith, within, two);
+      room = omega (arith, room, two, fewer);
+    }
 
 -- the departures of the encoding that was found, and of those behind it, are all
 pub ListsUpTo-behind :

@@ -1,6 +1,7 @@
 -- What is found step by step. Private contracts alone name these.
 use Rattle.std.specs.Prelude.{◌≡◌, ◌&&◌, ◌↔◌, ◌++◌, ◌≤◌, ◌<◌, ℕ, ◌+◌, ◌*◌, ◌-◌, nat_lt, Bool, true, false, List, [], ◌∷◌, length, reverse, slice_range}
 use Rattle.asn1_headers.specs.declared.header.ASN1Class.{ASN1Class}
+use Rattle.asn1_blocks.specs.Places.{HasNoEncodingAt}
 use Rattle.asn1_headers.specs.Fault.{DecodeFault}
 use Rattle.asn1_headers.specs.Header.{IsIdentifier, IsLength}
 use Rattle.asn1_headers.specs.Indefinite.{begins_with_end}
@@ -67,18 +68,18 @@ pub record IsParted (octets identifier len : List ℕ) (class : ASN1Class) (cons
   pub identifier_octets : IsIdentifier identifier class constructed tag
   pub length_octets : IsLength len size
 
--- the octets are encodings exactly if those behind are, and these are fewer
-pub record IsStep (unended : ℕ) (octets : List ℕ) (unended_behind : ℕ) (behind : List ℕ) : Type 0 where
-  pub same : AreEncodings unended octets ↔ AreEncodings unended_behind behind
-  pub fewer : length behind < length octets
-  pub room : unended_behind + length behind ≤ unended + length octets
-
 -- the octets from the index to the end
 abbrev pub rest_of : List ℕ → ℕ → List ℕ
 rest_of octets index = slice_range octets index (length octets)
 
--- a fault behind the next place is a fault behind the place
+-- in front of the place stands no encoding, and no end-of-contents octets that close one
+abbrev pub HasNoNext : List ℕ → Cursor → Type 0
+HasNoNext octets at =
+    (is_at_end at.unended (rest_of octets at.index) ≡ false) × HasNoEncodingAt (rest_of octets at.index) 0
+
+-- the octets behind the place are encodings exactly if those behind the next are, and have the fault of these
 pub record IsPassed (octets : List ℕ) (at next : Cursor) : Type 0 where
+  pub same : AreEncodings at.unended (rest_of octets at.index) ↔ AreEncodings next.unended (rest_of octets next.index)
   pub fault : (place : ℕ) (fault : DecodeFault)
       → HeaderFaultBehind next.unended next.index (rest_of octets next.index) place fault
       → HeaderFaultBehind at.unended at.index (rest_of octets at.index) place fault
@@ -86,13 +87,9 @@ pub record IsPassed (octets : List ℕ) (at next : Cursor) : Type 0 where
   pub within : next.index ≤ length octets
   pub room : next.unended ≤ next.index
 
--- the octets are encodings exactly if those that are left are
-pub record IsLeft (octets : List ℕ) (unended : ℕ) (rest : List ℕ) : Type 0 where
-  pub same : AreEncodings 0 octets ↔ AreEncodings unended rest
-  pub room : unended + length rest ≤ length octets
-
--- a fault behind the place is a fault of all octets
+-- all octets are encodings exactly if those behind the place are, and have the fault of these
 pub record IsReached (octets : List ℕ) (at : Cursor) : Type 0 where
+  pub same : AreEncodings 0 octets ↔ AreEncodings at.unended (rest_of octets at.index)
   pub fault : (place : ℕ) (fault : DecodeFault)
       → HeaderFaultBehind at.unended at.index (rest_of octets at.index) place fault
       → HeaderFaultBehind 0 0 octets place fault

@@ -1,12 +1,12 @@
 // Encodings one after another by their headers.
-ghost use Rattle.std.specs.Prelude.{◌≡◌, ◌↔◌, false, ◌-◌, ◌≤◌, ◌<◌, ◌+◌, ◌^◌, Bool, ℕ, suc, if◌then◌else◌, IfErr, IfOk, IfNone, IfSome, IsTrue, length};
+ghost use Rattle.std.specs.Prelude.{◌≡◌, ◌↔◌, ◌-◌, ◌≤◌, ◌<◌, ◌+◌, ◌^◌, Bool, ℕ, suc, if◌then◌else◌, IfErr, IfOk, IfNone, IfSome, IsTrue, length};
 ghost use Rattle.asn1_headers.specs.Fault.{OutOfMemoryOr};
 ghost use Rattle.asn1_headers.specs.Header.{IsIdentifier};
 ghost use Rattle.asn1_headers.specs.declared.header.ASN1Class.{ASN1Class};
-ghost use Rattle.asn1_blocks.specs.Places.{HeaderFound, IsEncoding};
+ghost use Rattle.asn1_blocks.specs.Places.{IsEncoding};
 ghost use Rattle.asn1_der.specs.Steps.{IsHeaderOf};
 ghost use Rattle.asn1_departures.specs.Departures.{AreEncodings, HeaderFaultBehind, NoEncodingsFault, is_open as is_open_is};
-ghost use Rattle.asn1_departures.specs.Steps.{IsParted, IsPassed, IsStep, is_at_end as is_at_end_is, rest_of};
+ghost use Rattle.asn1_departures.specs.Steps.{HasNoNext, IsParted, IsPassed, IsReached, is_at_end as is_at_end_is, rest_of};
 
 use asn1_blocks::encoding::encoding_at;
 use asn1_blocks::parsed::{PlacedHeader, header_within};
@@ -59,37 +59,57 @@ fn is_constructed(identifier: &[u8]) -> bool
     }
 }
 
+// An offset among encodings one after another, and how many are open before it.
+#[derive(Clone, Copy, Drop)]
+struct Cursor {
+    index: usize,
+    unended: usize,
+}
+
 // Whether the octets are encodings one after another.
 pub fn are_encodings(octets: &[u8]) -> bool
     ensures { IsTrue result ↔ AreEncodings 0 octets.now }
 {
-    let mut rest = octets;
-    let mut unended = 0;
-    'encodings: while !rest.is_empty() {
-        match behind_next(rest, &mut unended) {
-            Some(behind) => rest = behind,
-            None => return false,
-        }
-    }
-    unended == 0
+    let at = behind_encodings(octets);
+    at.index == octets.len() && at.unended == 0
 }
 
-// What is behind the encoding at the front, the header of one that is open, or end-of-contents octets; and how many are
-// open there.
-fn behind_next<'a>(rest: &'a [u8], unended: &mut usize) -> Option<&'a [u8]>
-    requires room { unended.old + length rest.now < 2 ^ 64 }
-    ensures more { IfSome result (λ behind. IsStep unended.old rest.now unended.new behind.now) }
-    ensures none { IfNone result (0 < length rest.now → AreEncodings unended.old rest.now → ⊥) }
+// The place behind encodings one after another, in front of which no other one stands.
+fn behind_encodings(octets: &[u8]) -> Cursor
+    ensures reached { IsReached octets.now result }
+    ensures stopped { HasNoNext octets.now result }
 {
-    if is_at_end(*unended, rest) {
-        *unended -= 1;
-        return Some(rest.split_at(2).1);
+    let mut at = Cursor {
+        index: 0,
+        unended: 0,
+    };
+    'encodings: while let Some(next) = behind_next(octets, at) {
+        at = next;
+    }
+    at
+}
+
+// The place behind one encoding, the header of one that is open, or end-of-contents octets.
+fn behind_next(octets: &[u8], at: Cursor) -> Option<Cursor>
+    requires within { at.index ≤ length octets.now }
+    requires room { at.unended ≤ at.index }
+    ensures passed { IfSome result (IsPassed octets.now at) }
+    ensures none { IfNone result (HasNoNext octets.now at) }
+{
+    let rest = &octets[at.index..octets.len()];
+    if is_at_end(at.unended, rest) {
+        return Some(Cursor {
+            index: at.index + 2,
+            unended: at.unended - 1,
+        });
     }
     let Some(encoding) = encoding_at(rest, 0) else {
         return None;
     };
-    *unended = unended_behind(*unended, is_open_encoding(encoding));
-    Some(rest.split_at(encoding.len().min(rest.len())).1)
+    Some(Cursor {
+        index: at.index + encoding.len(),
+        unended: unended_behind(at.unended, is_open_encoding(encoding)),
+    })
 }
 
 // How many are open behind a header.
@@ -98,13 +118,6 @@ fn unended_behind(unended: usize, is_open: bool) -> usize
     ensures { result ≡ if is_open then suc unended else unended }
 {
     if is_open { unended + 1 } else { unended }
-}
-
-// An offset among encodings one after another, and how many are open before it.
-#[derive(Clone, Copy, Drop)]
-struct Cursor {
-    index: usize,
-    unended: usize,
 }
 
 // The first fault of headers one after another, those inside definite encodings left out.
@@ -118,62 +131,33 @@ pub fn check_headers(alloc: Global, octets: &[u8]) -> Result<(), LocatedErr>
             offset: 0,
         });
     }
-    let mut at = Cursor {
-        index: 0,
-        unended: 0,
-    };
-    'headers: while at.index < octets.len() {
-        match pass_header(alloc, octets, at) {
-            Ok(next) => at = next,
-            Err(error) => {
-                return Err(LocatedErr {
-                    error,
-                    offset: at.index,
-                });
-            }
-        }
-    }
-    if at.unended > 0 {
-        return Err(LocatedErr {
-            error: ASN1DecodeErr::Incomplete,
+    let at = behind_encodings(octets);
+    match fault_at(alloc, octets, at) {
+        None => Ok(()),
+        Some(error) => Err(LocatedErr {
+            error,
             offset: at.index,
-        });
+        }),
     }
-    Ok(())
 }
 
-// Goes on behind one encoding, the header of one that is open, or end-of-contents octets.
-fn pass_header(alloc: Global, octets: &[u8], at: Cursor) -> Result<Cursor, ASN1DecodeErr>
-    requires more { at.index < length octets.now }
-    requires room { at.unended ≤ at.index }
-    ensures passed { IfOk result (IsPassed octets.now at) }
-    ensures refused { IfErr result (OutOfMemoryOr
+// What is at fault at the place, in front of which no encoding stands; nothing where all have ended.
+fn fault_at(alloc: Global, octets: &[u8], at: Cursor) -> Option<ASN1DecodeErr>
+    requires { at.index ≤ length octets.now }
+    ensures { IfSome result (OutOfMemoryOr
         (HeaderFaultBehind at.unended at.index (rest_of octets.now at.index) at.index)) }
 {
     let end = octets.len();
-    if is_at_end(at.unended, &octets[at.index..end]) {
-        return Ok(Cursor {
-            index: at.index + 2,
-            unended: at.unended - 1,
-        });
+    if at.index == end {
+        return if at.unended > 0 {
+            Some(ASN1DecodeErr::Incomplete)
+        } else {
+            None
+        };
     }
     let mut count = HeaderCount::new();
     match header_within(alloc, octets, 0, end, at.index, &mut count) {
-        Ok(header) => Ok(pass_found(octets, at, &header)),
-        Err(error) => Err(error),
-    }
-}
-
-// Goes on behind the encoding with the header, or behind the header of one that is open.
-fn pass_found(octets: &[u8], at: Cursor, header: &PlacedHeader) -> Cursor
-    requires room { at.unended ≤ at.index }
-    requires found { HeaderFound octets.now at.index (length octets.now) header.now }
-    requires no_end { is_at_end_is at.unended (rest_of octets.now at.index) ≡ false }
-    ensures { IsPassed octets.now at result }
-{
-    let is_open = is_open_encoding(&octets[at.index..header.end]);
-    Cursor {
-        index: header.end,
-        unended: unended_behind(at.unended, is_open),
+        Ok(_) => None,
+        Err(error) => Some(error),
     }
 }
