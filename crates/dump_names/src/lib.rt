@@ -1,8 +1,6 @@
 //! Names of object identifiers, with the standard that each comes from.
 //!
 //! [`Names`] is a table of 1,200 names, made once; [`OwnNames`] are those of a user, which come before it.
-//! [`identifier`] reads the contents octets of an object identifier as X.690 has them, and spells the number that the
-//! table is asked for.
 //!
 //! ```rust
 //! use dump_names::Names;
@@ -19,7 +17,6 @@
 //! of WAP are as `openssl list -objects` of OpenSSL 3.0 has them.
 #![tactic(auto)]
 
-pub mod identifier;
 mod itu_t;
 mod joint;
 mod member_bodies;

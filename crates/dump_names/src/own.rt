@@ -1,6 +1,8 @@
 // Names of object identifiers that a user gives, in the form of the configuration file of `dumpasn1`.
-use crate::identifier::{identifier_of, number_of};
+use asn1_headers::tags::OBJECT_IDENTIFIER;
 use der_io::escaped;
+use dump_values::leaf::value_of_type;
+use dump_values::value::LeafValue;
 use std::alloc::{AllocError, Global};
 use std::str;
 
@@ -168,9 +170,9 @@ fn encoded_number(alloc: Global, value: &[u8]) -> Result<Option<String>, AllocEr
     };
     match octets.as_slice() {
         [0x06, size, contents @ ..] if usize::from(*size) == contents.len() => {
-            match identifier_of(alloc, contents)? {
-                Some(identifier) => number_of(alloc, &identifier),
-                None => Ok(None),
+            match value_of_type(alloc, OBJECT_IDENTIFIER as u8, contents)? {
+                Some(LeafValue::Identifier(identifier)) => Ok(identifier.dotted),
+                _ => Ok(None),
             }
         }
         _ => Ok(None),

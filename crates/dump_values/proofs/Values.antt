@@ -11,7 +11,7 @@ use Rattle.asn1_blocks.specs.declared.block.GroupKind.{GroupKind}
 use Rattle.asn1_blocks.specs.declared.block.GroupKind.TheVariants.{Sequence, Set}
 use Rattle.asn1_blocks.proofs.Leaves.{TagKind-total, group_tag_of, leaf_tag_of, unknown_tag}
 use Rattle.dump_values.specs.Tags.{is_gone_into}
-use Rattle.dump_values.specs.Values.{HasValue, IsBerTime, IsLeaf, IsValue, is_wide}
+use Rattle.dump_values.specs.Values.{HasValue, IsLeaf, IsValue, is_time, is_wide}
 use Rattle.dump_values.specs.declared.value.LeafValue.{LeafValue}
 use Rattle.dump_values.specs.declared.value.LeafValue.TheVariants.{Address, BerTime, Bits, Boolean, Identifier, Integer, Moment, NoText, Notation, Null, Octets, Other, OtherText, Tagged, Text, WideText}
 
@@ -62,13 +62,13 @@ module _ (octets contents : List ℕ) (class : ASN1Class) (constructed : Bool) (
   -- an encoding whose contents octets mean a leaf is of a block, the last of the three cases of octets that have a
   -- value
   IsValue-encodes_leaf : (l : Leaf) → IsLeaf class tag contents l →
-      (is_wide class tag ≡ true) ⊎ (IsBerTime class tag contents ⊎ ((b : Tree ℕ) × Encodes 0 octets b))
+      (is_wide class tag ≡ true) ⊎ ((is_time class tag ≡ true) ⊎ ((b : Tree ℕ) × Encodes 0 octets b))
   IsValue-encodes_leaf l is = inr (inr (leaf 0 l, Encodes-leaf l is))
 
   -- an encoding of class Universal with a tag of no leaf, and not gone into, is of a block, the last of the three
   -- cases of octets that have a value
   IsValue-encodes_unknown : class ≡ Universal → is_leaf_tag tag ≡ false → is_gone_into class constructed tag ≡ false →
-      (is_wide class tag ≡ true) ⊎ (IsBerTime class tag contents ⊎ ((b : Tree ℕ) × Encodes 0 octets b))
+      (is_wide class tag ≡ true) ⊎ ((is_time class tag ≡ true) ⊎ ((b : Tree ℕ) × Encodes 0 octets b))
   IsValue-encodes_unknown u none closed =
       inr (inr (unknown class constructed 0 tag contents, Encodes-unknown u none closed))
 
@@ -77,7 +77,7 @@ pub IsValue-encodes :
     (octets contents : List ℕ) (class : ASN1Class) (constructed : Bool) (tag header : ℕ) (value : LeafValue) →
     is_gone_into class constructed tag ≡ false → Encoding octets class constructed tag contents header →
     IsValue class tag contents value →
-    (is_wide class tag ≡ true) ⊎ (IsBerTime class tag contents ⊎ ((b : Tree ℕ) × Encodes 0 octets b))
+    (is_wide class tag ≡ true) ⊎ ((is_time class tag ≡ true) ⊎ ((b : Tree ℕ) × Encodes 0 octets b))
 IsValue-encodes octets contents class k tag h (Boolean b) o e is =
     IsValue-encodes_leaf octets contents class k tag h e (boolean b) is
 IsValue-encodes octets contents class k tag h (Integer n) o e (inl is) =
@@ -94,16 +94,16 @@ IsValue-encodes octets contents class k tag h (Identifier identifier) o e (compo
 IsValue-encodes octets contents class k tag h (Text characters) o e (narrow, (kind, is)) =
     IsValue-encodes_leaf octets contents class k tag h e (text kind _) is
 IsValue-encodes octets contents class k tag h (WideText form characters) o e wide = inl wide
-IsValue-encodes octets contents class k tag h (OtherText characters) o e ((u, none, has), is, same) =
+IsValue-encodes octets contents class k tag h (OtherText characters) o e ((u, none), same) =
     IsValue-encodes_unknown octets contents class k tag h e u none o
-IsValue-encodes octets contents class k tag h (Notation shown) o e ((u, none, has), is) =
+IsValue-encodes octets contents class k tag h (Notation shown) o e (u, none) =
     IsValue-encodes_unknown octets contents class k tag h e u none o
 IsValue-encodes octets contents class k tag h (Moment shown) o e (inl (m, is, same)) =
     IsValue-encodes_leaf octets contents class k tag h e (utc_time m) is
 IsValue-encodes octets contents class k tag h (Moment shown) o e (inr (m, is, same)) =
     IsValue-encodes_leaf octets contents class k tag h e (generalized_time m) is
 IsValue-encodes octets contents class k tag h (BerTime shown) o e time = inr (inl time)
-IsValue-encodes octets contents class k tag h (Other shown) o e ((u, none, has), other) =
+IsValue-encodes octets contents class k tag h (Other shown) o e (u, none) =
     IsValue-encodes_unknown octets contents class k tag h e u none o
 IsValue-encodes octets contents class k tag h (Tagged shown) o e other =
     inr (inr (unknown class k 0 tag contents, Encodes-tagged octets contents class k tag h e other o))
@@ -111,7 +111,7 @@ IsValue-encodes octets contents class k tag h (Address address) o e other =
     inr (inr (unknown class k 0 tag contents, Encodes-tagged octets contents class k tag h e other o))
 IsValue-encodes octets contents class k tag h (NoText shown) o e (inl (wide, (kind, characters, is))) =
     IsValue-encodes_leaf octets contents class k tag h e (text kind characters) is
-IsValue-encodes octets contents class k tag h (NoText shown) o e (inr ((u, none, has), others)) =
+IsValue-encodes octets contents class k tag h (NoText shown) o e (inr (u, none)) =
     IsValue-encodes_unknown octets contents class k tag h e u none o
 
 -- contents octets that have a value, by their tag or by a type that a table says, are such
@@ -119,7 +119,7 @@ pub HasValue-encodes :
     (octets contents : List ℕ) (class : ASN1Class) (constructed : Bool) (tag header : ℕ) (value : LeafValue) →
     is_gone_into class constructed tag ≡ false → Encoding octets class constructed tag contents header →
     HasValue class tag contents value →
-    (is_wide class tag ≡ true) ⊎ (IsBerTime class tag contents ⊎ ((b : Tree ℕ) × Encodes 0 octets b))
+    (is_wide class tag ≡ true) ⊎ ((is_time class tag ≡ true) ⊎ ((b : Tree ℕ) × Encodes 0 octets b))
 HasValue-encodes octets contents Universal k tag h value o e is =
     IsValue-encodes octets contents Universal k tag h value o e (is refl)
 HasValue-encodes octets contents Application k tag h value o e is =

@@ -2,7 +2,7 @@
 use Rattle.std.specs.Prelude.{◌≡◌, ◌≢◌, ◌⊎◌, ◌==◌, ◌||◌, ◌&&◌, not, ℕ, ◌<◌, Bool, true, false, List, [], ◌∷◌, length, IfSome, Option, None, Some, string_bytes}
 use Rattle.std.specs.Str.{chars}
 use Rattle.asn1_numbers.specs.TwosComplement.{signed_number}
-use Rattle.asn1_headers.specs.declared.tags.TheConstants.{ENUMERATED, TELETEX_STRING, UNIVERSAL_STRING, BMP_STRING}
+use Rattle.asn1_headers.specs.declared.tags.TheConstants.{ENUMERATED, TELETEX_STRING, UNIVERSAL_STRING, BMP_STRING, UTC_TIME, GENERALIZED_TIME}
 use Rattle.asn1_headers.specs.Fault.{DecodeFault}
 use Rattle.asn1_headers.specs.declared.header.ASN1Class.{ASN1Class}
 use Rattle.asn1_headers.specs.declared.header.ASN1Class.TheVariants.{Universal}
@@ -12,8 +12,7 @@ use Rattle.asn1_leaves.specs.DottedDecimal.{dotted_decimal}
 use Rattle.asn1_leaves.specs.StringKind.{StringKind}
 use Rattle.asn1_blocks.specs.Contents.{LeafContents, LeafFault, is_leaf_tag, leaf_tag}
 use Rattle.asn1_blocks.specs.Tree.{Leaf, bit_string, boolean, generalized_time, integer, null, object_identifier, octet_string, text, utc_time}
-use Rattle.dump_values.specs.Strings.{has_text, has_notation, is_string}
-use Rattle.dump_values.specs.Times.{AreFractionOf, IsMomentText, IsTime}
+use Rattle.dump_values.specs.Times.{AreFractionOf, IsMomentText}
 use Rattle.dump_values.specs.Faults.{IsFault, IsNamed}
 use Rattle.dump_values.specs.declared.faults.Fault.{Fault}
 use Rattle.dump_values.specs.declared.value.Identifier.{Identifier}
@@ -35,17 +34,18 @@ abbrev pub has_wide_characters : ASN1Class → ℕ → List ℕ → Bool
 has_wide_characters Universal tag contents = not (length contents == 0) && is_wide_tag tag
 has_wide_characters class tag contents = false
 
--- contents octets are a UTCTime or a GeneralizedTime of BER (X.680 46.3, 47.3)
-abbrev pub IsBerTime : ASN1Class → ℕ → List ℕ → Type 0
-IsBerTime class tag contents = (class ≡ Universal) × IsTime tag contents
+-- UTCTime and GeneralizedTime, of which BER has more forms than those that the library reads (X.680 46.3, 47.3)
+abbrev pub is_time : ASN1Class → ℕ → Bool
+is_time Universal tag = (tag == UTC_TIME) || (tag == GENERALIZED_TIME)
+is_time class tag = false
 
 -- contents octets with the class and the tag mean the leaf
 abbrev pub IsLeaf : ASN1Class → ℕ → List ℕ → Leaf → Type 0
 IsLeaf class tag contents l = (class ≡ Universal) × (tag ≡ leaf_tag l) × LeafContents l contents
 
--- the tag of class Universal is that of no leaf; values of its type are text, or not
-abbrev pub IsNoLeaf : ASN1Class → ℕ → Bool → Type 0
-IsNoLeaf class tag has = (class ≡ Universal) × (is_leaf_tag tag ≡ false) × (has_text tag ≡ has)
+-- the tag of class Universal is that of no leaf
+abbrev pub IsNoLeaf : ASN1Class → ℕ → Type 0
+IsNoLeaf class tag = (class ≡ Universal) × (is_leaf_tag tag ≡ false)
 
 -- one contents octet has the first two components (X.690 8.19.4)
 abbrev pub HasShortFront : List ℕ → Type 0
@@ -82,18 +82,17 @@ IsValue class tag contents (Text characters) =
     (has_wide_characters class tag contents ≡ false)
     × ((kind : StringKind) × IsLeaf class tag contents (text kind (chars (string_bytes characters))))
 IsValue class tag contents (WideText form characters) = is_wide class tag ≡ true
-IsValue class tag contents (OtherText characters) =
-    IsNoLeaf class tag true × (is_string tag contents ≡ true) × (string_bytes characters ≡ contents)
-IsValue class tag contents (Notation shown) = IsNoLeaf class tag true × (has_notation tag ≡ true)
+IsValue class tag contents (OtherText characters) = IsNoLeaf class tag × (string_bytes characters ≡ contents)
+IsValue class tag contents (Notation shown) = IsNoLeaf class tag
 IsValue class tag contents (OfMoment time) = IsMomentOf class tag contents (string_bytes time.text)
-IsValue class tag contents (BerTime time) = IsBerTime class tag contents
-IsValue class tag contents (Other shown) = IsNoLeaf class tag false × ((tag == ENUMERATED) ≡ false)
+IsValue class tag contents (BerTime time) = is_time class tag ≡ true
+IsValue class tag contents (Other shown) = IsNoLeaf class tag
 IsValue class tag contents (Tagged shown) = class ≢ Universal
 IsValue class tag contents (Address address) = class ≢ Universal
 IsValue class tag contents (NoText shown) =
     ((has_wide_characters class tag contents ≡ true)
     × ((kind : StringKind) × (characters : List ℕ) × IsLeaf class tag contents (text kind characters)))
-    ⊎ (IsNoLeaf class tag true × (is_string tag contents ≡ false))
+    ⊎ IsNoLeaf class tag
 
 -- contents octets with the tag of class Universal have the value. Under a tag of another class it is that of a type
 -- which a table says

@@ -30,15 +30,7 @@ pub fn fault_at(alloc: Global, offset: usize, error: &ASN1DecodeErr) -> Result<F
     ensures found { IfOk result (IsNamed offset (fault_of error.now)) }
     ensures other { IfOk result (λ _. error.now ≢ OutOfMemory) }
 {
-    match error {
-        ASN1DecodeErr::OutOfMemory => Err(AllocError),
-        _ => Ok(Fault {
-            offset,
-            code: Some(error.name()),
-            message: fault_message(alloc, error)?,
-            text: None,
-        }),
-    }
+    leaf_fault(alloc, offset, None, &[], error)
 }
 
 // The fault of contents octets of a type of class Universal, whose encoding stands at the offset.

@@ -1,28 +1,22 @@
 // Contents octets of primitive encodings: their value, or what is wrong with them.
-ghost use Rattle.std.specs.Prelude.{◌≡◌, ◌≢◌, false, true, None, Some, IfErr, IfOk, IfSome};
+ghost use Rattle.std.specs.Prelude.{◌≡◌, ◌≢◌, None, Some, IfErr, IfOk, IfSome, true};
 ghost use Rattle.asn1_headers.specs.Fault.{OutOfMemoryOr};
 ghost use Rattle.asn1_headers.specs.declared.header.ASN1Class.TheVariants.{Universal};
-ghost use Rattle.asn1_headers.specs.declared.tags.TheConstants.{BIT_STRING, BMP_STRING, BOOLEAN, GENERALIZED_TIME, IA5_STRING, INTEGER, OBJECT_IDENTIFIER, OCTET_STRING, PRINTABLE_STRING, TELETEX_STRING, UNIVERSAL_STRING, UTC_TIME, UTF8_STRING};
-ghost use Rattle.asn1_blocks.specs.Contents.{LeafFault, is_leaf_tag, string_tag};
+ghost use Rattle.asn1_headers.specs.declared.tags.TheConstants.{GENERALIZED_TIME, OBJECT_IDENTIFIER, UTC_TIME};
+ghost use Rattle.asn1_blocks.specs.Contents.{LeafFault, string_tag};
 ghost use Rattle.asn1_leaves.specs.Contents.Text.{text_form};
 ghost use Rattle.asn1_leaves.specs.StringKind.{StringKind};
-ghost use Rattle.dump_values.specs.Tags.{is_gone_into};
-ghost use Rattle.dump_values.specs.Values.{IsBerTime, IsMeaning, IsValue, has_wide_characters as has_wide_characters_is, is_wide};
-ghost use Rattle.dump_values.specs.Strings.{has_text as has_text_is};
+ghost use Rattle.dump_values.specs.Values.{IsMeaning, IsValue, has_wide_characters as has_wide_characters_is, is_time, is_wide};
 
 use crate::faults::{Fault, leaf_fault};
-use crate::tag::{has_tag, is_universal, universal_header, universal_tag};
+use crate::tag::{is_universal, universal_header, universal_tag};
+use crate::universal::unknown_value;
 use crate::value::{LeafValue, bits_of, identifier_of, likely_text, printed_text};
-use crate::{
-    Address, Characters, Time, ber_time, fraction_digits, has_text, string_of, text_in_form,
-    time_at, value_text,
-};
-use asn1_blocks::contents::check_contents;
-use asn1_blocks::parsed::PlacedHeader;
+use crate::{Address, Characters, Time, ber_time, fraction_digits, text_in_form, time_at};
 use asn1_headers::error::ASN1DecodeErr;
 use asn1_headers::header::ASN1Class;
 use asn1_headers::tags::{
-    BIT_STRING, BMP_STRING, BOOLEAN, ENUMERATED, GENERALIZED_TIME, IA5_STRING, INTEGER, NULL,
+    BIT_STRING, BMP_STRING, BOOLEAN, GENERALIZED_TIME, IA5_STRING, INTEGER, NULL,
     OBJECT_IDENTIFIER, OCTET_STRING, PRINTABLE_STRING, TELETEX_STRING, UNIVERSAL_STRING, UTC_TIME,
     UTF8_STRING,
 };
@@ -30,7 +24,6 @@ use asn1_headers::whole_header::Header;
 use asn1_leaves::contents::text::TextForm;
 use asn1_leaves::contents::{boolean, generalized_time, integer, text, utc_time};
 use asn1_leaves::oid;
-use asn1_numbers::number::big_int::BigInt;
 use std::alloc::{AllocError, Global};
 use std::str;
 
@@ -84,7 +77,7 @@ fn told_value(
     }
     match of {
         ContentsType::OfTag => Ok(None),
-        ContentsType::Known(tag) => known_value(alloc, tag, contents),
+        ContentsType::Known(tag) => value_of_type(alloc, tag, contents),
         ContentsType::Address => match Address::of(contents) {
             Some(address) => Ok(Some(LeafValue::Address(address))),
             None => Ok(None),
@@ -94,7 +87,11 @@ fn told_value(
 
 // The value of contents octets of the type with this tag of class Universal, if they have one. An IA5String has
 // characters of ASCII.
-fn known_value(alloc: Global, tag: u8, contents: &[u8]) -> Result<Option<LeafValue>, AllocError> {
+pub fn value_of_type(
+    alloc: Global,
+    tag: u8,
+    contents: &[u8],
+) -> Result<Option<LeafValue>, AllocError> {
     if u64::from(tag) == IA5_STRING && !contents.is_ascii() {
         return Ok(None);
     }
@@ -114,9 +111,6 @@ pub fn read_by_tag(
     ensures { IfOk result (λ read.
         IsMeaning header.now.class header.now.tag contents.now offset read.value read.fault) }
 {
-    if let Some((form, text)) = characters_of(alloc, header, contents)? {
-        return Ok(right(LeafValue::WideText(form, text)));
-    }
     let error = match value_of(alloc, header, contents) {
         Ok(value) => return Ok(right(value)),
         Err(error) => error,
@@ -164,10 +158,10 @@ fn universal_value(alloc: Global, tag: u64, contents: &[u8]) -> Result<LeafValue
     ensures refused { IfErr result (OutOfMemoryOr (LeafFault tag contents.now)) }
 {
     match tag {
-        BOOLEAN => boolean_value(contents),
-        INTEGER => integer_value(alloc, contents),
-        BIT_STRING => bits_value(alloc, contents),
-        OCTET_STRING => octets_value(alloc, contents),
+        BOOLEAN => Ok(LeafValue::Boolean(boolean::read(contents)?)),
+        INTEGER => Ok(LeafValue::Integer(integer::read(alloc, contents)?)),
+        BIT_STRING => Ok(LeafValue::Bits(bits_of(alloc, contents)?)),
+        OCTET_STRING => Ok(LeafValue::Octets(likely_text(alloc, contents)?)),
         NULL => Ok(LeafValue::Null),
         OBJECT_IDENTIFIER => identifier_value(alloc, contents),
         UTF8_STRING => string_value(alloc, tag, TextForm::Utf8, contents),
@@ -182,34 +176,6 @@ fn universal_value(alloc: Global, tag: u64, contents: &[u8]) -> Result<LeafValue
     }
 }
 
-fn boolean_value(contents: &[u8]) -> Result<LeafValue, ASN1DecodeErr>
-    ensures found { IfOk result (IsValue Universal BOOLEAN contents.now) }
-    ensures refused { IfErr result (OutOfMemoryOr (LeafFault BOOLEAN contents.now)) }
-{
-    Ok(LeafValue::Boolean(boolean::read(contents)?))
-}
-
-fn integer_value(alloc: Global, contents: &[u8]) -> Result<LeafValue, ASN1DecodeErr>
-    ensures found { IfOk result (IsValue Universal INTEGER contents.now) }
-    ensures refused { IfErr result (OutOfMemoryOr (LeafFault INTEGER contents.now)) }
-{
-    Ok(LeafValue::Integer(integer::read(alloc, contents)?))
-}
-
-fn bits_value(alloc: Global, contents: &[u8]) -> Result<LeafValue, ASN1DecodeErr>
-    ensures found { IfOk result (IsValue Universal BIT_STRING contents.now) }
-    ensures refused { IfErr result (OutOfMemoryOr (LeafFault BIT_STRING contents.now)) }
-{
-    Ok(LeafValue::Bits(bits_of(alloc, contents)?))
-}
-
-fn octets_value(alloc: Global, contents: &[u8]) -> Result<LeafValue, ASN1DecodeErr>
-    ensures found { IfOk result (IsValue Universal OCTET_STRING contents.now) }
-    ensures refused { IfErr result (OutOfMemoryOr (LeafFault OCTET_STRING contents.now)) }
-{
-    Ok(LeafValue::Octets(likely_text(alloc, contents)?))
-}
-
 fn identifier_value(alloc: Global, contents: &[u8]) -> Result<LeafValue, ASN1DecodeErr>
     ensures found { IfOk result (IsValue Universal OBJECT_IDENTIFIER contents.now) }
     ensures refused { IfErr result (OutOfMemoryOr (LeafFault OBJECT_IDENTIFIER contents.now)) }
@@ -218,8 +184,8 @@ fn identifier_value(alloc: Global, contents: &[u8]) -> Result<LeafValue, ASN1Dec
     Ok(LeafValue::Identifier(identifier_of(alloc, contents, read)?))
 }
 
-// The characters of a string. Octets of a UniversalString or a BMPString that the library takes for UTF-8 are no
-// characters of it, unless there are none.
+// The characters of a string: those that X.690 has where the library takes octets for UTF-8, if these are so. Other
+// octets of a UniversalString or a BMPString are no characters of it, unless there are none.
 fn string_value(
     alloc: Global,
     tag: u64,
@@ -230,6 +196,11 @@ fn string_value(
     ensures found { IfOk result (IsValue Universal tag contents.now) }
     ensures refused { IfErr result (OutOfMemoryOr (LeafFault tag contents.now)) }
 {
+    if let Some(wide) = wide_form(tag, contents) {
+        if let Some(characters) = text_in_form(alloc, wide, contents)? {
+            return Ok(LeafValue::WideText(wide, characters));
+        }
+    }
     let text = text::read(alloc, form, contents)?;
     if has_wide_characters(tag, contents) {
         return Ok(LeafValue::NoText(printed_text(alloc, contents)?));
@@ -257,87 +228,9 @@ fn generalized_value(alloc: Global, contents: &[u8]) -> Result<LeafValue, ASN1De
     Ok(LeafValue::Moment(time))
 }
 
-// The value of contents octets of class Universal whose tag has no rule in the library.
-fn unknown_value(alloc: Global, tag: u64, contents: &[u8]) -> Result<LeafValue, AllocError>
-    requires { is_leaf_tag tag ≡ false }
-    ensures { IfOk result (IsValue Universal tag contents.now) }
-{
-    if tag == ENUMERATED {
-        let number = BigInt::from_signed_bytes_be(alloc, contents)?;
-        return Ok(LeafValue::Integer(number));
-    }
-    if has_text(tag) {
-        return value_as_text(alloc, tag, contents);
-    }
-    Ok(LeafValue::Other(text_of_unknown(alloc, tag, contents)?))
-}
-
-// Contents octets of an unknown type as text, where they may be some.
-fn text_of_unknown(alloc: Global, tag: u64, contents: &[u8]) -> Result<Option<String>, AllocError> {
-    if tag < 256 {
-        printed_text(alloc, contents)
-    } else {
-        likely_text(alloc, contents)
-    }
-}
-
-// The text of contents octets with the tag of a type whose values are text, which the library does not read.
-fn value_as_text(alloc: Global, tag: u64, contents: &[u8]) -> Result<LeafValue, AllocError>
-    requires text { has_text_is tag ≡ true }
-    requires no_leaf { is_leaf_tag tag ≡ false }
-    ensures { IfOk result (IsValue Universal tag contents.now) }
-{
-    if let Some(text) = string_of(tag, contents) {
-        return Ok(LeafValue::OtherText(String::from_str(alloc, text)?));
-    }
-    match value_text(alloc, tag, contents)? {
-        Some(text) => Ok(LeafValue::Notation(text)),
-        None => Ok(LeafValue::NoText(printed_text(alloc, contents)?)),
-    }
-}
-
-// Whether contents octets have a value.
-pub fn is_right(alloc: Global, header: &Header, contents: &[u8]) -> Result<bool, AllocError>
-    requires { is_gone_into header.now.class header.now.constructed header.now.tag ≡ false }
-{
-    Ok(
-        characters_of(alloc, header, contents)?.is_some()
-            || is_right_value(alloc, header, contents)?
-            || time_of(alloc, header, contents)?.is_some(),
-    )
-}
-
-fn is_right_value(alloc: Global, header: &Header, contents: &[u8]) -> Result<bool, AllocError>
-    requires { is_gone_into header.now.class header.now.constructed header.now.tag ≡ false }
-{
-    let is_wide = match universal_tag(header) {
-        Some(tag) => has_wide_characters(u64::from(tag), contents),
-        None => false,
-    };
-    Ok(!is_wide && is_read(alloc, header, contents)?)
-}
-
-// Whether the library finds nothing wrong with contents octets.
-fn is_read(alloc: Global, header: &Header, contents: &[u8]) -> Result<bool, AllocError>
-    requires { is_gone_into header.now.class header.now.constructed header.now.tag ≡ false }
-{
-    let placed = PlacedHeader {
-        class: header.class,
-        constructed: header.constructed,
-        tag: header.tag.clone(alloc)?,
-        start: 0,
-        end: contents.len(),
-    };
-    match check_contents(alloc, &placed, contents) {
-        Ok(()) => Ok(true),
-        Err(ASN1DecodeErr::OutOfMemory) => Err(AllocError),
-        Err(_) => Ok(false),
-    }
-}
-
 // The value of a time of BER that is none of DER.
 fn time_of(alloc: Global, header: &Header, contents: &[u8]) -> Result<Option<Time>, AllocError>
-    ensures { IfOk result (λ found. IfSome found (λ _. IsBerTime header.now.class header.now.tag contents.now)) }
+    ensures { IfOk result (λ found. IfSome found (λ _. is_time header.now.class header.now.tag ≡ true)) }
 {
     match universal_tag(header) {
         Some(tag) => ber_time(alloc, u64::from(tag), contents),
@@ -345,40 +238,18 @@ fn time_of(alloc: Global, header: &Header, contents: &[u8]) -> Result<Option<Tim
     }
 }
 
-// The characters of a string that the library takes for UTF-8 where X.690 has others, and their form, if the octets are
-// so. In a TeletexString they are Latin-1 where they are no UTF-8.
-fn characters_of(
-    alloc: Global,
-    header: &Header,
-    contents: &[u8],
-) -> Result<Option<(Characters, String)>, AllocError>
-    ensures { IfOk result (λ found. IfSome found (λ _. is_wide header.now.class header.now.tag ≡ true)) }
+// The form of the characters that X.690 has where the library takes octets for UTF-8. Those of a TeletexString are
+// Latin-1 where they are no UTF-8.
+fn wide_form(tag: u64, contents: &[u8]) -> Option<Characters>
+    ensures { IfSome result (λ _. is_wide Universal tag ≡ true) }
 {
-    let Some(form) = form_of(header, contents) else {
-        return Ok(None);
-    };
-    match text_in_form(alloc, form, contents)? {
-        Some(text) => Ok(Some((form, text))),
-        None => Ok(None),
+    match tag {
+        _ if contents.is_empty() => None,
+        TELETEX_STRING if str::from_utf8(contents).is_err() => Some(Characters::Latin1),
+        UNIVERSAL_STRING => Some(Characters::Utf32),
+        BMP_STRING => Some(Characters::Utf16),
+        _ => None,
     }
-}
-
-fn form_of(header: &Header, contents: &[u8]) -> Option<Characters>
-    ensures { IfSome result (λ _. is_wide header.now.class header.now.tag ≡ true) }
-{
-    if contents.is_empty() || !matches!(header.class, ASN1Class::Universal) {
-        return None;
-    }
-    if has_tag(&header.tag, TELETEX_STRING) && str::from_utf8(contents).is_err() {
-        return Some(Characters::Latin1);
-    }
-    if has_tag(&header.tag, UNIVERSAL_STRING) {
-        return Some(Characters::Utf32);
-    }
-    if has_tag(&header.tag, BMP_STRING) {
-        return Some(Characters::Utf16);
-    }
-    None
 }
 
 // Whether X.690 has characters of four or of two octets there, which the library takes for UTF-8: of class Universal.

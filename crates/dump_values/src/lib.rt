@@ -7,8 +7,8 @@
 //! Where X.690 has values that the library reads otherwise or not at all, they are read here: [`long_identifier`] is
 //! the object identifier of contents octets whose first subidentifier has more than one octet, and [`text_in_form`]
 //! the characters of octets in one of the [`Characters`]: UTF-16 of a BMPString, UTF-32 of a UniversalString, and
-//! Latin-1, which a TeletexString mostly has. [`string_of`] and [`value_text`] read types that the library does not,
-//! those that [`has_text`] tells. A [`Time`] is made by [`time_at`], or read by [`ber_time`] in the forms of BER.
+//! Latin-1, which a TeletexString mostly has. `universal` reads types that the library does not. A [`Time`] is made by
+//! [`time_at`], or read by [`ber_time`] in the forms of BER.
 //!
 //! The only error is that memory ran out.
 #![tactic(auto)]
@@ -30,4 +30,4 @@ pub use characters::{Characters, text_in_form};
 pub use identifier::long_identifier;
 pub use moment::{Time, fraction_digits, time_at};
 pub use time::ber_time;
-pub use universal::{has_text, string_of, text_beside, value_text};
+pub use universal::text_beside;

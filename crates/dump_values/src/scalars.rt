@@ -1,8 +1,4 @@
 // Octets, characters and numbers.
-ghost use Rattle.std.specs.Prelude.{◌≡◌};
-ghost use Rattle.std.specs.List.{list_all};
-ghost use Rattle.dump_values.specs.Strings.{is_printed as is_printed_is};
-
 use crate::Characters;
 use der_io::push_escaped;
 use std::alloc::AllocError;
@@ -73,15 +69,7 @@ pub fn printed_str(octets: &[u8]) -> Option<&str> {
     }
 }
 
-// Whether the octets are printed characters of ASCII.
-pub fn are_printed(octets: &[u8]) -> bool
-    ensures { result ≡ list_all is_printed_is octets.now }
-{
-    octets.iter().all(|b| is_printed(*b))
-}
-
-fn is_printed(octet: u8) -> bool
-    ensures { result ≡ is_printed_is octet }
-{
-    octet >= b' ' && octet < 127
+// Whether the octets are printed characters of ASCII, or spaces.
+pub fn are_printed(octets: &[u8]) -> bool {
+    octets.iter().all(|b| matches!(b, b' '..=b'~'))
 }

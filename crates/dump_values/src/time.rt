@@ -1,8 +1,7 @@
-// UTCTime and GeneralizedTime as X.680 has them: in the form of DER, and in the others that BER has.
-ghost use Rattle.std.specs.Prelude.{[], ◌≡◌, ◌++◌, ◌-◌, ◌∷◌, ◌≤◌, IfOk, IfSome, length, replicate};
-ghost use Rattle.std.specs.List.{list_all};
-ghost use Rattle.std.specs.Char.{is_ascii_digit};
-ghost use Rattle.dump_values.specs.Times.{AreDateTime, IsTime, full_digits as full_digits_are, is_below as is_below_is, is_clock as is_clock_is, is_fraction as is_fraction_is, is_size as is_size_is, is_zone as is_zone_is};
+// UTCTime and GeneralizedTime as X.680 has them (46.3, 47.3): in the form of DER, and in the others that BER has.
+ghost use Rattle.std.specs.Prelude.{◌≡◌, ◌<◌, IfOk, IfSome, true};
+ghost use Rattle.asn1_headers.specs.declared.header.ASN1Class.TheVariants.{Universal};
+ghost use Rattle.dump_values.specs.Values.{is_time};
 
 use crate::moment::Time;
 use asn1_headers::tags::{GENERALIZED_TIME, UTC_TIME};
@@ -13,188 +12,111 @@ use std::alloc::{AllocError, Global};
 // How many digits a date and a time have, to the second.
 const ALL_DIGITS: usize = 14;
 
-// Contents octets of a time: the digits of a date and a time, a fraction with its mark, and where the clock stands.
-#[derive(Clone, Copy)]
-struct Parts<'a> {
-    digits: &'a [u8],
-    fraction: &'a [u8],
-    zone: &'a [u8],
-}
-
 /// The value of contents octets with the tag of UTCTime or GeneralizedTime, in one of the forms that BER has beside
 /// that of DER: `2024-02-29T12:00:30.5+01:00`, `2024-02-29T12:00Z`, in local time `2024-02-29T12`. `None` of others.
 ///
 /// # Errors
 /// Memory ran out.
 pub fn ber_time(alloc: Global, tag: u64, contents: &[u8]) -> Result<Option<Time>, AllocError>
-    ensures { IfOk result (λ found. IfSome found (λ _. IsTime tag contents.now)) }
+    ensures { IfOk result (λ found. IfSome found (λ _. is_time Universal tag ≡ true)) }
 {
     if tag != UTC_TIME && tag != GENERALIZED_TIME {
         return Ok(None);
     }
-    let parts = parts_of(contents);
-    if !is_fraction(tag, parts.fraction) || !is_zone(tag, parts.zone) {
-        return Ok(None);
-    }
-    let Some(moment) = date_time(alloc, tag, parts.digits)? else {
+    time_of(alloc, tag == GENERALIZED_TIME, contents)
+}
+
+// The digits of a date and a time of day, a fraction with its mark, and the difference to Coordinated Universal Time.
+fn time_of(alloc: Global, is_general: bool, contents: &[u8]) -> Result<Option<Time>, AllocError> {
+    let digits = contents.iter().position(|b| !b.is_ascii_digit());
+    let (digits, rest) = split_before(contents, digits);
+    let zone = rest.iter().position(|b| matches!(*b, b'Z' | b'+' | b'-'));
+    let (fraction, zone) = split_before(rest, zone);
+    let full = full_digits(alloc, is_general, digits)?;
+    let Some(ahead) = seconds_ahead(is_general, zone) else {
         return Ok(None);
     };
+    if !is_size(is_general, full.len()) || !is_fraction(is_general, fraction) {
+        return Ok(None);
+    }
+    let Some(moment) = generalized_time::moment(&to_second(alloc, &full)?) else {
+        return Ok(None);
+    };
+    let text = written(alloc, &full, fraction, zone)?;
     Ok(Some(Time {
-        text: written(alloc, tag, parts)?,
+        text,
         moment,
-        ahead: seconds_ahead(parts.zone),
+        ahead,
     }))
 }
 
-fn parts_of(contents: &[u8]) -> Parts<'_>
-    ensures { contents.now ≡ result.digits.now ++ (result.fraction.now ++ result.zone.now) }
-{
-    let (digits, rest) = contents.split_at(digits_size(contents));
-    let (fraction, zone) = rest.split_at(fraction_size(rest));
-    Parts {
-        digits,
-        fraction,
-        zone,
-    }
+// The octets before the place, and those from it on; no place stands for the end.
+fn split_before(octets: &[u8], place: Option<usize>) -> (&[u8], &[u8]) {
+    octets
+        .split_at_checked(place.unwrap_or(octets.len()))
+        .unwrap_or((octets, &[]))
 }
 
-// How many digits stand in front.
-fn digits_size(octets: &[u8]) -> usize
-    ensures { result ≤ length octets.now }
-{
-    match octets.iter().position(|b| !b.is_ascii_digit()) {
-        Some(size) => size,
-        None => octets.len(),
-    }
-}
-
-// How many octets stand before the zone.
-fn fraction_size(octets: &[u8]) -> usize
-    ensures { result ≤ length octets.now }
-{
-    match octets.iter().position(|b| matches!(*b, b'Z' | b'+' | b'-')) {
-        Some(size) => size,
-        None => octets.len(),
-    }
-}
-
-fn is_fraction(tag: u64, fraction: &[u8]) -> bool
-    ensures { result ≡ is_fraction_is tag fraction.now }
-{
-    match fraction.split_first() {
-        None => true,
-        Some((mark, digits)) => {
-            tag == GENERALIZED_TIME
-                && (*mark == b'.' || *mark == b',')
-                && !digits.is_empty()
-                && are_digits(digits)
+// Whether it is nothing, or in a GeneralizedTime a point or a comma with digits.
+fn is_fraction(is_general: bool, fraction: &[u8]) -> bool {
+    match fraction {
+        [] => true,
+        [b'.' | b',', digits @ ..] => {
+            is_general && !digits.is_empty() && digits.iter().all(|b| b.is_ascii_digit())
         }
+        _ => false,
     }
 }
 
-fn are_digits(octets: &[u8]) -> bool
-    ensures { result ≡ list_all is_ascii_digit octets.now }
-{
-    octets.iter().all(|b| b.is_ascii_digit())
-}
-
-fn is_zone(tag: u64, zone: &[u8]) -> bool
-    ensures { result ≡ is_zone_is tag zone.now }
-{
-    match zone.split_first() {
-        None => tag == GENERALIZED_TIME,
-        Some((b'Z', rest)) => rest.is_empty(),
-        Some((sign, clock)) => (*sign == b'+' || *sign == b'-') && is_clock(tag, clock),
-    }
-}
-
-fn is_clock(tag: u64, clock: &[u8]) -> bool
-    ensures { result ≡ is_clock_is tag clock.now }
-{
-    if clock.len() == 4 {
-        return is_below(24, clock[0], clock[1]) && is_below(60, clock[2], clock[3]);
-    }
-    tag == GENERALIZED_TIME && clock.len() == 2 && is_below(24, clock[0], clock[1])
-}
-
-// Whether they are two digits, of a number below the limit.
-fn is_below(limit: u8, tens: u8, units: u8) -> bool
-    ensures { result ≡ is_below_is limit tens units }
-{
-    if !tens.is_ascii_digit() || !units.is_ascii_digit() {
-        return false;
-    }
-    10 * (tens - b'0') + (units - b'0') < limit
-}
-
-// The date and the time of day that digits are.
-fn date_time(alloc: Global, tag: u64, digits: &[u8]) -> Result<Option<DateTime>, AllocError>
-    ensures { IfOk result (λ found. IfSome found (λ _. AreDateTime tag digits.now)) }
-{
-    let full = full_digits(alloc, tag, digits)?;
-    if !is_size(tag, full.len()) {
-        return Ok(None);
-    }
-    let whole = to_second(alloc, &full)?;
-    Ok(generalized_time::moment(&whole))
-}
-
-// How many seconds a time of day in the zone is ahead of Coordinated Universal Time. `None` in local time.
-fn seconds_ahead(zone: &[u8]) -> Option<i64> {
+// How many seconds the time of day is ahead of Coordinated Universal Time in a zone. Inside, `None` of local time,
+// which a GeneralizedTime alone may have.
+fn seconds_ahead(is_general: bool, zone: &[u8]) -> Option<Option<i64>> {
     match zone {
-        [] => None,
-        [b'-', clock @ ..] => Some(0i64.saturating_sub(i64::from(seconds_of(clock)))),
-        [_, clock @ ..] => Some(i64::from(seconds_of(clock))),
+        [] if is_general => Some(None),
+        [b'Z'] => Some(Some(0)),
+        [b'+', clock @ ..] => Some(Some(i64::from(seconds_of(is_general, clock)?))),
+        [b'-', clock @ ..] => Some(Some(0 - i64::from(seconds_of(is_general, clock)?))),
+        _ => None,
     }
 }
 
-// How many seconds a difference of hours and minutes is, or of hours alone.
-fn seconds_of(clock: &[u8]) -> u32 {
+// How many seconds a difference is of hours and minutes, or in a GeneralizedTime of hours alone.
+fn seconds_of(is_general: bool, clock: &[u8]) -> Option<u32> {
     match clock {
-        [a, b, c, d] => {
-            let minutes = number_of(*a, *b)
-                .saturating_mul(60)
-                .saturating_add(number_of(*c, *d));
-            minutes.saturating_mul(60)
-        }
-        [a, b] => number_of(*a, *b).saturating_mul(3600),
-        _ => 0,
+        [a, b, c, d] => Some(3600 * below(24, *a, *b)? + 60 * below(60, *c, *d)?),
+        [a, b] if is_general => Some(3600 * below(24, *a, *b)?),
+        _ => None,
     }
 }
 
-// The number of two digits.
-fn number_of(tens: u8, units: u8) -> u32 {
-    10 * u32::from(tens.saturating_sub(b'0')) + u32::from(units.saturating_sub(b'0'))
+// The number of two digits, if it is below the limit.
+fn below(limit: u32, tens: u8, units: u8) -> Option<u32>
+    ensures { IfSome result (λ n. n < limit) }
+{
+    let number = 10 * char::from(tens).to_digit(10)? + char::from(units).to_digit(10)?;
+    if number < limit { Some(number) } else { None }
 }
 
 // The digits with a 0 for each that is left out, and `Z`.
-fn to_second(alloc: Global, digits: &[u8]) -> Result<Vec<u8>, AllocError>
-    ensures { IfOk result (λ whole. whole.items
-        ≡ digits.now ++ (replicate (14 - length digits.now) 48 ++ 90 ∷ [])) }
-{
-    let zeros = ALL_DIGITS - digits.len().min(ALL_DIGITS);
-    let mut whole = Vec::new(alloc);
-    whole.extend_from_slice(digits)?;
-    whole.resize(digits.len() + zeros, b'0')?;
+fn to_second(alloc: Global, digits: &[u8]) -> Result<Vec<u8>, AllocError> {
+    let mut whole = Vec::from_slice(alloc, digits)?;
+    whole.resize(ALL_DIGITS, b'0')?;
     whole.push(b'Z')?;
     Ok(whole)
 }
 
-fn is_size(tag: u64, size: usize) -> bool
-    ensures { result ≡ is_size_is tag size }
-{
-    size == ALL_DIGITS || size == 12 || (tag == GENERALIZED_TIME && size == 10)
+// Whether a date and a time may have so many digits: to the second or the minute, in a GeneralizedTime also to the
+// hour.
+fn is_size(is_general: bool, size: usize) -> bool {
+    size == ALL_DIGITS || size == 12 || (is_general && size == 10)
 }
 
-// The digits, with those of the century.
-fn full_digits(alloc: Global, tag: u64, digits: &[u8]) -> Result<Vec<u8>, AllocError>
-    ensures { IfOk result (λ full. full.items ≡ full_digits_are tag digits.now) }
-{
-    if tag == GENERALIZED_TIME {
-        return Vec::from_slice(alloc, digits);
-    }
-    let century = match digits.first() {
-        Some(first) if *first >= b'5' => b"19",
+// The digits, with those of the century, which a UTCTime leaves out: 19 for years from 50 on, else 20 (RFC 5280,
+// 4.1.2.5.1).
+fn full_digits(alloc: Global, is_general: bool, digits: &[u8]) -> Result<Vec<u8>, AllocError> {
+    let century: &[u8] = match digits {
+        _ if is_general => b"",
+        [b'5'..=b'9', ..] => b"19",
         _ => b"20",
     };
     let mut full = Vec::from_slice(alloc, century)?;
@@ -203,20 +125,21 @@ fn full_digits(alloc: Global, tag: u64, digits: &[u8]) -> Result<Vec<u8>, AllocE
 }
 
 // The parts with the marks of ISO 8601.
-fn written(alloc: Global, tag: u64, parts: Parts<'_>) -> Result<String, AllocError> {
+fn written(
+    alloc: Global,
+    digits: &[u8],
+    fraction: &[u8],
+    zone: &[u8],
+) -> Result<String, AllocError> {
     let mut text = String::new(alloc);
-    let full = full_digits(alloc, tag, parts.digits)?;
-    for (i, digit) in full.iter().enumerate() {
+    for (i, digit) in digits.iter().enumerate() {
         text.push_str(mark_before(i))?;
         text.push(char::from(*digit))?;
     }
-    if let Some((_, digits)) = parts.fraction.split_first() {
-        text.push('.')?;
-        for digit in digits {
-            text.push(char::from(*digit))?;
-        }
+    for (i, octet) in fraction.iter().enumerate() {
+        text.push(if i == 0 { '.' } else { char::from(*octet) })?;
     }
-    for (i, octet) in parts.zone.iter().enumerate() {
+    for (i, octet) in zone.iter().enumerate() {
         if i == 3 {
             text.push(':')?;
         }

@@ -1,119 +1,81 @@
 // Values of class Universal that the library does not read.
-ghost use Rattle.std.specs.Prelude.{◌≡◌, false, true, IfOk, IfSome, MatchOption};
-ghost use Rattle.std.specs.List.{list_all};
-ghost use Rattle.std.specs.Str.{is_utf8 as is_utf8_is};
-ghost use Rattle.dump_values.specs.Strings.{has_printed_characters, has_text as has_text_is, has_notation as has_notation_is, is_iri as is_iri_is, is_numeric as is_numeric_is, is_string as is_string_is};
+ghost use Rattle.std.specs.Prelude.{◌≡◌, false, IfOk};
+ghost use Rattle.asn1_headers.specs.declared.header.ASN1Class.TheVariants.{Universal};
+ghost use Rattle.asn1_blocks.specs.Contents.{is_leaf_tag};
+ghost use Rattle.dump_values.specs.Values.{IsValue};
 
 use crate::scalars::{are_printed, printed_str};
+use crate::value::{LeafValue, likely_text, printed_text};
 use asn1_headers::error::ASN1DecodeErr;
 use asn1_headers::tags::{
-    DATE, DATE_TIME, DURATION, GENERAL_STRING, GRAPHIC_STRING, NUMERIC_STRING, OBJECT_DESCRIPTOR,
-    OID_IRI, PRINTABLE_STRING, REAL, RELATIVE_OID, RELATIVE_OID_IRI, TIME, TIME_OF_DAY,
-    VIDEOTEX_STRING,
+    DATE, DATE_TIME, DURATION, ENUMERATED, GENERAL_STRING, GRAPHIC_STRING, NUMERIC_STRING,
+    OBJECT_DESCRIPTOR, OID_IRI, PRINTABLE_STRING, REAL, RELATIVE_OID, RELATIVE_OID_IRI, TIME,
+    TIME_OF_DAY, VIDEOTEX_STRING,
 };
 use asn1_leaves::contents::object_identifier;
 use asn1_numbers::number::big_int::BigInt;
 use std::alloc::{AllocError, Global};
 use std::str;
 
-/// The characters of contents octets with this tag of class Universal, where it is that of a string that the library
-/// does not read: of an ObjectDescriptor, a VideotexString, a GraphicString, a VisibleString, a GeneralString if all
-/// are printed characters of ASCII, of a NumericString if all are digits and spaces, of an OID-IRI (X.690 8.21) and a
-/// RELATIVE-OID-IRI (X.690 8.22) if they are UTF-8. Else `None`.
-pub fn string_of(tag: u64, contents: &[u8]) -> Option<&str>
-    ensures { MatchOption result
-        (is_string_is tag contents.now ≡ false)
-        (λ text. (is_string_is tag contents.now ≡ true) × (text.now ≡ contents.now)) }
-{
-    if !is_string(tag, contents) {
-        return None;
-    }
-    match str::from_utf8(contents) {
-        Ok(text) => Some(text),
-        Err(_) => None,
-    }
-}
-
-/// Whether the values of the type of class Universal with this tag are text, which [`string_of`] or [`value_text`]
-/// finds.
-pub fn has_text(tag: u64) -> bool
-    ensures { result ≡ has_text_is tag }
-{
-    tag == NUMERIC_STRING || is_printed_type(tag) || is_iri(tag) || has_notation(tag)
-}
-
-fn has_notation(tag: u64) -> bool
-    ensures { result ≡ has_notation_is tag }
-{
-    matches!(tag, REAL | RELATIVE_OID | TIME | DATE..=DURATION)
-}
-
-fn is_string(tag: u64, contents: &[u8]) -> bool
-    ensures { result ≡ is_string_is tag contents.now }
-{
-    if tag == NUMERIC_STRING {
-        are_numeric(contents)
-    } else if is_printed_type(tag) {
-        are_printed(contents)
-    } else if is_iri(tag) {
-        is_utf8(contents)
-    } else {
-        false
-    }
-}
-
-fn is_printed_type(tag: u64) -> bool
-    ensures { result ≡ has_printed_characters tag }
-{
-    matches!(
-        tag,
-        OBJECT_DESCRIPTOR | VIDEOTEX_STRING | GRAPHIC_STRING..=GENERAL_STRING
-    )
-}
-
-fn is_iri(tag: u64) -> bool
-    ensures { result ≡ is_iri_is tag }
-{
-    matches!(tag, OID_IRI | RELATIVE_OID_IRI)
-}
-
-fn is_utf8(octets: &[u8]) -> bool
-    ensures { result ≡ is_utf8_is octets.now }
-{
-    match str::from_utf8(octets) {
-        Ok(_) => true,
-        Err(_) => false,
-    }
-}
-
-fn are_numeric(octets: &[u8]) -> bool
-    ensures { result ≡ list_all is_numeric_is octets.now }
-{
-    octets.iter().all(|b| is_numeric(*b))
-}
-
-fn is_numeric(octet: u8) -> bool
-    ensures { result ≡ is_numeric_is octet }
-{
-    octet == b' ' || octet.is_ascii_digit()
-}
-
-/// The value of contents octets with this tag of class Universal as text, where it is that of a type that the library
-/// does not read: of a REAL (X.690 8.5) as `5 * 2^-5`, of a RELATIVE-OID (X.690 8.20) as `.8571.3.2`, of a DATE, a
-/// TIME-OF-DAY, a DATE-TIME, a DURATION (X.690 8.26) and a TIME as X.680 writes them. `None` of others, and of contents
-/// octets that have no value or a number beyond 2^128.
-///
-/// # Errors
-/// Memory ran out.
-pub fn value_text(alloc: Global, tag: u64, contents: &[u8]) -> Result<Option<String>, AllocError>
-    ensures { IfOk result (λ found. IfSome found (λ _. has_notation_is tag ≡ true)) }
+// The value of contents octets with this tag of class Universal, which has no rule in the library: of strings their
+// characters; of a REAL (X.690 8.5) `5 * 2^-5`, of a RELATIVE-OID (8.20) `.8571.3.2`, of a DATE, a TIME-OF-DAY, a
+// DATE-TIME, a DURATION (8.26) and a TIME as X.680 writes them, unless a number is beyond 2^128.
+pub fn unknown_value(alloc: Global, tag: u64, contents: &[u8]) -> Result<LeafValue, AllocError>
+    requires { is_leaf_tag tag ≡ false }
+    ensures { IfOk result (IsValue Universal tag contents.now) }
 {
     match tag {
-        REAL => real_text(alloc, contents),
-        RELATIVE_OID => relative_text(alloc, contents),
-        TIME | DATE..=DURATION => time_text(alloc, tag, contents),
-        _ => Ok(None),
+        ENUMERATED => Ok(LeafValue::Integer(BigInt::from_signed_bytes_be(alloc, contents)?)),
+        NUMERIC_STRING => string_value(alloc, tag, contents, are_numeric(contents)),
+        OBJECT_DESCRIPTOR | VIDEOTEX_STRING | GRAPHIC_STRING..=GENERAL_STRING => {
+            string_value(alloc, tag, contents, are_printed(contents))
+        }
+        OID_IRI | RELATIVE_OID_IRI => string_value(alloc, tag, contents, true),
+        REAL => notation_value(alloc, tag, contents, real_text(alloc, contents)?),
+        RELATIVE_OID => notation_value(alloc, tag, contents, relative_text(alloc, contents)?),
+        TIME | DATE..=DURATION => {
+            notation_value(alloc, tag, contents, time_text(alloc, tag, contents)?)
+        }
+        0..=255 => Ok(LeafValue::Other(printed_text(alloc, contents)?)),
+        _ => Ok(LeafValue::Other(likely_text(alloc, contents)?)),
     }
+}
+
+// The characters of a string whose type has them, if they are UTF-8.
+fn string_value(
+    alloc: Global,
+    _tag: u64,
+    contents: &[u8],
+    are_of_type: bool,
+) -> Result<LeafValue, AllocError>
+    requires { is_leaf_tag _tag ≡ false }
+    ensures { IfOk result (IsValue Universal _tag contents.now) }
+{
+    match str::from_utf8(contents) {
+        Ok(text) if are_of_type => Ok(LeafValue::OtherText(String::from_str(alloc, text)?)),
+        _ => Ok(LeafValue::NoText(printed_text(alloc, contents)?)),
+    }
+}
+
+// The value of contents octets in this notation, if they have one.
+fn notation_value(
+    alloc: Global,
+    _tag: u64,
+    contents: &[u8],
+    text: Option<String>,
+) -> Result<LeafValue, AllocError>
+    requires { is_leaf_tag _tag ≡ false }
+    ensures { IfOk result (IsValue Universal _tag contents.now) }
+{
+    match text {
+        Some(text) => Ok(LeafValue::Notation(text)),
+        None => Ok(LeafValue::NoText(printed_text(alloc, contents)?)),
+    }
+}
+
+// Whether octets are the characters of a NumericString: digits and the space (X.680 table 9).
+fn are_numeric(octets: &[u8]) -> bool {
+    octets.iter().all(|b| *b == b' ' || b.is_ascii_digit())
 }
 
 /// Contents octets with this tag of class Universal as text, which they are not by their type: those of a
@@ -124,10 +86,7 @@ pub fn text_beside(tag: u64, contents: &[u8]) -> Option<&str> {
     } else {
         printed_str(contents)?
     };
-    if text.is_empty() {
-        return None;
-    }
-    Some(text)
+    if text.is_empty() { None } else { Some(text) }
 }
 
 fn real_text(alloc: Global, contents: &[u8]) -> Result<Option<String>, AllocError> {

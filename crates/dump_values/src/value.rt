@@ -56,14 +56,6 @@ pub enum LeafValue {
 }
 
 impl LeafValue {
-    // The bits that it is, if it is some.
-    pub fn bits(&self) -> Option<&Bits> {
-        match self {
-            LeafValue::Bits(bits) => Some(bits),
-            _ => None,
-        }
-    }
-
     // The object identifier that it is, if it is one.
     pub fn identifier(&self) -> Option<&Identifier> {
         match self {

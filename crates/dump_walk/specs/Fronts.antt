@@ -15,7 +15,7 @@ use Rattle.dump_walk.specs.declared.cursor.End.{End}
 use Rattle.asn1_departures.specs.Departures.{AreBroken}
 use Rattle.asn1_departures.specs.declared.rule.Rule.{Rule}
 use Rattle.asn1_headers.specs.Names.{type_name}
-use Rattle.dump_values.specs.Values.{HasValue, IsBerTime, is_wide}
+use Rattle.dump_values.specs.Values.{HasValue, is_time, is_wide}
 use Rattle.dump_values.specs.declared.value.LeafValue.{LeafValue}
 use Rattle.dump_walk.specs.Ends.{end_at, taken}
 use Rattle.dump_walk.specs.Marks.{EndsWithZero}
@@ -101,7 +101,7 @@ pub data IsJudged (octets : List ℕ) (front : Front) (class : ASN1Class) (const
       front.header + front.contents ≤ length octets → is_gone_into class constructed tag ≡ false →
       stray ≡ false →
       (is_wide class tag ≡ true)
-      ⊎ (IsBerTime class tag (slice_range octets front.header (front.header + front.contents))
+      ⊎ ((is_time class tag ≡ true)
       ⊎ ((b : Tree ℕ) × Encodes 0 (take (front.header + front.contents) octets) b)) →
       faults ≡ [] → IsJudged octets front class constructed tag stray faults
   with_no_value :

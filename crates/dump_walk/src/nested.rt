@@ -11,7 +11,7 @@ use asn1_der::is_der;
 use asn1_headers::tags;
 use asn1_headers::whole_header::Header;
 use dump_shapes::Held;
-use dump_values::leaf::is_right;
+use dump_values::leaf::read_by_tag;
 use dump_values::tag::{holds_encodings, universal_tag};
 use std::alloc::{AllocError, Global};
 
@@ -184,10 +184,9 @@ fn guess_with(
         return Ok(guess);
     }
     let contents = &octets[header.size..header.size + header.announced];
-    if is_right(alloc, &header, contents)? {
-        Ok(Guess::Values)
-    } else {
-        Ok(Guess::Chance)
+    match read_by_tag(alloc, &header, contents, 0)?.value {
+        Some(_) => Ok(Guess::Values),
+        None => Ok(Guess::Chance),
     }
 }
 

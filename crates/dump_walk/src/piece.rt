@@ -22,7 +22,7 @@ use dump_shapes::{Named, SetBit, Shapes};
 use dump_values::faults::{Fault, fault_at};
 use dump_values::leaf::{ContentsType, Read, read_contents};
 use dump_values::tag::holds_encodings;
-use dump_values::value::{Bits, LeafValue};
+use dump_values::value::LeafValue;
 use std::alloc::{AllocError, Global};
 
 // What stands at the front of octets.
@@ -125,8 +125,7 @@ impl<'a> Piece<'a> {
         let spot = self.place.spot()?;
         match &self.kind {
             PieceKind::EndOfContents(_) | PieceKind::Unreadable(_) => None,
-            PieceKind::Cut(_, _) | PieceKind::Opened(_, _, _) => shapes.names_of(spot, b""),
-            PieceKind::Leaf(_, contents, _) => shapes.names_of(spot, contents),
+            _ => shapes.names_of(spot, self.contents()),
         }
     }
 
@@ -147,26 +146,37 @@ impl<'a> Piece<'a> {
 
     // Whether that its octets hold encodings is a guess.
     pub fn is_guess(&self) -> bool {
-        match &self.nested {
-            Some(nested) => nested.is_guess,
-            None => false,
-        }
+        self.nested.is_some_and(|nested| nested.is_guess)
     }
 
     // The bits of it that are set, with their names, if its type has names for bits.
     pub fn set_bits(&self, alloc: Global, shapes: &Shapes) -> Result<Vec<SetBit>, AllocError> {
-        match (self.place.leaf_type(), self.bits()) {
-            (Some(leaf), Some(bits)) => shapes.set_bits(alloc, leaf, bits.count, &bits.octets),
+        match (self.place.leaf_type(), self.value()) {
+            (Some(leaf), Some(LeafValue::Bits(bits))) => shapes.set_bits(
+                alloc,
+                leaf,
+                bits.count,
+                &bits.octets,
+            ),
             _ => Ok(Vec::new(alloc)),
         }
     }
 
-    // Its value, if that is bits.
-    fn bits(&self) -> Option<&Bits> {
+    // Its value, if it has one: of a string in segments that of these joined.
+    pub fn value(&self) -> Option<&LeafValue> {
         match &self.kind {
-            PieceKind::Leaf(_, _, Some(value)) => value.bits(),
-            PieceKind::Opened(_, _, Some(joined)) => joined.value.bits(),
+            PieceKind::Leaf(_, _, value) => value.as_ref(),
+            PieceKind::Opened(_, _, Some(joined)) => Some(&joined.value),
             _ => None,
+        }
+    }
+
+    // The contents octets that are read for its value; nothing of what holds encodings or is not whole.
+    pub fn contents(&self) -> &[u8] {
+        match &self.kind {
+            PieceKind::Leaf(_, contents, _) => contents,
+            PieceKind::Opened(_, _, Some(joined)) => &joined.contents,
+            _ => &[],
         }
     }
 }

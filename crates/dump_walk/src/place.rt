@@ -57,11 +57,7 @@ impl Place {
     pub fn shows_inside(self) -> bool
         ensures { result ≡ true → 0 < self.documents }
     {
-        let is_deep = match self.style.most_depth {
-            Some(most) => most <= self.depth,
-            None => false,
-        };
-        self.documents > 0 && !is_deep
+        self.documents > 0 && !is_too_deep(self.style.most_depth, self.depth.saturating_add(1))
     }
 
     // The place of an encoding that stands so many levels further in, maybe in a string, and is this field.
@@ -101,10 +97,9 @@ impl Place {
             depth: checked_sum(self.depth, 1)?,
             documents: self.documents - 1,
             is_segment: false,
-            around: match self.spot() {
-                Some(spot) => Around::String(spot),
-                None => Around::Nothing,
-            },
+            around: self
+                .spot()
+                .map_or(Around::Nothing, |spot| Around::String(spot)),
             field: None,
             ..self
         })
@@ -112,26 +107,17 @@ impl Place {
 
     // Which field the one is that stands here, if it is one.
     pub fn spot(self) -> Option<Spot> {
-        match self.field {
-            Some(field) => Some(field.spot),
-            None => None,
-        }
+        self.field.map(|field| field.spot)
     }
 
     // Its type, if that is known and has no parts.
     pub fn leaf_type(self) -> Option<LeafType> {
-        match self.field {
-            Some(field) => field.leaf,
-            None => None,
-        }
+        self.field.and_then(|field| field.leaf)
     }
 
     // What its octets are, if it is a string.
     pub fn held(self) -> Held {
-        match self.field {
-            Some(field) => field.held,
-            None => Held::Anything,
-        }
+        self.field.map_or(Held::Anything, |field| field.held)
     }
 
     // Of which type the contents octets of a primitive encoding here are.
@@ -145,10 +131,8 @@ impl Place {
 
     // Whether a primitive encoding here is a list of named bits (X.680 22.2).
     pub fn is_bit_list(self) -> bool {
-        match self.leaf_type() {
-            Some(leaf) => leaf.rule == ValueRule::Named,
-            None => false,
-        }
+        self.leaf_type()
+            .is_some_and(|leaf| leaf.rule == ValueRule::Named)
     }
 }
 

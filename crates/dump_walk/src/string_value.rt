@@ -49,7 +49,7 @@ pub fn string_octets(alloc: Global, element: &[u8]) -> Result<Result<Vec<u8>, No
 }
 
 // The tag of a string.
-fn string_type(header: &Header) -> Option<u8>
+pub fn string_type(header: &Header) -> Option<u8>
     ensures { MatchOption result
         (header.now.class ≡ Universal → is_string_tag_is header.now.tag ≡ true → ⊥)
         (λ tag. (header.now.class ≡ Universal) × (header.now.tag ≡ tag) × (is_string_tag_is tag ≡ true)) }

@@ -7,10 +7,10 @@ ghost use Rattle.dump_walk.specs.Pieces.{IsJoined};
 
 use crate::place::Place;
 use crate::segments::joined_segments;
-use crate::string_value::is_string_tag;
+use crate::string_value::string_type;
 use asn1_headers::whole_header::Header;
 use dump_values::leaf::{Read, read_by_tag};
-use dump_values::tag::{holds_encodings, universal_header, universal_tag};
+use dump_values::tag::{holds_encodings, universal_header};
 use dump_values::value::LeafValue;
 use std::alloc::{AllocError, Global};
 
@@ -18,28 +18,24 @@ use std::alloc::{AllocError, Global};
 pub fn string_tag(header: &Header) -> Option<u8>
     ensures { IfSome result (λ tag. (header.now.class ≡ Universal) × (header.now.tag ≡ tag)) }
 {
-    match universal_tag(header) {
-        Some(tag) if header.constructed => { if is_string_tag(tag) { Some(tag) } else { None } }
-        _ => None,
+    if header.constructed {
+        string_type(header)
+    } else {
+        None
     }
 }
 
 // How many encodings are around the outermost string that is open and constructed, if there is one, after an encoding
 // inside so many.
 pub fn string_around(string: Option<usize>, depth: usize, is_string: bool) -> Option<usize> {
-    match string {
-        Some(outermost) if outermost < depth => string,
-        _ if is_string => Some(depth),
-        _ => None,
-    }
+    string
+        .filter(|outermost| *outermost < depth)
+        .or(is_string.then_some(depth))
 }
 
 // Whether what stands inside so many encodings is in a string that is constructed.
 pub fn is_in_string(string: Option<usize>, depth: usize) -> bool {
-    match string {
-        Some(outermost) => outermost < depth,
-        None => false,
-    }
+    string.is_some_and(|outermost| outermost < depth)
 }
 
 // A constructed string in one piece: its contents octets, and their value.
