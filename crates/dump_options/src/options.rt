@@ -3,6 +3,7 @@
 use crate::command::command;
 use crate::options_fault::OptionsFault;
 use clap::ArgMatches;
+use clap::parser::ValueSource;
 use std::alloc::{AllocError, Global};
 use std::convert::AsStr;
 
@@ -92,19 +93,8 @@ pub fn options_of<'a, S: AsStr>(
     alloc: Global,
     arguments: &'a [S],
 ) -> Result<Options<'a>, OptionsFault<'a>> {
-    let matches = matches_for(alloc, arguments)?;
+    let matches = command(alloc)?.try_get_matches_from(arguments)?;
     asked_for(alloc, &matches)
-}
-
-// The matches of the arguments.
-fn matches_for<'a, S: AsStr>(
-    alloc: Global,
-    arguments: &'a [S],
-) -> Result<ArgMatches<'a>, OptionsFault<'a>> {
-    match command(alloc)?.try_get_matches_from(arguments) {
-        Ok(matches) => Ok(matches),
-        Err(e) => Err(OptionsFault::Command(e)),
-    }
 }
 
 // The options that the matches ask for.
@@ -114,14 +104,14 @@ fn asked_for<'a>(alloc: Global, matches: &ArgMatches<'a>) -> Result<Options<'a>,
     Ok(Options {
         inputs: inputs_of(alloc, matches)?,
         task: task_of(matches)?,
-        is_strict: is_set(matches, "strict"),
-        is_full: is_set(matches, "full"),
-        is_flat: is_set(matches, "flat"),
+        is_strict: matches.get_flag("strict"),
+        is_full: matches.get_flag("full"),
+        is_flat: matches.get_flag("flat"),
         output: output_of(chosen),
         most_depth: number_of(matches, "depth")?,
-        oids: value(matches, "oids"),
-        is_plain: is_set(matches, "plain"),
-        type_name: value(matches, "as"),
+        oids: matches.get_str("oids"),
+        is_plain: matches.get_flag("plain"),
+        type_name: matches.get_str("as"),
         color: color_of(matches)?,
     })
 }
@@ -178,20 +168,15 @@ fn refused_with(name: &str) -> &'static [&'static str] {
     }
 }
 
-// Whether an argument is given: one that takes a value has one then, and a flag is set.
+// Whether an argument is given: a flag that is not has the value `false`.
 fn is_given(matches: &ArgMatches<'_>, name: &str) -> bool {
-    match name {
-        "at" | "extract" | "contents" | "value" | "depth" | "oids" | "color" | "as" => {
-            value(matches, name).is_some()
-        }
-        _ => is_set(matches, name),
-    }
+    matches.value_source(name) == Some(ValueSource::CommandLine)
 }
 
 // The names of the inputs.
 fn inputs_of<'a>(alloc: Global, matches: &ArgMatches<'a>) -> Result<Vec<&'a str>, AllocError> {
     let mut inputs = Vec::new(alloc);
-    match values(matches, "FILE") {
+    match matches.get_strs("FILE") {
         None | Some([]) => inputs.push("-")?,
         Some(names) => inputs.extend_from_slice(names)?,
     }
@@ -215,67 +200,30 @@ fn task_of<'a>(matches: &ArgMatches<'a>) -> Result<Task, OptionsFault<'a>> {
     }
 }
 
-// The number that the value of an argument is, where it has one.
+// The number that the value of an argument is, where it has one: in hex digits behind `0x`, or in decimal digits.
 fn number_of<'a>(
     matches: &ArgMatches<'a>,
     name: &'static str,
 ) -> Result<Option<usize>, OptionsFault<'a>> {
-    let Some(text) = value(matches, name) else {
+    let Some(text) = matches.get_str(name) else {
         return Ok(None);
     };
-    match number_in(text) {
-        Some(n) => Ok(Some(n)),
-        None => Err(OptionsFault::NoNumber(name, text)),
+    let number = match text.strip_prefix("0x") {
+        Some(digits) => usize::from_str_radix(digits, 16),
+        None => text.parse::<usize>(),
+    };
+    match number {
+        Ok(number) => Ok(Some(number)),
+        Err(_) => Err(OptionsFault::NoNumber(name, text)),
     }
 }
 
 // When lines are colored.
 fn color_of<'a>(matches: &ArgMatches<'a>) -> Result<Color, OptionsFault<'a>> {
-    let Some(text) = value(matches, "color") else {
-        return Ok(Color::Auto);
-    };
-    match color_in(text) {
-        Some(color) => Ok(color),
-        None => Err(OptionsFault::NoColor(text)),
-    }
-}
-
-fn color_in(text: &str) -> Option<Color> {
-    match text {
-        "auto" => Some(Color::Auto),
-        "always" => Some(Color::Always),
-        "never" => Some(Color::Never),
-        _ => None,
-    }
-}
-
-// The number that a text is, in hex digits behind `0x`, or in decimal digits.
-fn number_in(text: &str) -> Option<usize> {
-    match hex_digits(text) {
-        Some(digits) => usize::from_str_radix(digits, 16).ok(),
-        None => text.parse::<usize>().ok(),
-    }
-}
-
-// What stands behind `0x`, if the text begins so.
-fn hex_digits(text: &str) -> Option<&str> {
-    text.strip_prefix("0x")
-}
-
-// The value of an argument.
-fn value<'a>(matches: &ArgMatches<'a>, name: &str) -> Option<&'a str> {
-    matches.get_str(name)
-}
-
-// The values of an argument that may have several.
-fn values<'m, 'a>(matches: &'m ArgMatches<'a>, name: &str) -> Option<&'m [&'a str]> {
-    matches.get_strs(name)
-}
-
-// Whether the flag is given.
-fn is_set(matches: &ArgMatches<'_>, name: &str) -> bool {
-    match value(matches, name) {
-        Some(text) => text == "true",
-        None => false,
+    match matches.get_str("color") {
+        None | Some("auto") => Ok(Color::Auto),
+        Some("always") => Ok(Color::Always),
+        Some("never") => Ok(Color::Never),
+        Some(text) => Err(OptionsFault::NoColor(text)),
     }
 }

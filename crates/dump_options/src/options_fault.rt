@@ -1,6 +1,4 @@
 // Why arguments are no command line.
-ghost use Rattle.std.specs.Prelude.{◌≡◌, IfOk, OnOk, false, string_bytes};
-ghost use Rattle.dump_options.specs.Options.{IsOneLine, is_answer};
 
 use clap::Error;
 use clap::error::ErrorKind;
@@ -37,9 +35,7 @@ impl From<AllocError> for OptionsFault<'_> {
 
 impl OptionsFault<'_> {
     /// Whether the arguments asked for help or the version: the text goes to standard output, and nothing is wrong.
-    pub fn is_answer(&self) -> bool
-        ensures { result ≡ is_answer self.now }
-    {
+    pub fn is_answer(&self) -> bool {
         match self {
             OptionsFault::Command(e) => {
                 matches!(e.kind(), ErrorKind::DisplayHelp | ErrorKind::DisplayVersion)
@@ -50,35 +46,21 @@ impl OptionsFault<'_> {
 
     /// The text for the user: the whole of help and of the version, and one line of what is wrong, with an argument
     /// that is like an unknown one.
-    pub fn text(&self, alloc: Global) -> Result<String, AllocError>
-        ensures one_line { IfOk result (λ text. is_answer self.now ≡ false → IsOneLine (string_bytes text)) }
-    {
+    pub fn text(&self, alloc: Global) -> Result<String, AllocError> {
         let whole = format!(in alloc; "{self}")?;
         if self.is_answer() {
             return Ok(whole);
         }
-        let mut text = String::from_str(alloc, first_line(&whole))?;
-        push_tip(&whole, &mut text)?;
-        Ok(text)
+        let line = first_line(&whole);
+        match whole.split_once(TIP) {
+            Some((_, tip)) => format!(in alloc; "{line}; did you mean {}?", first_line(tip)),
+            None => String::from_str(alloc, line),
+        }
     }
-}
-
-// Pushes the argument that is meant, where `clap` has a tip for one that there is not.
-fn push_tip(whole: &str, text: &mut String) -> Result<(), AllocError>
-    ensures { OnOk result (IsOneLine (string_bytes text.old) → IsOneLine (string_bytes text.new)) }
-{
-    if let Some((_, tip)) = whole.split_once(TIP) {
-        text.push_str("; did you mean ")?;
-        text.push_str(first_line(tip))?;
-        text.push_str("?")?;
-    }
-    Ok(())
 }
 
 // The text up to the end of its first line.
-fn first_line(text: &str) -> &str
-    ensures { IsOneLine result.now }
-{
+fn first_line(text: &str) -> &str {
     text.lines().next().unwrap_or("")
 }
 
