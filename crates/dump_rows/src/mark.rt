@@ -1,7 +1,6 @@
 // The rules of DER that a piece breaks, in words.
-ghost use Rattle.std.specs.Prelude.{◌≡◌, ◌++◌, IfOk, OnOk, map, string_bytes};
-ghost use Rattle.std.specs.List.{flat_map};
-ghost use Rattle.dump_rows.specs.Marks.{later_text, mark_text, rules_text};
+ghost use Rattle.std.specs.Prelude.{◌≡◌, ◌++◌, IfOk, codes, map, string_bytes};
+ghost use Rattle.dump_rows.specs.Marks.{mark_text};
 
 use std::alloc::{AllocError, Global};
 
@@ -9,43 +8,15 @@ use std::alloc::{AllocError, Global};
 pub fn mark_of(alloc: Global, rules: &[&str]) -> Result<String, AllocError>
     ensures { IfOk result (λ mark. string_bytes mark ≡ mark_text (map (λ r. r.now) rules.now)) }
 {
-    let mut mark = String::new(alloc);
     if rules.is_empty() {
-        return Ok(mark);
+        return Ok(String::new(alloc));
     }
-    mark.push_str(" (")?;
-    push_rules(rules, &mut mark)?;
-    mark.push_str(")")?;
-    Ok(mark)
+    let words = rules.join(alloc, ", ")?;
+    mark_with(alloc, &words)
 }
 
-// Puts that something is not DER, and which rules it breaks, with a comma and a space between two.
-pub fn push_rules(rules: &[&str], out: &mut String) -> Result<(), AllocError>
-    ensures { OnOk result (string_bytes out.new
-        ≡ string_bytes out.old ++ rules_text (map (λ r. r.now) rules.now)) }
+fn mark_with(alloc: Global, words: &str) -> Result<String, AllocError>
+    ensures { IfOk result (λ mark. string_bytes mark ≡ codes " (not DER: " ++ (words.now ++ codes ")")) }
 {
-    let Some((first, others)) = rules.split_first() else {
-        return Ok(());
-    };
-    out.push_str("not DER: ")?;
-    out.push_str(first)?;
-    push_others(others, out)
-}
-
-fn push_others(others: &[&str], out: &mut String) -> Result<(), AllocError>
-    ensures { OnOk result (string_bytes out.new
-        ≡ string_bytes out.old ++ flat_map (λ r. later_text r.now) others.now) }
-{
-    for rule in others {
-        push_later(rule, out)?;
-    }
-    Ok(())
-}
-
-fn push_later(rule: &str, out: &mut String) -> Result<(), AllocError>
-    ensures { OnOk result (string_bytes out.new ≡ string_bytes out.old ++ later_text rule.now) }
-{
-    out.push_str(", ")?;
-    out.push_str(rule)?;
-    Ok(())
+    format!(in alloc; " (not DER: {words})")
 }

@@ -9,7 +9,6 @@ ghost use Rattle.dump_rows.specs.declared.printer.Look.TheVariants.{Page};
 use crate::color::Paint;
 use crate::columns::MOST_LEVELS;
 use crate::line::{push_end, push_part, push_row_line};
-use crate::mark::push_rules;
 use crate::page::element::push_element_start;
 use crate::page::markup::{Markup, push_markup, push_octets};
 use crate::row::Row;
@@ -118,8 +117,8 @@ impl<W: Write> Printer<W> {
     pub fn push_broken(&mut self, offset: usize, rules: &[&str]) -> Result<(), StreamFault>
         ensures { OnOk result (PrintsText W.contents self.old self.new) }
     {
-        let mut message = String::new(self.alloc);
-        push_rules(rules, &mut message)?;
+        let words = rules.join(self.alloc, ", ")?;
+        let message = format!(in self.alloc; "not DER: {words}")?;
         self.push_fault(offset, &message)
     }
 
