@@ -1,10 +1,9 @@
 -- Base 64 that is decoded in parts, for `decoder`: octets of whole groups have symbols of their own.
 use Rattle.std.proofs.Common.{◌≡◌, ◌%◌, ◌∙◌, ℕ, zero, suc, Bool, true, false, if◌then◌else◌, List, [], ◌∷◌, ◌++◌, ap, append_assoc, append-nil, arith, drop, length, refl, sym, take}
-use Rattle.std.specs.Prelude.{Err, Ok}
+use Rattle.std.specs.Prelude.{Ok}
 use Rattle.base64.proofs.EngineFacts.{decode_of-encode_of, encode_of-append, encode_of-nil}
 use Rattle.base64.specs.Engines.{standard}
 use Rattle.base64.specs.GeneralPurpose.{IsBytes, decode_of, encode_of}
-use Rattle.base64.specs.declared.decode.DecodeError.{DecodeError}
 use Rattle.std.specs.Char.{is_ascii_whitespace}
 use Rattle.der_forms.specs.Forms.{without_spaces}
 
@@ -33,12 +32,6 @@ pub decode_of-last :
 decode_of-last octets last symbols (whole, bytes) later e =
     rw (e, ← encode_of-append standard octets last whole)
     (decode_of-encode_of standard (octets ++ last) refl (IsBytes-append octets last bytes later))
-
--- where no octets were decoded before, what is wrong with the last symbols is wrong with all
-pub decode_of-all :
-    (octets symbols : List ℕ) (e : DecodeError) → octets ≡ [] → decode_of standard symbols ≡ Err e →
-    decode_of standard (encode_of standard octets ++ symbols) ≡ Err e
-decode_of-all octets symbols e none h = rw (encode_of-none octets symbols none) h
 
 -- an octet left out or kept at the front of the first of two parts is left out or kept in the whole
 without_spaces-if :

@@ -7,8 +7,8 @@ use Rattle.der_digits.specs.Search.{all_of_some, begins, begins_by, contains}
 use Rattle.der_digits.specs.Digits.{has_columns}
 use Rattle.der_forms.specs.Forms.{is_text_octet, without_mark}
 use Rattle.der_forms.specs.declared.breaks.Place.{Place}
-use Rattle.der_forms.specs.declared.breaks.Place.TheVariants.{Blank, Words, Opening, Label, Ended}
-use Rattle.der_io.specs.Characters.{carriage_return, hyphen, line_feed, space}
+use Rattle.der_forms.specs.declared.breaks.Place.TheVariants.{Blank, Words, Label, Ended}
+use Rattle.der_io.specs.Characters.{carriage_return, hyphen, line_feed}
 
 -- the units of sixteen bits in octets, of which the first or the second has more weight
 abbrev pub units_of : Bool → List ℕ → List ℕ
@@ -51,29 +51,25 @@ begins_begin text = begins (codes "-----BEGIN ") text
 abbrev pub begins_end : List ℕ → Bool
 begins_end text = begins (codes "-----END ") text
 
--- white space or a hyphen, which may stand behind the label of an object in its line
-abbrev pub is_filler : ℕ → Bool
-is_filler b = is_ascii_whitespace b || b == hyphen
+abbrev pub begins_space : List ℕ → Bool
+begins_space text = begins_by is_ascii_whitespace text
 
--- a line break is wanting before this text: before an object or its end behind words, and behind its label
+-- a line break is wanting before this text: before an object or its end behind words; and behind a label, where more
+-- stands in its line than white space and hyphens
 abbrev pub lacks_break : Place → List ℕ → Bool
 lacks_break Blank text = false
 lacks_break Words text = begins_begin text || begins_end text
-lacks_break Opening text = false
-lacks_break (Label hyphens) text = hyphens == 5 && (begins_end text || not (begins_by is_filler text))
+lacks_break (Label hyphens) text =
+    hyphens == 5 && (begins_end text || not (begins_space text || begins (hyphen ∷ []) text))
 lacks_break Ended text = false
 
 -- the place behind the first octet of a text that is in no label
 abbrev pub behind_words : Place → List ℕ → Place
 behind_words place text =
     if begins (line_feed ∷ []) text then Blank
-    else if begins_begin text then Opening
+    else if begins_begin text then Label 0
     else if begins_end text then Ended
     else place
-
-abbrev pub behind_opening : List ℕ → Place
-behind_opening text =
-    if begins (line_feed ∷ []) text then Blank else if begins (space ∷ []) text then Label 0 else Opening
 
 -- how many hyphens in a row stand in a label, up to five
 abbrev pub more_hyphens : ℕ → ℕ
@@ -84,14 +80,13 @@ behind_label hyphens text =
     if begins (line_feed ∷ []) text then Blank
     else if hyphens == 5 && begins_end text then Ended
     else if begins (hyphen ∷ []) text then Label (more_hyphens hyphens)
-    else if hyphens == 5 then (if begins_by is_ascii_whitespace text then Label 5 else Words)
-    else Label 0
+    else if nat_lt hyphens 5 then Label 0
+    else if begins_space text then Label hyphens else Words
 
 -- the place behind the first octet of the text
 abbrev pub place_behind : Place → List ℕ → Place
-place_behind Blank text = behind_words (if begins_by is_ascii_whitespace text then Blank else Words) text
+place_behind Blank text = behind_words (if begins_space text then Blank else Words) text
 place_behind Words text = behind_words Words text
-place_behind Opening text = behind_opening text
 place_behind (Label hyphens) text = behind_label hyphens text
 place_behind Ended text = behind_words Ended text
 

@@ -30,6 +30,13 @@ pub fn push_symbols(text: &[u8], symbols: &mut Vec<u8>) -> Result<(), AllocError
     Ok(())
 }
 
+// The symbols that spell the octets.
+pub fn symbols_of_octets(alloc: Global, octets: &[u8]) -> Result<Vec<u8>, AllocError>
+    ensures { IfOk result (λ symbols. symbols.items ≡ encode_of standard octets.now) }
+{
+    Ok(STANDARD.encode(alloc, octets)?.into_bytes())
+}
+
 // What the symbols spell, or why they spell nothing.
 pub fn decode(alloc: Global, symbols: &[u8]) -> Result<Result<Vec<u8>, DecodeError>, AllocError>
     ensures decoded { IfOk result (λ decoded. MatchResult decoded

@@ -1,9 +1,9 @@
 // The line breaks of PEM that came on one line, or with its line breaks spelled.
-ghost use Rattle.std.specs.Prelude.{◌≡◌, ◌++◌, ◌||◌, codes, if◌then◌else◌, true, IfOk, OnOk};
+ghost use Rattle.std.specs.Prelude.{◌≡◌, ◌++◌, ◌||◌, codes, true, IfOk, OnOk};
 ghost use Rattle.std.specs.Char.{is_ascii_whitespace};
 ghost use Rattle.der_digits.specs.Search.{begins, begins_by};
-ghost use Rattle.der_forms.specs.Texts.{begins_begin, begins_end, behind_label as behind_label_is, behind_opening as behind_opening_is, behind_words as behind_words_is, broken, is_filler, lacks_break as lacks_break_is, more_hyphens as more_hyphens_is, octet_or_break, place_behind as place_behind_is, unfolded as unfolded_is, with_breaks as with_breaks_are};
-ghost use Rattle.der_forms.specs.declared.breaks.Place.TheVariants.{Blank as blank, Label as label, Words as words};
+ghost use Rattle.der_forms.specs.Texts.{behind_label as behind_label_is, behind_words as behind_words_is, broken, lacks_break as lacks_break_is, more_hyphens as more_hyphens_is, octet_or_break, place_behind as place_behind_is, unfolded as unfolded_is, with_breaks as with_breaks_are};
+ghost use Rattle.der_forms.specs.declared.breaks.Place.TheVariants.{Blank as blank};
 
 use crate::lines::{BEGIN, END};
 use std::alloc::{AllocError, Global};
@@ -18,9 +18,7 @@ pub enum Place {
     Blank,
     // Behind words.
     Words,
-    // In the words that begin an object.
-    Opening,
-    // In the label of an object that begins, behind so many hyphens.
+    // In the words that begin an object and in its label, behind so many hyphens.
     Label(u8),
     // Behind what ends an object.
     Ended,
@@ -146,27 +144,6 @@ fn push_broken(is_wanting: bool, b: u8, whole: &mut Vec<u8>) -> Result<(), Alloc
     }
 }
 
-fn begins_begin(text: &[u8]) -> bool
-    ensures { result ≡ begins_begin text.now }
-{
-    text.starts_with(BEGIN)
-}
-
-fn begins_end(text: &[u8]) -> bool
-    ensures { result ≡ begins_end text.now }
-{
-    text.starts_with(END)
-}
-
-fn begins_filler(text: &[u8]) -> bool
-    ensures { result ≡ begins_by is_filler text.now }
-{
-    match text.first() {
-        Some(b) => b.is_ascii_whitespace() || *b == b'-',
-        None => false,
-    }
-}
-
 fn begins_space(text: &[u8]) -> bool
     ensures { result ≡ begins_by is_ascii_whitespace text.now }
 {
@@ -181,10 +158,11 @@ fn lacks_break(place: Place, text: &[u8]) -> bool
     ensures { result ≡ lacks_break_is place text.now }
 {
     match place {
-        Place::Blank | Place::Opening | Place::Ended => false,
-        Place::Words => begins_begin(text) || begins_end(text),
+        Place::Blank | Place::Ended => false,
+        Place::Words => text.starts_with(BEGIN) || text.starts_with(END),
         Place::Label(hyphens) => {
-            hyphens == HYPHENS && (begins_end(text) || !begins_filler(text))
+            hyphens == HYPHENS
+                && (text.starts_with(END) || !(begins_space(text) || text.starts_with(b"-")))
         }
     }
 }
@@ -195,11 +173,9 @@ fn place_behind(place: Place, text: &[u8]) -> Place
 {
     match place {
         Place::Blank if begins_space(text) => behind_words(Place::Blank, text),
-        Place::Blank => behind_words(Place::Words, text),
-        Place::Words => behind_words(Place::Words, text),
-        Place::Opening => behind_opening(text),
-        Place::Label(hyphens) => behind_label(hyphens, text),
+        Place::Blank | Place::Words => behind_words(Place::Words, text),
         Place::Ended => behind_words(Place::Ended, text),
+        Place::Label(hyphens) => behind_label(hyphens, text),
     }
 }
 
@@ -209,25 +185,31 @@ fn behind_words(place: Place, text: &[u8]) -> Place
 {
     if text.starts_with(b"\n") {
         Place::Blank
-    } else if begins_begin(text) {
-        Place::Opening
-    } else if begins_end(text) {
+    } else if text.starts_with(BEGIN) {
+        Place::Label(0)
+    } else if text.starts_with(END) {
         Place::Ended
     } else {
         place
     }
 }
 
-// The place behind the first octet in the words that begin an object.
-fn behind_opening(text: &[u8]) -> Place
-    ensures { result ≡ behind_opening_is text.now }
+// The place behind the first octet in the words that begin an object, or in its label.
+fn behind_label(hyphens: u8, text: &[u8]) -> Place
+    ensures { result ≡ behind_label_is hyphens text.now }
 {
     if text.starts_with(b"\n") {
         Place::Blank
-    } else if text.starts_with(b" ") {
+    } else if hyphens == HYPHENS && text.starts_with(END) {
+        Place::Ended
+    } else if text.starts_with(b"-") {
+        Place::Label(more_hyphens(hyphens))
+    } else if hyphens < HYPHENS {
         Place::Label(0)
+    } else if begins_space(text) {
+        Place::Label(hyphens)
     } else {
-        Place::Opening
+        Place::Words
     }
 }
 
@@ -239,33 +221,5 @@ fn more_hyphens(hyphens: u8) -> u8
         hyphens + 1
     } else {
         HYPHENS
-    }
-}
-
-// The place behind the first octet in a label.
-fn behind_label(hyphens: u8, text: &[u8]) -> Place
-    ensures { result ≡ behind_label_is hyphens text.now }
-{
-    if text.starts_with(b"\n") {
-        Place::Blank
-    } else if hyphens == HYPHENS && begins_end(text) {
-        Place::Ended
-    } else if text.starts_with(b"-") {
-        Place::Label(more_hyphens(hyphens))
-    } else if hyphens == HYPHENS {
-        behind_hyphens(text)
-    } else {
-        Place::Label(0)
-    }
-}
-
-// The place behind the hyphens that end a label and the first octet of the text.
-fn behind_hyphens(text: &[u8]) -> Place
-    ensures { result ≡ (if begins_by is_ascii_whitespace text.now then label 5 else words) }
-{
-    if begins_space(text) {
-        Place::Label(HYPHENS)
-    } else {
-        Place::Words
     }
 }

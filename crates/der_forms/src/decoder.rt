@@ -1,49 +1,46 @@
 // Base 64 that is decoded while its lines are read, so that its symbols are not all held.
-ghost use Rattle.std.specs.Prelude.{◌≡◌, ◌++◌, [], false, IfOk, IfSome, MatchResult, OnOk, Err, Ok};
+ghost use Rattle.std.specs.Prelude.{◌≡◌, ◌%◌, length, IfOk, MatchOption, None, Ok};
+ghost use Rattle.std.specs.Result.{result_ok};
 ghost use Rattle.base64.specs.Engines.{standard};
-ghost use Rattle.base64.specs.GeneralPurpose.{decode_of};
-ghost use Rattle.der_forms.specs.Decoded.{IsWhole, symbols_read};
+ghost use Rattle.base64.specs.GeneralPurpose.{IsBytes, decode_of};
 ghost use Rattle.der_forms.specs.Forms.{without_spaces};
-ghost use Rattle.der_forms.specs.Objects.{symbols_of};
 
-use crate::base64_text::{decode, push_symbols};
+use crate::base64_text::{decode, push_symbols, symbols_of_octets};
 use base64::DecodeError;
 use std::alloc::{AllocError, Global};
 
 // How many symbols are decoded at once, at least.
 const LEAST_SYMBOLS: usize = 4096;
 
-// What the first symbols spell, and those behind them.
+// What the first symbols spell, in whole groups, and the symbols behind them.
 #[derive(Drop)]
 pub struct Decoder {
     pub octets: Vec<u8>,
     pub symbols: Vec<u8>,
-    // symbols are decoded before all are read
-    pub is_early: bool,
+    // no symbols were met that spell nothing, or end with padding
+    is_early: bool,
+    ghost is_whole: { (length octets.items % 3 ≡ 0) × IsBytes octets.items },
 }
 
 impl Decoder {
+    ghost use Rattle.std.specs.Prelude.{◌++◌, [], MatchResult, OnOk};
+    ghost use Rattle.der_forms.specs.Decoded.{symbols_read};
+    ghost use Rattle.der_forms.specs.Objects.{symbols_of};
+
     // A decoder that has read no symbols.
-    pub fn new(alloc: Global, is_early: bool) -> Decoder
-        ensures none { symbols_read result ≡ [] }
-        ensures whole { IsWhole result }
-        ensures late { result.octets.items ≡ [] }
-        ensures early { result.is_early ≡ is_early }
+    pub fn new(alloc: Global) -> Decoder
+        ensures { symbols_read result ≡ [] }
     {
         Decoder {
             octets: Vec::new(alloc),
             symbols: Vec::new(alloc),
-            is_early,
+            is_early: true,
         }
     }
 
     // Reads the symbols of a line. One with a colon is a header of the object (RFC 1421).
     pub fn read_line(&mut self, alloc: Global, line: &[u8]) -> Result<(), AllocError>
-        requires { IsWhole self.now }
-        ensures symbols { OnOk result (symbols_read self.new ≡ symbols_read self.old ++ symbols_of line.now) }
-        ensures whole { OnOk result (IsWhole self.new) }
-        ensures late { self.old.is_early ≡ false → OnOk result (
-            (self.new.octets.items ≡ self.old.octets.items) × (self.new.is_early ≡ false)) }
+        ensures { OnOk result (symbols_read self.new ≡ symbols_read self.old ++ symbols_of line.now) }
     {
         if line.contains(&b':') {
             return Ok(());
@@ -53,11 +50,7 @@ impl Decoder {
 
     // Reads the symbols of a part of a text.
     fn read(&mut self, alloc: Global, part: &[u8]) -> Result<(), AllocError>
-        requires { IsWhole self.now }
-        ensures symbols { OnOk result (symbols_read self.new ≡ symbols_read self.old ++ without_spaces part.now) }
-        ensures whole { OnOk result (IsWhole self.new) }
-        ensures late { self.old.is_early ≡ false → OnOk result (
-            (self.new.octets.items ≡ self.old.octets.items) × (self.new.is_early ≡ false)) }
+        ensures { OnOk result (symbols_read self.new ≡ symbols_read self.old ++ without_spaces part.now) }
     {
         push_symbols(part, &mut self.symbols)?;
         if self.is_early && self.symbols.len() >= LEAST_SYMBOLS && self.symbols.len() % 4 == 0 {
@@ -68,9 +61,7 @@ impl Decoder {
 
     // Decodes the symbols, unless they have padding or spell nothing, after which none is decoded before all are read.
     fn decode_front(&mut self, alloc: Global) -> Result<(), AllocError>
-        requires { IsWhole self.now }
-        ensures symbols { OnOk result (symbols_read self.new ≡ symbols_read self.old) }
-        ensures whole { OnOk result (IsWhole self.new) }
+        ensures { OnOk result (symbols_read self.new ≡ symbols_read self.old) }
     {
         match decode(alloc, &self.symbols)? {
             Ok(octets) if octets.len() % 3 == 0 => {
@@ -82,30 +73,42 @@ impl Decoder {
         Ok(())
     }
 
-    // What all symbols spell, or why they spell nothing, which is known if none was decoded before.
-    pub fn finish(self, alloc: Global) -> Result<Result<Vec<u8>, DecodeError>, AllocError>
-        requires { IsWhole self }
+    // What all symbols spell, or how many of them stand before the one at fault.
+    pub fn finish(self, alloc: Global) -> Result<Result<Vec<u8>, usize>, AllocError>
         ensures { IfOk result (λ decoded. MatchResult decoded
             (λ octets. decode_of standard (symbols_read self) ≡ Ok octets.items)
-            (λ e. self.octets.items ≡ [] → decode_of standard (symbols_read self) ≡ Err e)) }
+            (λ _. result_ok (decode_of standard (symbols_read self)) ≡ None)) }
     {
         let mut octets = self.octets;
-        match decode(alloc, &self.symbols)? {
-            Ok(last) => {
-                octets.extend_from_slice(&last)?;
-                Ok(Ok(octets))
-            }
-            Err(fault) => Ok(Err(fault)),
+        if let Ok(last) = decode(alloc, &self.symbols)? {
+            octets.extend_from_slice(&last)?;
+            return Ok(Ok(octets));
+        }
+        let mut symbols = symbols_of_octets(alloc, &octets)?;
+        symbols.extend_from_slice(&self.symbols)?;
+        match decode(alloc, &symbols)? {
+            Ok(octets) => Ok(Ok(octets)),
+            Err(fault) => Ok(Err(place_of(&fault, symbols.len()))),
         }
     }
 }
 
-// What the symbols of a text spell, decoded in parts. `None` says nothing: they may have padding before their end.
+// How many symbols stand before the one at fault, the last one where their number is at fault.
+fn place_of(fault: &DecodeError, count: usize) -> usize {
+    match fault {
+        DecodeError::InvalidByte(offset, _) => *offset,
+        DecodeError::InvalidLastSymbol { offset, .. } => *offset,
+        DecodeError::InvalidLength(_) | DecodeError::InvalidPadding => count.saturating_sub(1),
+    }
+}
+
+// What the symbols of a text spell, decoded in parts, if anything.
 pub fn octets_in(alloc: Global, text: &[u8]) -> Result<Option<Vec<u8>>, AllocError>
-    ensures { IfOk result (λ octets. IfSome octets (λ v.
-        decode_of standard (without_spaces text.now) ≡ Ok v.items)) }
+    ensures { IfOk result (λ octets. MatchOption octets
+        (result_ok (decode_of standard (without_spaces text.now)) ≡ None)
+        (λ v. decode_of standard (without_spaces text.now) ≡ Ok v.items)) }
 {
-    let mut decoder = Decoder::new(alloc, true);
+    let mut decoder = Decoder::new(alloc);
     let mut rest = text;
     while !rest.is_empty() {
         let (part, after) = rest.split_at(rest.len().min(LEAST_SYMBOLS));

@@ -7,7 +7,7 @@ ghost use Rattle.der_digits.specs.Layouts.{has_value};
 ghost use Rattle.der_digits.specs.Search.{all_of_some};
 ghost use Rattle.der_forms.specs.Forms.{is_printed, unknown_text, without_spaces};
 ghost use Rattle.der_forms.specs.Known.{are_words, form_is, form_of_text, is_in_words, is_sequence, length_fits, number_fits, of_base64, of_loose_base64, of_symbols};
-ghost use Rattle.der_forms.specs.Objects.{IsReadAs, document_in as document_in_form, document_in_text, document_of as document_is, first_of, objects_of};
+ghost use Rattle.der_forms.specs.Objects.{IsReadAs, document_in as document_in_form, document_of as document_is, first_of, objects_of};
 ghost use Rattle.der_forms.specs.Shown.{shown};
 ghost use Rattle.der_forms.specs.declared.input.FormFault.TheVariants.{OutOfMemory};
 
@@ -122,21 +122,16 @@ fn base64_form(alloc: Global, text: &[u8]) -> Result<InputForm, AllocError>
     match decoder::octets_in(alloc, text)? {
         Some(octets) if octets.starts_with(&[0x30]) => Ok(InputForm::Spelled(octets)),
         Some(_) => Ok(form_unknown(text)),
-        None => base64_form_late(alloc, text),
+        None => unpadded_form(alloc, text),
     }
 }
 
-// The form of base64 whose symbols are decoded when all are read.
-fn base64_form_late(alloc: Global, text: &[u8]) -> Result<InputForm, AllocError>
-    ensures { IfOk result (λ form. shown form
-        ≡ of_base64 (decode_base64 standard (without_spaces text.now)) (without_spaces text.now)) }
+// The form of text that is no base64 with its padding.
+fn unpadded_form(alloc: Global, text: &[u8]) -> Result<InputForm, AllocError>
+    ensures { IfOk result (λ form. shown form ≡ of_loose_base64 (without_spaces text.now)) }
 {
     let symbols = base64_text::without_spaces(alloc, text)?;
-    match base64_text::decode(alloc, &symbols)? {
-        Ok(octets) if octets.starts_with(&[0x30]) => Ok(InputForm::Spelled(octets)),
-        Ok(_) => Ok(form_unknown(text)),
-        Err(_) => loose_base64_form(alloc, &symbols, text),
-    }
+    loose_base64_form(alloc, &symbols, text)
 }
 
 // The form of base64 without its padding, or of base64url.
@@ -275,6 +270,8 @@ pub enum FormFault {
 }
 
 impl From<AllocError> for FormFault {
+    ghost from_gives = { λ _ e. e ≡ OutOfMemory };
+
     fn from(_e: AllocError) -> FormFault {
         FormFault::OutOfMemory
     }
@@ -289,24 +286,9 @@ pub fn document_of(alloc: Global, input: Vec<u8>) -> Result<Vec<u8>, FormFault>
     ensures octets { IfOk result (λ octets. document_is input.items ≡ Some octets.items) }
     ensures fault { IfErr result (λ e. (e ≡ OutOfMemory) ⊎ (document_is input.items ≡ None)) }
 {
-    match text_of(alloc, input) {
-        Ok(text) => octets_in(alloc, text),
-        Err(_) => Err(FormFault::OutOfMemory),
-    }
-}
-
-// The octets of the document of a text.
-fn octets_in(alloc: Global, text: Vec<u8>) -> Result<Vec<u8>, FormFault>
-    ensures octets { IfOk result (λ octets. document_in_text text.items ≡ Some octets.items) }
-    ensures fault { IfErr result (λ e. (e ≡ OutOfMemory) ⊎ (document_in_text text.items ≡ None)) }
-{
-    match form_of(alloc, &text) {
-        Ok(form) => match document_in(alloc, form, text) {
-            Ok(document) => Ok(document.octets),
-            Err(fault) => Err(fault),
-        },
-        Err(_) => Err(FormFault::OutOfMemory),
-    }
+    let text = text_of(alloc, input)?;
+    let form = form_of(alloc, &text)?;
+    Ok(document_in(alloc, form, text)?.octets)
 }
 
 /// A document of an input.
@@ -338,22 +320,10 @@ pub fn labelled_document_of(alloc: Global, input: Vec<u8>) -> Result<LabelledDoc
     ensures octets { IfOk result (λ document. IsReadAs input.items document.octets.items) }
     ensures fault { IfErr result (λ e. (e ≡ OutOfMemory) ⊎ (document_is input.items ≡ None)) }
 {
-    match text_of(alloc, input) {
-        Ok(text) => labelled_document_in(alloc, text),
-        Err(_) => Err(FormFault::OutOfMemory),
-    }
-}
-
-// The document of a text, in any layout.
-fn labelled_document_in(alloc: Global, text: Vec<u8>) -> Result<LabelledDocument, FormFault>
-    ensures octets { IfOk result (λ document. (document_in_text text.items ≡ Some document.octets.items)
-        ⊎ (form_is text.items ≡ unknown_text)) }
-    ensures fault { IfErr result (λ e. (e ≡ OutOfMemory) ⊎ (document_in_text text.items ≡ None)) }
-{
-    match form_of(alloc, &text) {
-        Ok(InputForm::LaidOut(octets)) => Ok(LabelledDocument::without(octets)),
-        Ok(form) => document_in(alloc, form, text),
-        Err(_) => Err(FormFault::OutOfMemory),
+    let text = text_of(alloc, input)?;
+    match form_of(alloc, &text)? {
+        InputForm::LaidOut(octets) => Ok(LabelledDocument::without(octets)),
+        form => document_in(alloc, form, text),
     }
 }
 
@@ -379,34 +349,22 @@ fn first_object(alloc: Global, input: &[u8]) -> Result<LabelledDocument, FormFau
     ensures octets { IfOk result (λ document. first_of (objects_of input.now) ≡ Some document.octets.items) }
     ensures fault { IfErr result (λ e. (e ≡ OutOfMemory) ⊎ (first_of (objects_of input.now) ≡ None)) }
 {
-    let Ok(next) = next_object(alloc, Lines::of(input)) else {
-        return Err(FormFault::OutOfMemory);
-    };
-    let Some((object, after)) = next else {
+    let Some((object, after)) = next_object(alloc, Lines::of(input))? else {
         return Err(FormFault::Text(1));
     };
     let bad_end = fault_of_end(&object, after.before);
     let PemObject { label, octets, .. } = object;
-    match octets {
-        Ok(octets) => match bad_end {
-            Some((line, what)) => Err(FormFault::BadEnd(line, what)),
-            None => labelled(alloc, label, octets),
-        },
-        Err(PemFault::Encrypted) => Err(FormFault::Encrypted),
-        Err(PemFault::OpenSsh) => Err(FormFault::OpenSsh),
-        Err(PemFault::NoBase64(line)) => Err(FormFault::NoBase64(line)),
+    let octets = match octets {
+        Ok(octets) => octets,
+        Err(PemFault::Encrypted) => return Err(FormFault::Encrypted),
+        Err(PemFault::OpenSsh) => return Err(FormFault::OpenSsh),
+        Err(PemFault::NoBase64(line)) => return Err(FormFault::NoBase64(line)),
+    };
+    if let Some((line, what)) = bad_end {
+        return Err(FormFault::BadEnd(line, what));
     }
-}
-
-// The octets of an object under its label.
-fn labelled(alloc: Global, label: &[u8], octets: Vec<u8>) -> Result<LabelledDocument, FormFault>
-    ensures octets { IfOk result (λ document. document.octets ≡ octets) }
-    ensures fault { IfErr result (λ e. e ≡ OutOfMemory) }
-{
     let mut copy = Vec::new(alloc);
-    if copy.extend_from_slice(label).is_err() {
-        return Err(FormFault::OutOfMemory);
-    }
+    copy.extend_from_slice(label)?;
     Ok(LabelledDocument {
         label: Some(copy),
         octets,

@@ -2,7 +2,7 @@
 ghost use Rattle.std.specs.Prelude.{◌≡◌, ◌≢◌, ◌∷◌, ◌<◌, ◌≤◌, ℕ, List, [], true, false, length, IfOk, MatchOption};
 ghost use Rattle.std.specs.Option.{option_map};
 ghost use Rattle.std.specs.Result.{result_ok};
-ghost use Rattle.der_forms.specs.Decoded.{IsWhole, symbols_read};
+ghost use Rattle.der_forms.specs.Decoded.{symbols_read};
 ghost use Rattle.der_forms.specs.Objects.{ending_by, ending_in, ends_object, is_encrypted, is_openssh, object_in, objects_in, octets_in, symbols_in, unless_openssh};
 ghost use Rattle.der_forms.specs.Shown.{shown_object};
 ghost use Rattle.der_forms.specs.declared.objects.Ending.TheVariants.{Closed};
@@ -10,7 +10,6 @@ ghost use Rattle.der_io.specs.Lines.{lines_of};
 
 use crate::decoder::Decoder;
 use crate::lines::{BEGIN, Lines, end_label_of, is_end, label_of, tells_encryption};
-use base64::DecodeError;
 use der_digits::search::{contains, part_before};
 use der_io::split_line;
 use std::alloc::{AllocError, Global};
@@ -66,9 +65,9 @@ pub fn next_object<'a>(
     let Some((label, after)) = find_object(lines) else {
         return Ok(None);
     };
-    let body = read_body(alloc, label, after, true)?;
+    let body = read_body(alloc, label, after)?;
     let (ending, behind) = (body.ending, body.after);
-    let octets = octets_of(alloc, body, label, after)?;
+    let octets = octets_of(alloc, body, after)?;
     let object = PemObject {
         label,
         line: after.before,
@@ -124,23 +123,16 @@ struct Body<'a> {
     after: Lines<'a>,
 }
 
-// Reads the lines of an object with the label. Its symbols are decoded as they come, or not.
-fn read_body<'a>(
-    alloc: Global,
-    label: &[u8],
-    lines: Lines<'a>,
-    is_early: bool,
-) -> Result<Body<'a>, AllocError>
+// Reads the lines of an object with the label.
+fn read_body<'a>(alloc: Global, label: &[u8], lines: Lines<'a>) -> Result<Body<'a>, AllocError>
     ensures symbols { IfOk result (λ body. symbols_read body.decoder ≡ symbols_in (lines_of lines.entry.rest.now)) }
-    ensures whole { IfOk result (λ body. IsWhole body.decoder) }
-    ensures late { is_early ≡ false → IfOk result (λ body. body.decoder.octets.items ≡ []) }
     ensures encrypted { IfOk result (λ body. body.is_encrypted ≡ is_encrypted (lines_of lines.entry.rest.now)) }
     ensures after { IfOk result (λ body. objects_in true (lines_of lines.entry.rest.now)
         ≡ objects_in false (lines_of body.after.rest.now)) }
     ensures shorter { IfOk result (λ body. length body.after.rest.now ≤ length lines.entry.rest.now) }
     ensures ending { IfOk result (λ body. body.ending ≡ ending_in label.now (lines_of lines.entry.rest.now)) }
 {
-    let mut decoder = Decoder::new(alloc, is_early);
+    let mut decoder = Decoder::new(alloc);
     let mut is_encrypted = false;
     let mut is_ended = false;
     let mut ending = Ending::Missing;
@@ -203,15 +195,13 @@ fn ending_of(label: &[u8], line: &[u8]) -> Ending
     }
 }
 
-// The octets of the object that begins before the lines with the label, and has the body.
+// The octets of the object that begins before the lines and has the body.
 fn octets_of(
     alloc: Global,
     body: Body<'_>,
-    label: &[u8],
     lines: Lines<'_>,
 ) -> Result<Result<Vec<u8>, PemFault>, AllocError>
     requires symbols { symbols_read body.decoder ≡ symbols_in (lines_of lines.rest.now) }
-    requires whole { IsWhole body.decoder }
     requires encrypted { body.is_encrypted ≡ is_encrypted (lines_of lines.rest.now) }
     ensures { IfOk result (λ octets.
         option_map (λ v. v.items) (result_ok octets) ≡ octets_in (lines_of lines.entry.rest.now)) }
@@ -221,26 +211,7 @@ fn octets_of(
     }
     match body.decoder.finish(alloc)? {
         Ok(octets) => Ok(unless_openssh(octets)),
-        Err(_) => octets_read_late(alloc, label, lines),
-    }
-}
-
-// The octets of an object that is not encrypted. Its symbols are decoded when all are read, so that a fault has its
-// place among all of them.
-fn octets_read_late(
-    alloc: Global,
-    label: &[u8],
-    lines: Lines<'_>,
-) -> Result<Result<Vec<u8>, PemFault>, AllocError>
-    requires { is_encrypted (lines_of lines.rest.now) ≡ false }
-    ensures { IfOk result (λ octets.
-        option_map (λ v. v.items) (result_ok octets) ≡ octets_in (lines_of lines.entry.rest.now)) }
-{
-    let body = read_body(alloc, label, lines, false)?;
-    let count = body.decoder.symbols.len();
-    match body.decoder.finish(alloc)? {
-        Ok(octets) => Ok(unless_openssh(octets)),
-        Err(fault) => Ok(Err(PemFault::NoBase64(line_of(lines, place_of(&fault, count))))),
+        Err(place) => Ok(Err(PemFault::NoBase64(line_of(lines, place)))),
     }
 }
 
@@ -259,15 +230,6 @@ fn is_openssh(octets: &[u8]) -> bool
     ensures { result ≡ is_openssh octets.now }
 {
     octets.starts_with(b"openssh-key-v1") && octets[14..].starts_with(&[0])
-}
-
-// How many symbols stand before the one at fault, the last one where their number is at fault.
-fn place_of(fault: &DecodeError, count: usize) -> usize {
-    match fault {
-        DecodeError::InvalidByte(offset, _) => *offset,
-        DecodeError::InvalidLastSymbol { offset, .. } => *offset,
-        DecodeError::InvalidLength(_) | DecodeError::InvalidPadding => count.saturating_sub(1),
-    }
 }
 
 // The number of the line in which so many symbols stand before another.

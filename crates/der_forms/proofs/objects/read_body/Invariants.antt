@@ -1,7 +1,7 @@
 -- For `objects::read_body`: what each turn of its loop keeps and what grows less, so that it ends.
 use Rattle.std.proofs.Common.{◌≡◌, ◌++◌, ◌≤◌, [], if◌then◌else◌, ◌||◌, true, false, not, length, suc}
 use Rattle.der_io.specs.Lines.{lines_of}
-use Rattle.der_forms.specs.Decoded.{IsWhole, symbols_read}
+use Rattle.der_forms.specs.Decoded.{symbols_read}
 use Rattle.der_forms.specs.Objects.{ending_in, is_encrypted, objects_in, symbols_in}
 use Rattle.der_forms.specs.declared.objects.Ending.TheVariants.{Missing}
 use Rattle.der_forms.proofs.objects.read_body.Given as goal
@@ -10,8 +10,6 @@ abbrev pub invariant-loop-is_ended : goal.invariant-loop-is_ended
 invariant-loop-is_ended l =
     (symbols_in (lines_of l.fn.lines.rest.now) ≡ symbols_read l.decoder
     ++ (if l.is_ended then [] else symbols_in (lines_of l.rest)))
-    × IsWhole l.decoder
-    × (l.is_early ≡ false → (l.decoder.octets.items ≡ []) × (l.decoder.is_early ≡ false))
     × (is_encrypted (lines_of l.fn.lines.rest.now)
     ≡ (l.is_encrypted || (if l.is_ended then false else is_encrypted (lines_of l.rest))))
     × (objects_in true (lines_of l.fn.lines.rest.now) ≡ objects_in (not l.is_ended) (lines_of l.rest))

@@ -1,8 +1,8 @@
 -- For `decoder::Decoder::finish`: what it returns is right.
-use Rattle.std.proofs.Common.{◌≡◌, ◌∙◌, Err, subst, sym}
+use Rattle.std.proofs.Common.{◌≡◌, ◌∙◌, sym}
 use Rattle.base64.specs.Engines.{standard}
-use Rattle.base64.specs.GeneralPurpose.{IsBytes, decode_of, encode_of}
-use Rattle.der_forms.proofs.Decoded.{decode_of-all, decode_of-last}
+use Rattle.base64.specs.GeneralPurpose.{IsBytes, encode_of}
+use Rattle.der_forms.proofs.Decoded.{decode_of-last}
 use Rattle.der_forms.proofs.decoder.Decoder.finish.Goals as goal
 
 pub returns-in-Ok : goal.returns-in-Ok
@@ -10,13 +10,6 @@ returns-in-Ok c =
     let last = c.in-Ok.last.items in
     let exact : c.deref.result.now ≡ encode_of standard last = rw c.in-Ok.is at c.in_ok-last.ensures.exact in
     let bytes : IsBytes last = rw c.in-Ok.is at c.in_ok-last.ensures.bytes in
-    rw (c.in_ok-extend_from_slice-in-Ok.ensures.items, c.deref-in-Ok.ensures.value)
-    (decode_of-last c.args.self.octets.items last c.args.self.symbols.items c.requires bytes
+    rw (c.in_ok-extend_from_slice.ensures.items, c.deref-in-Ok.ensures.value)
+    (decode_of-last c.args.self.octets.items last c.args.self.symbols.items c.args.self.is_whole bytes
     (sym c.deref.ensures.value ∙ exact))
-
-pub returns : goal.returns
-returns c = λ none.
-    let wrong : decode_of standard c.deref.result.now ≡ Err c.in-Err.fault =
-    rw c.in-Err.is at c.in_ok-last.ensures.decoded in
-    decode_of-all c.args.self.octets.items c.args.self.symbols.items c.in-Err.fault none
-    (subst (λ z. decode_of standard z ≡ Err c.in-Err.fault) c.deref.ensures.value wrong)
