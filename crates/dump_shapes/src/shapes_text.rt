@@ -21,6 +21,9 @@ impl<T: Drop> From<AllocFailed<T>> for ShapesFault {
     }
 }
 
+// The places of shapes by their names.
+type Places = HashMap<&'static str, u16>;
+
 impl Shapes {
     /// The shapes of this crate.
     ///
@@ -50,236 +53,176 @@ impl Shapes {
     /// elements.
     ///
     /// # Errors
-    /// `Line` for the first line of another form, or else for the first name of a shape that is not there, and
-    /// `Memory`.
+    /// `Line` for the first line of another form, and `Memory`.
     pub fn read(
         alloc: Global,
         texts: &[&'static str],
         fits: &'static str,
     ) -> Result<Shapes, ShapesFault> {
-        let mut reader = Reader {
-            shapes: Shapes::none(alloc),
-            places: HashMap::new(alloc),
-            last: None,
-            line: "",
-        };
+        let places = places_of(alloc, texts)?;
+        let mut shapes = Shapes::none(alloc);
         for text in texts {
             for line in text.lines() {
-                reader.read_line(line)?;
+                shapes.read_line(&places, line)?;
             }
         }
-        let mut shapes = reader.finished()?;
+        shapes.identifiers.sort_unstable();
         for line in fits.lines() {
-            let candidate = shapes.candidate(line).ok_or(ShapesFault::Line(line))?;
+            let candidate = candidate_of(&places, line).ok_or(ShapesFault::Line(line))?;
             shapes.candidates.push(candidate)?;
         }
         Ok(shapes)
     }
 
-    // The candidate of a line.
-    fn candidate(&self, line: &str) -> Option<Candidate> {
-        let mut words = line.split(' ');
-        Some(Candidate {
-            shape: self.named(words.next()?)?,
-            levels: words.next()?.parse::<usize>().ok()?,
-            least: words.next()?.parse::<usize>().ok()?,
-        })
-    }
-}
-
-// What was read of texts. A shape has its place where it is named first, maybe before its own line.
-#[derive(Drop)]
-struct Reader {
-    shapes: Shapes,
-    // the places of shapes by their names
-    places: HashMap<&'static str, u16>,
-    // the place of the shape whose parts are read
-    last: Option<u16>,
-    line: &'static str,
-}
-
-impl Reader {
-    // The shapes, once each that is named was read.
-    fn finished(self) -> Result<Shapes, ShapesFault> {
-        let Reader { mut shapes, .. } = self;
-        if let Some(shape) = shapes.shapes.iter().find(|shape| shape.is_missing()) {
-            return Err(ShapesFault::Line(shape.full_name));
-        }
-        shapes.identifiers.sort_unstable();
-        Ok(shapes)
-    }
-
-    // Reads a line.
-    fn read_line(&mut self, line: &'static str) -> Result<(), ShapesFault> {
-        self.line = line;
-        if line.is_empty() || line.starts_with("--") {
-            return Ok(());
-        }
-        match line.strip_prefix("  ") {
-            Some(text) => self.part(text),
-            None => self.begin(line),
-        }
-    }
-
-    // The fault of the line.
-    fn fault(&self) -> ShapesFault {
-        ShapesFault::Line(self.line)
-    }
-
-    // The place behind so many others.
-    fn index(&self, count: usize) -> Result<u16, ShapesFault> {
-        u16::try_from(count).ok().ok_or(self.fault())
-    }
-
-    // The place of the shape with this name.
-    fn place(&mut self, name: &'static str) -> Result<u16, ShapesFault> {
-        if let Some(place) = self.places.get(&name) {
-            return Ok(*place);
-        }
-        let place = self.index(self.shapes.shapes.len())?;
-        self.places.insert(name, place)?;
-        self.shapes.shapes.push(Shape::missing(name))?;
-        Ok(place)
-    }
-
-    // Begins a shape, whose name no other has. A list has one part, which is its item.
-    fn begin(&mut self, line: &'static str) -> Result<(), ShapesFault> {
-        let (name, text) = line.split_once(" ::= ").unwrap_or((line, line));
-        let list = text.split_once(" OF ").or(text.split_once(" CONTAINING "));
-        let (kind, rule) = match list {
-            Some((outer, _)) => (ShapeKind::Items(self.tag_of(outer)?), ValueRule::Any),
-            None => {
-                let (text, rule) = rule_behind(text);
-                (self.kind_of(text)?, rule)
+    // Reads a line, of a part of the last shape or of a shape. A list has one part, which is its item.
+    fn read_line(&mut self, places: &Places, line: &'static str) -> Result<(), ShapesFault> {
+        let fault = ShapesFault::Line(line);
+        if let Some(text) = line.strip_prefix("  ") {
+            let part = self.part_of(places, text).ok_or(fault)?;
+            if part.name.is_empty() {
+                self.identifiers.push(part.number)?;
             }
-        };
-        let first = self.index(self.shapes.parts.len())?;
-        let place = self.place(name)?;
-        let fault = self.fault();
-        match self.shapes.shapes.get_mut(place as usize) {
-            Some(shape) if shape.is_missing() => shape.begin(kind, rule, first),
-            _ => return Err(fault),
+            return self.push(part, fault);
         }
-        self.last = Some(place);
-        match list {
-            Some((_, item)) => self.field("", item),
+        let Some((name, text)) = name_and_text(line) else {
+            return Ok(());
+        };
+        let (text, item) = item_behind(text);
+        let (kind, rule) = self.kind_of(places, text, item.is_some()).ok_or(fault)?;
+        let end = u16::try_from(self.parts.len()).ok().ok_or(fault)?;
+        self.shapes.push(Shape {
+            full_name: name,
+            // what stands before a point is not shown, by which types of one name differ
+            name: name.split_once('.').unwrap_or(("", name)).1,
+            kind,
+            rule,
+            first: end,
+            end,
+        })?;
+        match item {
+            Some(item) => self.push(field_of(places, "", item).ok_or(fault)?, fault),
             None => Ok(()),
         }
     }
 
-    // What elements of a shape are by words, unless it is a list.
-    fn kind_of(&self, text: &'static str) -> Result<ShapeKind, ShapesFault> {
-        Ok(match text {
-            "CHOICE" => ShapeKind::Choice,
-            "OPEN" => ShapeKind::Open,
-            "KNOWN" => ShapeKind::Known,
-            "SEQUENCE" | "SET" => ShapeKind::Record(self.tag_of(text)?),
-            _ => match (tagged_record(text), text.parse::<u8>()) {
-                (Some(tag), _) => ShapeKind::Record(tag),
-                (None, Ok(tag)) => ShapeKind::Leaf(tag),
-                (None, Err(_)) => ShapeKind::Leaf(self.tag_of(text)?),
-            },
-        })
+    // Takes one more part into the last shape.
+    fn push(&mut self, part: Part, fault: ShapesFault) -> Result<(), ShapesFault> {
+        self.parts.push(part)?;
+        let end = u16::try_from(self.parts.len()).ok().ok_or(fault)?;
+        self.shapes.last_mut().ok_or(fault)?.end = end;
+        Ok(())
+    }
+
+    // What elements of a shape are by words, which are those before an item if it is a list, and a word behind the type
+    // of a leaf says of its values.
+    fn kind_of(
+        &self,
+        places: &Places,
+        text: &'static str,
+        is_list: bool,
+    ) -> Option<(ShapeKind, ValueRule)> {
+        let (text, rule) = rule_behind(text);
+        let kind = match (text, tag_before(text)?) {
+            _ if is_list => ShapeKind::Items(self.tag_of(places, text)?),
+            ("CHOICE", _) => ShapeKind::Choice,
+            ("OPEN", _) => ShapeKind::Open,
+            ("KNOWN", _) => ShapeKind::Known,
+            ("SEQUENCE" | "SET", _) => ShapeKind::Record(self.tag_of(places, text)?),
+            // the tag that a SEQUENCE has in place of its own (X.680 8.4)
+            (_, (Some(tag), "SEQUENCE")) => ShapeKind::Record(tag.number),
+            _ => ShapeKind::Leaf(text.parse::<u8>().ok().or(self.tag_of(places, text))?),
+        };
+        Some((kind, rule))
     }
 
     // The tag of a leaf with this name, which was read before.
-    fn tag_of(&self, name: &'static str) -> Result<u8, ShapesFault> {
-        let place = *self.places.get(&name).ok_or(self.fault())?;
-        match self.shapes.shape(place) {
-            Some(
-                Shape {
-                    kind: ShapeKind::Leaf(tag),
-                    ..
-                },
-            ) => Ok(tag),
-            _ => Err(self.fault()),
+    fn tag_of(&self, places: &Places, name: &'static str) -> Option<u8> {
+        match self.shape(*places.get(&name)?)?.kind {
+            ShapeKind::Leaf(tag) => Some(tag),
+            _ => None,
         }
     }
 
-    // Reads a part of the last shape: a field; a number, of a value or of a bit, and its name; or an object identifier
-    // and what it says.
-    fn part(&mut self, line: &'static str) -> Result<(), ShapesFault> {
-        let (first, text) = line.split_once(' ').ok_or(self.fault())?;
+    // A part of the last shape: a field; a number, of a value or of a bit, and its name; or an object identifier and what
+    // it says.
+    fn part_of(&self, places: &Places, line: &'static str) -> Option<Part> {
+        let (first, text) = line.split_once(' ')?;
         if !first.starts_with(|c: char| c.is_ascii_digit()) {
-            return self.field(first, text);
+            return field_of(places, first, text);
         }
         if let Ok(number) = first.parse::<u64>() {
-            return self.push(Part {
+            return Some(Part {
                 name: text,
                 number: number as u128,
                 ..Part::default()
             });
         }
-        let number = written_number(first).ok_or(self.fault())?;
-        self.shapes.identifiers.push(number)?;
-        let shape = self.place(text)?;
-        self.push(Part {
-            number,
-            shape,
+        Some(Part {
+            number: written_number(first)?,
+            shape: *places.get(&text)?,
             ..Part::default()
         })
-    }
-
-    // Reads a field by its name and the words that say what it is: its tag, its shape, and whether it is optional.
-    fn field(&mut self, name: &'static str, text: &'static str) -> Result<(), ShapesFault> {
-        let optional = text.strip_suffix(" OPTIONAL");
-        let (tag, text) = tag_before(optional.unwrap_or(text)).ok_or(self.fault())?;
-        let explicit = text.strip_prefix("EXPLICIT ");
-        let shape = self.place(explicit.unwrap_or(text))?;
-        self.push(Part {
-            name,
-            shape,
-            tag,
-            is_explicit: explicit.is_some(),
-            is_optional: optional.is_some(),
-            ..Part::default()
-        })
-    }
-
-    // Takes one more part into the last shape.
-    fn push(&mut self, part: Part) -> Result<(), ShapesFault> {
-        let fault = self.fault();
-        let place = self.last.ok_or(fault)?;
-        let shape = self.shapes.shapes.get_mut(place as usize).ok_or(fault)?;
-        shape.end = shape.end.checked_add(1).ok_or(fault)?;
-        self.shapes.parts.push(part)?;
-        Ok(())
     }
 }
 
-impl Shape {
-    // A shape that was not read yet: it ends before it begins. What stands in its name before a point is not shown, by
-    // which types of one name differ.
-    fn missing(full_name: &'static str) -> Shape {
-        Shape {
-            full_name,
-            name: full_name.split_once('.').unwrap_or(("", full_name)).1,
-            kind: ShapeKind::Known,
-            rule: ValueRule::Any,
-            first: 1,
-            end: 0,
+// The places of all shapes, each of which has a name of its own.
+fn places_of(alloc: Global, texts: &[&'static str]) -> Result<Places, ShapesFault> {
+    let mut places = HashMap::new(alloc);
+    for text in texts {
+        for line in text.lines() {
+            let Some((name, _)) = name_and_text(line) else {
+                continue;
+            };
+            let fault = ShapesFault::Line(line);
+            let place = u16::try_from(places.len()).ok().ok_or(fault)?;
+            if places.insert(name, place)?.is_some() {
+                return Err(fault);
+            }
         }
     }
+    Ok(places)
+}
 
-    fn is_missing(&self) -> bool {
-        self.end < self.first
+// The name of the shape of a line, and what it is; these are the same where it has no name of its own. `None` of a line
+// of another kind.
+fn name_and_text(line: &'static str) -> Option<(&'static str, &'static str)> {
+    if line.is_empty() || line.starts_with("--") || line.starts_with("  ") {
+        return None;
     }
+    Some(line.split_once(" ::= ").unwrap_or((line, line)))
+}
 
-    // Begins a shape, whose first part is this.
-    fn begin(&mut self, kind: ShapeKind, rule: ValueRule, first: u16) {
-        self.kind = kind;
-        self.rule = rule;
-        self.first = first;
-        self.end = first;
+// The words before the item of a list, and the item, if it is one.
+fn item_behind(text: &'static str) -> (&'static str, Option<&'static str>) {
+    match text.split_once(" OF ").or(text.split_once(" CONTAINING ")) {
+        Some((text, item)) => (text, Some(item)),
+        None => (text, None),
     }
 }
 
-// The tag of class Universal that a SEQUENCE has in place of its own (X.680 8.4), if the words say one.
-fn tagged_record(text: &'static str) -> Option<u8> {
-    let number = text
-        .strip_prefix("[UNIVERSAL ")?
-        .strip_suffix("] SEQUENCE")?;
-    number.parse::<u8>().ok()
+// A field by its name and the words that say what it is: its tag, its shape, and whether it is optional.
+fn field_of(places: &Places, name: &'static str, text: &'static str) -> Option<Part> {
+    let optional = text.strip_suffix(" OPTIONAL");
+    let (tag, text) = tag_before(optional.unwrap_or(text))?;
+    let explicit = text.strip_prefix("EXPLICIT ");
+    Some(Part {
+        name,
+        shape: *places.get(&explicit.unwrap_or(text))?,
+        tag,
+        is_explicit: explicit.is_some(),
+        is_optional: optional.is_some(),
+        ..Part::default()
+    })
+}
+
+// The candidate of a line.
+fn candidate_of(places: &Places, line: &'static str) -> Option<Candidate> {
+    let mut words = line.split(' ');
+    Some(Candidate {
+        shape: *places.get(&words.next()?)?,
+        levels: words.next()?.parse::<usize>().ok()?,
+        least: words.next()?.parse::<usize>().ok()?,
+    })
 }
 
 // What a word behind the type of a leaf says of its values, if there is one, and the words before it.
@@ -293,15 +236,17 @@ fn rule_behind(text: &'static str) -> (&'static str, ValueRule) {
     }
 }
 
-// The tag that words begin with, if they do, and the words behind it: a number, which is context-specific, or
-// `APPLICATION` and a number. `None` where it has another form.
+// The tag that words begin with, if they do, and the words behind it: a number, which is context-specific, or a class
+// and a number. `None` where it has another form.
 fn tag_before(text: &'static str) -> Option<(Option<Tag>, &'static str)> {
     let Some(rest) = text.strip_prefix("[") else {
         return Some((None, text));
     };
     let (tag, text) = rest.split_once("] ")?;
-    let (class, digits) = match tag.strip_prefix("APPLICATION ") {
-        Some(digits) => (ASN1Class::Application, digits),
+    let (class, digits) = match tag.split_once(' ') {
+        Some(("APPLICATION", digits)) => (ASN1Class::Application, digits),
+        Some(("UNIVERSAL", digits)) => (ASN1Class::Universal, digits),
+        Some(_) => return None,
         None => (ASN1Class::ContextSpecific, tag),
     };
     let number = digits.parse::<u8>().ok()?;
