@@ -143,8 +143,8 @@ impl Shapes {
         }
     }
 
-    // A part of the last shape: a field; a number, of a value or of a bit, and its name; or an object identifier and what
-    // it says.
+    // A part of the last shape: a field; a number, of a value or of a bit, and its name; or an object identifier and
+    // what it says.
     fn part_of(&self, places: &Places, line: &'static str) -> Option<Part> {
         let (first, text) = line.split_once(' ')?;
         if !first.starts_with(|c: char| c.is_ascii_digit()) {
