@@ -91,13 +91,13 @@ SECONDS = [
 UNPROVED = [
     Check("layout", "lib/layout.py", "each crate has the layout of rt fmt"),
     Check("stored", "lib/stored.py", "the stored run of each program prints what is stored",
-          programs="der_dump der_signed der_tool example_certificate test_calls"),
+          programs="der_dump der_signed der_tool example_certificate example_types test_calls"),
 ]
 
 # what runs the programs and the libraries, whole in the gate
 WHOLE = [
     Check("rows", "lib/rows.py", "each row of crates/PROGRAM/rows: words, input and files give its output and status",
-          programs="der_dump der_signed der_tool"),
+          programs="der_dump der_signed der_tool example_types"),
     Check("calls", "lib/calls.py", "each row of a call of the library, proved or not, has its answer, unproved"),
     Check("tests", "lib/tests.py", "tests in Rattle that `rt ci` does not run pass, unproved; --all: all tests"),
     Check("asked", "scripts/asked", "der_tool from end to end: streams, a folder as input, full outputs, no memory",

@@ -1,0 +1,11 @@
+-- The trees of fields, from which those of types are made.
+pub mod FieldTrees
+pub mod LastFieldTrees
+-- That no two values have the same tree.
+pub mod Laws
+pub mod FieldLaws
+pub mod GroupLaws
+pub mod TagLaws
+pub mod ChoiceLaws
+-- What is read of a value's trees is the value.
+pub mod WholeLaws
