@@ -1,6 +1,6 @@
 // Tags of class ContextSpecific.
-ghost use Rattle.std.specs.Prelude.{◌≡◌, ◌≢◌, ◌↔◌, ℕ, IfOk, IfErr, IsTrue, MatchResult, false};
-ghost use Rattle.asn1_blocks.specs.Tree.{shape, explicit, unknown};
+ghost use Rattle.std.specs.Prelude.{◌≡◌, ◌≢◌, ◌↔◌, ℕ, IfOk, IfErr, IsTrue, MatchOption, MatchResult, false};
+ghost use Rattle.asn1_blocks.specs.Tree.{Tree, shape, explicit, unknown};
 ghost use Rattle.asn1_blocks.specs.View.{view};
 ghost use Rattle.asn1_headers.specs.declared.error.ASN1EncodeErr.TheVariants.{OutOfMemory as no_memory};
 ghost use Rattle.asn1_headers.specs.declared.header.ASN1Class.TheVariants.{ContextSpecific};
@@ -45,23 +45,36 @@ fn is_number(tag: &BigUint, number: u64) -> bool
     }
 }
 
+// The block under the explicit tag of this number.
+fn tagged_item(block: &ASN1Block, number: u64) -> Option<&ASN1Block>
+    ensures { MatchOption result
+        ((t : Tree (Unit {0})) → shape (view block.now) ≢ explicit ContextSpecific tt number t)
+        (λ item. shape (view block.now) ≡ explicit ContextSpecific tt number (shape (view item.now))) }
+{
+    match block {
+        ASN1Block::Explicit(ASN1Class::ContextSpecific, _, tag, item) => {
+            if is_number(tag, number) {
+                Some(item)
+            } else {
+                None
+            }
+        }
+        _ => None,
+    }
+}
+
 impl<T: Asn1Type, const N: u64> Asn1Type for Explicit<T, N> {
     ghost use Rattle.asn1_types.specs.TagLaws.{explicit-distinct};
 
     ghost tree = { λ x. explicit ContextSpecific tt N (T.tree x.value) };
 
     fn read(alloc: Global, block: &ASN1Block) -> Result<Explicit<T, N>, TypeErr> {
-        match block {
-            ASN1Block::Explicit(ASN1Class::ContextSpecific, place, tag, item) => {
-                if !is_number(tag, N) {
-                    return Err(TypeErr::Shape(*place));
-                }
-                match T::read(alloc, item) {
-                    Ok(value) => Ok(Explicit { value }),
-                    Err(e) => Err(e),
-                }
-            }
-            _ => Err(TypeErr::Shape(block.offset())),
+        let Some(item) = tagged_item(block, N) else {
+            return Err(TypeErr::Shape(block.offset()));
+        };
+        match T::read(alloc, item) {
+            Ok(value) => Ok(Explicit { value }),
+            Err(e) => Err(e),
         }
     }
 
