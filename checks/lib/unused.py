@@ -29,6 +29,9 @@ NO_FIELD = re.compile(r"(?<![^\s(){}\[\],;:`\"])" + WORD.pattern)
 HEAD = re.compile(r"^((?:pub |abbrev |unfoldable |data |record |syntax |tactic )*)"
                   r"([^\s(){}\[\],;.:|]+)(?= *[({:]| .*?: )(.*)", re.S)
 GOAL = re.compile(r"\s*:\s*goal\.")
+# a trait with its clauses, and an impl of one, which has the clauses that it does not state itself
+TRAIT = re.compile(r"^(?:pub )?trait (\w+)\b.*?^}", re.M | re.S)
+IMPL = re.compile(r"^impl\b[^{]*?\b(\w+)(?:<[^{}]*>)?\s+for\s", re.M)
 KEYWORDS = ("unfolding", "instance", "pub", "use")
 
 
@@ -47,8 +50,16 @@ class Source:
         self.rest = IMPORT.sub("", text)
         self.things, self.words = {}, collections.Counter(WORD.findall(self.rest))
         self.alone = collections.Counter(NO_FIELD.findall(self.rest))
+        self.traits = {found[1]: found[0] for found in TRAIT.finditer(self.rest)} if path.suffix == ".rt" else {}
         if path.suffix == ".antt":
             self.split()
+
+    def inherit(self, traits):
+        """The clauses that the impls of this file have of their traits count as words of the file."""
+        if self.path.suffix == ".rt":
+            clauses = "\n".join(traits[name] for name in set(IMPL.findall(self.rest)) & set(traits))
+            self.rest += f"\n{clauses}"
+            self.alone.update(NO_FIELD.findall(clauses))
 
     def split(self):
         """The things at the margin, each with its equations, and the words in them."""
@@ -127,6 +138,9 @@ def unused_things(sources):
 def main(names):
     sources = [Source(path) for path in sorted((TOP / "crates").glob("*/*/**/*"))
                if path.suffix in (".antt", ".rt") and "out" not in path.relative_to(TOP).parts]
+    traits = {name: text for it in sources for name, text in it.traits.items()}
+    for it in sources:
+        it.inherit(traits)
     chosen = [it for it in sources if not names or it.path.relative_to(TOP).parts[1] in names]
     found = [(it, "import", name) for it in chosen for name in it.imports if not it.is_used(name)]
     found += [(it, "name", name) for it, name in unused_things(sources) if it in chosen]

@@ -1,6 +1,6 @@
 -- The trees of blocks as a list, and the trees of last fields.
-use Rattle.std.proofs.Common.{◌≡◌, ℕ, zero, suc, ◌<◌, List, [], ◌∷◌, ◌++◌, map, get_or, length, refl, ap, arith}
-use Rattle.asn1_blocks.specs.Tree.{Tree, Trees, trees_of, no_trees, more_trees, shape, shapes}
+use Rattle.std.proofs.Common.{◌≡◌, ℕ, zero, suc, ◌<◌, List, [], ◌∷◌, map, get_or, length, refl, ap, arith}
+use Rattle.asn1_blocks.specs.Tree.{Tree, trees_of, more_trees, shape, shapes}
 use Rattle.asn1_blocks.specs.View.{view, views}
 use Rattle.asn1_blocks.specs.declared.block.ASN1Block.{ASN1Block}
 use Rattle.asn1_types.specs.Laws.{first-same, rest-same}

@@ -1,7 +1,7 @@
 -- Fields of the same trees are equal.
-use Rattle.std.specs.Prelude.{◌≡◌, ◌≢◌, ℕ, List, Option, Some, None}
+use Rattle.std.specs.Prelude.{◌≡◌, ◌≢◌, Option, Some, None}
 use Rattle.std.proofs.Common.{sym, ap, ◌∙◌, refl}
-use Rattle.asn1_blocks.specs.Tree.{Tree, Trees, no_trees, more_trees}
+use Rattle.asn1_blocks.specs.Tree.{Tree, Trees, more_trees}
 use Rattle.asn1_types.specs.FieldTrees.{optional_trees}
 use Rattle.asn1_types.specs.Laws.{first-same, rest-same}
 use Rattle.asn1_types.specs.declared.fields.Optional.{Optional}
@@ -32,10 +32,3 @@ optional-same {A = A} {B = B} {C = C} x y e =
     let with_first : Option A → Optional A B C = λ t. record { first = t; rest = x.rest; apart = x.apart } in
     let with_rest : B → Optional A B C = λ r. record { first = y.first; rest = r; apart = y.apart } in
     ap with_first e.0 ∙ ap with_rest e.1
-
--- a field begins no list of fields whose first may be absent, if it begins neither
-pub optional-apart : {A B C : Type 0} (f : A → Tree (Unit {0})) (g : B → Tree (Unit {0})) (h : C → Trees (Unit {0}))
-    → ((x : A) (y : B) → g y ≢ f x) → ((x : A) (z : C) (rest : Trees (Unit {0})) → h z ≢ more_trees (f x) rest)
-    → (x : A) (o : Option B) (z : C) (rest : Trees (Unit {0})) → optional_trees g h o z ≢ more_trees (f x) rest
-optional-apart f g h d c x None z rest e = c x z rest e
-optional-apart f g h d c x (Some y) z rest e = d x y (first-same (g y) (f x) (h z) rest e)

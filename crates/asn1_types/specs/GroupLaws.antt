@@ -1,8 +1,7 @@
 -- A SEQUENCE or SET with the same tree has the same fields.
 use Rattle.std.specs.Prelude.{◌≡◌}
 use Rattle.std.proofs.Common.{ap}
-use Rattle.asn1_blocks.specs.Tree.{Tree, Trees, group}
-use Rattle.asn1_blocks.specs.declared.block.GroupKind.{GroupKind}
+use Rattle.asn1_blocks.specs.Tree.{Trees}
 use Rattle.asn1_blocks.specs.declared.block.GroupKind.TheVariants.{Sequence as a_sequence, Set as a_set}
 use Rattle.asn1_types.specs.Laws.{group_tree, group-inner}
 use Rattle.asn1_types.specs.declared.groups.Sequence.{Sequence}

@@ -1,9 +1,9 @@
 -- No two values have the same tree: of each leaf, under each tag, and in a list.
-use Rattle.std.specs.Prelude.{◌≡◌, ◌≢◌, ℕ, ℤ, Bool, List, [], ◌∷◌, map, false}
-use Rattle.std.proofs.Common.{sym, ap, ◌∙◌, refl}
+use Rattle.std.specs.Prelude.{◌≡◌, ℕ, ℤ, Bool, List, [], ◌∷◌, map, false}
+use Rattle.std.proofs.Common.{refl}
 use Rattle.asn1_headers.specs.declared.header.ASN1Class.TheVariants.{ContextSpecific}
 use Rattle.asn1_blocks.specs.declared.block.GroupKind.{GroupKind}
-use Rattle.asn1_blocks.specs.Tree.{Tree, Trees, Leaf, leaf, group, explicit, unknown, boolean, integer, bit_string, octet_string, object_identifier, text, null, utc_time, generalized_time, no_trees, more_trees, trees_of}
+use Rattle.asn1_blocks.specs.Tree.{Tree, Trees, Leaf, leaf, group, explicit, unknown, boolean, integer, bit_string, octet_string, object_identifier, text, utc_time, generalized_time, more_trees, trees_of}
 use Rattle.asn1_leaves.specs.StringKind.{StringKind}
 use Rattle.asn1_leaves.specs.Contents.Moment.{Moment}
 
