@@ -163,11 +163,25 @@ def names_of(path, function, known):
 
 def linked(one, other):
     """Copies a file of kept work, by a link where a check replaces such a file and never changes one."""
-    (os.link if one.endswith(".oantt") else shutil.copy2)(one, other)
+    if one.endswith(".oantt"):
+        # a folder on another disk cannot have links
+        with contextlib.suppress(OSError):
+            os.link(one, other)
+            return
+    shutil.copy2(one, other)
+
+
+def whole_below(crate):
+    """The crates of the repository that a crate stands on, also by way of others."""
+    found, left = set(), [crate]
+    while left:
+        left += [it for it in below().get(left.pop(), []) if it not in found and not found.add(it)]
+    return found
 
 
 class Room:
-    """A copy of the repository's crates, in which one of them is proved, and then tried with wrong bodies."""
+    """A copy of the repository's crates, in which one of them is proved, and then tried with wrong bodies. What the
+    checkout keeps of earlier checks comes along."""
 
     def __init__(self, folder, crate):
         self.folder, self.crate = pathlib.Path(folder), crate
@@ -181,6 +195,10 @@ class Room:
             for part in PARTS:
                 if (it / part).is_dir():
                     shutil.copytree(it / part, self.folder / "crates" / it.name / part)
+        # what earlier checks of this checkout kept is not proved again
+        for it in {crate, *whole_below(crate)}:
+            if (CRATES / it / "out").is_dir():
+                shutil.copytree(CRATES / it / "out", self.folder / "crates" / it / "out", copy_function=linked)
         self.said = self.check([])
         if "\nlogic=proved" not in self.said.stdout:
             raise Failed(f"{crate} itself is not proved:\n{self.said.stdout[-1500:]}")
