@@ -58,6 +58,18 @@ class Reading(unittest.TestCase):
         self.assertEqual(self.refused(lambda: text.text), (Status.UTF8, 2))
         self.assertEqual(self.refused(simple_asn1.outline, bytes.fromhex("30 04 02 01 05 01")), (Status.INCOMPLETE, 5))
 
+    def test_views_of_a_block_copy_nothing(self):
+        # X.690, 8.1.1: what is inside a SEQUENCE stands in its contents octets
+        octets = bytes.fromhex("30 06 04 02 AB CD 05 00")
+        block = simple_asn1.read(octets)[0]
+        string, null = block
+        self.assertEqual((block.octets_view, block.contents_view), (octets, octets[2:]))
+        self.assertEqual((string.octets_view, string.contents_view), (b"\x04\2\xab\xcd", b"\xab\xcd"))
+        self.assertEqual((bytes(null.octets_view), bytes(null.contents_view)), (b"\5\0", b""))
+        self.assertIs(string.contents_view.obj, octets)
+        self.assertTrue(string.octets_view.readonly)
+        self.assertEqual(string.contents_view.tobytes(), string.contents)
+
     def test_paths_lead_to_blocks_and_nowhere(self):
         octets = bytes.fromhex("30 18 02 02 FF 7F 1E 02 00 E4 A0 03 0C 01 41 02 09 01 00 00 00 00 00 00 00 00 06 01 2A")
         paths = Paths((0, 0), (0, 1), (0, 2, 0), (0, 3), (1,), (2,), (1, 0), (0, 2**64 - 1), ())

@@ -245,6 +245,22 @@ class Block:
         return self._document._octets[record.offset + record.header : _end(record)]
 
     @property
+    def octets_view(self) -> memoryview:
+        """The octets of the whole block, as a view of the document's: none are copied.
+
+        Blocks inside one another share their octets. To copy those of each takes a time that grows as the square of the
+        depth; to view them does not. A view keeps the octets of the whole document.
+        """
+        record = self._made or self.record
+        return memoryview(self._document._octets)[record.offset : _end(record)]
+
+    @property
+    def contents_view(self) -> memoryview:
+        """Its contents octets, as a view of the document's: none are copied."""
+        record = self._made or self.record
+        return memoryview(self._document._octets)[record.offset + record.header : _end(record)]
+
+    @property
     def integer(self) -> int:
         """The number of an INTEGER, of any size."""
         record = self._made or self.record
