@@ -13,7 +13,8 @@
  *   canonical takes its blocks, up to 40 bytes for each of its bytes.
  * - simple_asn1_rewrite and simple_asn1_write: of canonical bytes little; of others their blocks, and what is written.
  * - simple_asn1_values: a record for each block, up to 32 bytes for each byte, if there is room for all values, or else
- *   the levels alone. simple_asn1_signed: a record for each block. simple_asn1_departures: 16 bytes for each departure.
+ *   the levels alone. simple_asn1_signed: a record for each block. simple_asn1_departures: 16 bytes for each departure,
+ *   also inside contents that turn out to be no encodings, where only that is listed.
  *
  * Where it is not X.690's BER, and what strict reading accepts though DER forbids it:
  *
@@ -192,8 +193,8 @@ uint32_t simple_asn1_version(void);
 simple_asn1_outcome simple_asn1_read(const uint8_t *octets, size_t size, simple_asn1_block *blocks, size_t room);
 
 /* The same, for documents in canonical form only, which is what simple_asn1_rewrite writes. It is not quite DER: the
- * head of this file says how they differ. A document of more than 8,192 bytes is read twice, unless there is room for
- * size / 2 records. */
+ * head of this file says how they differ. A document of more than 4,096 blocks is read twice, unless there is room for
+ * their records. */
 simple_asn1_outcome simple_asn1_read_strict(const uint8_t *octets, size_t size, simple_asn1_block *blocks, size_t room);
 
 /* The same by headers alone: contents octets of leaves are not checked, so a document with faults in them can be walked

@@ -6,7 +6,7 @@ use Rattle.asn1_blocks.specs.declared.block.ASN1Block.{ASN1Block, Sequence, Set,
 use Rattle.asn1_blocks.specs.declared.block.GroupKind.{GroupKind}
 use Rattle.asn1_headers.specs.declared.header.ASN1Class.{ASN1Class}
 use Rattle.asn1_blocks.specs.Tree.{group, explicit, more_trees}
-use Rattle.asn1_blocks.specs.Inner.TreeOrder.{IsNext, inside}
+use Rattle.asn1_blocks.specs.Inner.TreeOrder.{IsNextTree, inside}
 use Rattle.asn1_blocks.specs.View.{view, views}
 use Rattle.asn1_blocks.proofs.BlockLists.{tree_count, tree_count-views}
 
@@ -29,7 +29,7 @@ pub record IsTaken (b : ASN1Block) (left taken kept : List ASN1Block) : Type 0 w
   pub copied : (r : ASN1Block) → view r ≡ view b → views (reverse (kept ++ r ∷ [])) ≡ views left
 
 -- as many of the last copies as a block holds are copies of what it holds
-pub IsTaken-held : (b : ASN1Block) (left after done taken kept : List ASN1Block) → IsNext b left after →
+pub IsTaken-held : (b : ASN1Block) (left after done taken kept : List ASN1Block) → IsNextTree b left after →
     views (reverse done) ≡ views after
     → length taken ≡ tree_count (inside (view b)) → done ≡ kept ++ reverse taken → IsTaken b left taken kept
 IsTaken-held b left after done taken kept n s k t =
@@ -45,7 +45,7 @@ IsTaken-held b left after done taken kept n s k t =
     }
 
 -- at least as many copies are made as the block holds
-pub tree_count-inside_le : (b : ASN1Block) (left after done : List ASN1Block) → IsNext b left after →
+pub tree_count-inside_le : (b : ASN1Block) (left after done : List ASN1Block) → IsNextTree b left after →
     views (reverse done) ≡ views after
     → tree_count (inside (view b)) ≤ length done
 tree_count-inside_le b left after done n s =

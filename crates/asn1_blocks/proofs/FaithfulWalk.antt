@@ -4,7 +4,7 @@ use Rattle.asn1_blocks.specs.declared.block.ASN1Block.{ASN1Block}
 use Rattle.asn1_blocks.specs.Tree.{Tree, leaf, group, explicit, unknown}
 use Rattle.asn1_blocks.specs.Faithful.{IsFaithful, AreFaithful}
 use Rattle.asn1_blocks.specs.Inner.FaithfulWalk.{IsFaithfulAlone}
-use Rattle.asn1_blocks.specs.Inner.TreeOrder.{IsNext, inside}
+use Rattle.asn1_blocks.specs.Inner.TreeOrder.{IsNextTree, inside}
 use Rattle.asn1_blocks.specs.View.{view, views}
 
 -- a tree is faithful exactly if it is by itself, and the trees inside it are
@@ -39,7 +39,7 @@ IsDecidedBy whole rest = AreFaithful (views whole) ↔ AreFaithful (views rest)
 
 -- where a block is faithful alone, the blocks after it decide whether all are
 pub IsDecidedBy-next :
-    (whole before after : List ASN1Block) (b : ASN1Block) → IsDecidedBy whole before → IsNext b before after →
+    (whole before after : List ASN1Block) (b : ASN1Block) → IsDecidedBy whole before → IsNextTree b before after →
     IsFaithfulAlone (view b) → IsDecidedBy whole after
 IsDecidedBy-next whole before after b rest n alone =
     let down : AreFaithful (views before) → AreFaithful (views after) = λ h.

@@ -5,7 +5,7 @@ use Rattle.asn1_blocks.specs.declared.block.ASN1Block.{ASN1Block}
 use Rattle.asn1_blocks.specs.Tree.{Tree, Trees, leaf, group, explicit, unknown}
 use Rattle.asn1_blocks.specs.BlockParts.{in_order, all_in_order}
 use Rattle.asn1_blocks.specs.HeadersBegun.{blocks_in, all_blocks_in}
-use Rattle.asn1_blocks.specs.Inner.TreeOrder.{IsInTreeOrder, IsNext, inside, stacked}
+use Rattle.asn1_blocks.specs.Inner.TreeOrder.{IsInTreeOrder, IsNextTree, inside, stacked}
 use Rattle.asn1_blocks.specs.View.{view, views}
 
 -- the blocks of lists inside one another are those of the innermost list, and then those of the others
@@ -38,7 +38,7 @@ all_blocks_in-append [] ys = omega arith
 all_blocks_in-append (x ∷ xs) ys = omega (arith, all_blocks_in-append xs ys)
 
 -- after a block one block fewer is ahead
-pub all_blocks_in-next : (b : ASN1Block) (before after : List ASN1Block) → IsNext b before after →
+pub all_blocks_in-next : (b : ASN1Block) (before after : List ASN1Block) → IsNextTree b before after →
     all_blocks_in (views after) + 1 ≡ all_blocks_in (views before)
 all_blocks_in-next b before after n =
     omega (
@@ -58,7 +58,7 @@ IsFoundBefore found ahead whole =
 -- the next block is found behind those that were found
 pub IsFoundBefore-next : (found before after whole : List ASN1Block) (b : ASN1Block) →
     IsFoundBefore found before whole →
-    IsNext b before after
+    IsNextTree b before after
     → IsFoundBefore (found ++ b ∷ []) after whole
 IsFoundBefore-next found before after whole b f n order h =
     subst (λ z. IsInTreeOrder z whole) (sym (append_assoc found (b ∷ []) order)) (f (b ∷ order) (after, n, h))
@@ -78,7 +78,7 @@ IsInTreeOrder-drop (b ∷ order) blocks (suc i) (after, n, h) l = IsInTreeOrder-
 -- an order of some blocks from j on begins with the block at j
 pub record BeginsAtPlace (b : ASN1Block) (order left : List ASN1Block) (i : ℕ) : Type 0 where
   pub after : List ASN1Block
-  pub next : IsNext b left after
+  pub next : IsNextTree b left after
   pub ordered : IsInTreeOrder (drop i order) after
 
 -- what is left of an order from a place on begins with the block there

@@ -1,9 +1,10 @@
 -- Where the blocks of a document stand, and which octets they have.
-use Rattle.std.specs.Prelude.{◌≡◌, ℕ, ◌+◌, ◌-◌, ◌<◌, ◌≤◌, ◌++◌, Bool, List, length, drop, slice_range}
+use Rattle.std.specs.Prelude.{◌≡◌, ◌&&◌, ℕ, ◌+◌, ◌-◌, ◌<◌, ◌≤◌, ◌++◌, Bool, List, length, drop, slice_range}
 use Rattle.asn1_headers.specs.declared.header.ASN1Class.{ASN1Class}
 use Rattle.asn1_blocks.specs.declared.block.GroupKind.{GroupKind}
 use Rattle.asn1_blocks.specs.declared.parsed.PlacedHeader.{PlacedHeader}
 use Rattle.asn1_headers.specs.Header.{Encoding}
+use Rattle.asn1_headers.specs.Indefinite.{is_indefinite}
 use Rattle.asn1_blocks.specs.Tree.{Tree, Trees, group, explicit, no_trees, more_trees, mapped, all_mapped}
 use Rattle.asn1_blocks.specs.View.{tree_offset}
 use Rattle.asn1_blocks.specs.Grammar.{IsDocument}
@@ -97,9 +98,13 @@ IsEncodingBetween octets class constructed tag offset start end =
     Encoding (slice_range octets offset end) class constructed tag (slice_range octets start end)
     (start - offset)
 
--- the encoding at the offset has this header, and ends before the limit
+-- the encoding at the offset has this header, which tells its parts, and ends before the limit
 pub record HeaderFound (octets : List ℕ) (offset limit : ℕ) (h : PlacedHeader) : Type 0 where
   pub encoding : IsEncodingBetween octets h.class h.constructed h.tag offset h.start h.end
   pub starts_after : offset < h.start
   pub order : h.start ≤ h.end
   pub ends_within : h.end ≤ limit
+  pub identifier_size : h.identifier ≡ length encoding.identifier
+  pub size_is : h.size ≡ h.start - offset
+  pub length_80 : h.has_length_80 ≡ is_indefinite encoding.len
+  pub indefinite : h.is_indefinite ≡ (h.constructed && h.has_length_80)

@@ -8,7 +8,7 @@ ghost use Rattle.asn1_blocks.specs.Grammar.{IsDocument, FirstFault, FirstFaultAt
 ghost use Rattle.asn1_blocks.specs.HeadersBegun.{HeadersBegun};
 ghost use Rattle.asn1_blocks.specs.Inner.OpenFrames.{around};
 ghost use Rattle.asn1_blocks.specs.Inner.Postponed.{trees_after_all};
-ghost use Rattle.asn1_blocks.specs.Inner.TreeBuilding.{IsAddedAsItCame, IsPostponed, IsAdded, builder_holds};
+ghost use Rattle.asn1_blocks.specs.Inner.TreeBuilding.{IsAddedAsItCame, IsPostponed, IsAdded, trees_hold};
 ghost use Rattle.asn1_blocks.specs.View.{view, views};
 
 use crate::block::ASN1Block;
@@ -233,7 +233,7 @@ struct TreeBuilder {
 impl Builder for TreeBuilder {
     type Items = FrameBlocks;
 
-    ghost holds = { builder_holds };
+    ghost holds = { trees_hold };
 
     #[inline(always)]
     fn open(

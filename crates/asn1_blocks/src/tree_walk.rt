@@ -1,6 +1,6 @@
 // Trees as lists of their blocks, each before those that it holds, so that what goes over them is a loop.
 ghost use Rattle.std.specs.Prelude.{◌≡◌, ◌++◌, [], IfOk, MatchOption, OnOk, map};
-ghost use Rattle.asn1_blocks.specs.Inner.TreeOrder.{IsInTreeOrder, IsNext, ahead, inside, stacked};
+ghost use Rattle.asn1_blocks.specs.Inner.TreeOrder.{IsInTreeOrder, IsNextTree, ahead, inside, stacked};
 ghost use Rattle.asn1_blocks.specs.View.{view, views};
 
 use crate::block::ASN1Block;
@@ -40,7 +40,7 @@ impl<'a> TreeWalk<'a> {
     pub fn next(&mut self) -> Result<Option<&'a ASN1Block>, AllocError>
         ensures { IfOk result (λ found. MatchOption found
             (ahead self.old ≡ [])
-            (λ b. IsNext b.now (ahead self.old) (ahead self.new))) }
+            (λ b. IsNextTree b.now (ahead self.old) (ahead self.new))) }
     {
         loop {
             match self.front.split_first() {

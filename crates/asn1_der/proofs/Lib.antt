@@ -1,7 +1,13 @@
+pub mod Alone
+pub mod DerEncodings
+pub mod DerLists
 pub mod Elements
-pub mod Encodings
+pub mod Found
+pub mod Fronts
+pub mod Law
 pub mod LengthOctets
 pub mod Orders
 pub mod Shortest
 pub mod Tags
 pub mod Turns
+pub mod Walk

@@ -8,7 +8,7 @@ use Rattle.asn1_blocks.specs.Places.{HasNoEncodingAt, IsEncoding}
 use Rattle.asn1_der.specs.Der.{AreDerEncodings, Ascend, more_encodings, no_encodings}
 use Rattle.asn1_der.specs.Steps.{MayFollow, MayStandBefore, behind}
 use Rattle.asn1_der.specs.declared.order.Order.{Order}
-use Rattle.asn1_der.proofs.Encodings.{Encoding-der}
+use Rattle.asn1_der.proofs.DerEncodings.{Encoding-der}
 
 -- encodings of DER are encodings one after another
 pub record AreItems (x : List ℕ) (items : List (List ℕ)) : Type 0 where

@@ -8,3 +8,7 @@ pub mod External
 pub mod Der
 pub mod Steps
 pub mod Turns
+pub mod Rules
+pub mod Departures
+pub mod Listing
+pub mod Laws

@@ -1,6 +1,9 @@
 -- What is found step by step. Private contracts alone name these.
-use Rattle.std.specs.Prelude.{◌≡◌, ◌++◌, ◌≤◌, ℕ, Bool, true, List, [], ◌∷◌, slice_range, Option, None, Some}
-use Rattle.asn1_headers.specs.Header.{IsIdentifier, IsLength, IsSomeIdentifier}
+use Rattle.std.specs.Prelude.{◌≡◌, ◌++◌, ◌+◌, ◌*◌, ◌-◌, ◌≤◌, ℕ, Bool, true, List, [], ◌∷◌, length, slice_range, Option, None, Some}
+use Rattle.asn1_numbers.specs.Octets.{AreOctets}
+use Rattle.asn1_headers.specs.Header.{IsIdentifier, IsLength, IsSomeIdentifier, shortest_identifier, shortest_length}
+use Rattle.asn1_headers.specs.Indefinite.{is_indefinite}
+use Rattle.asn1_blocks.specs.declared.parsed.PlacedHeader.{PlacedHeader}
 use Rattle.asn1_der.specs.declared.order.Order.{Order}
 use Rattle.asn1_der.specs.declared.order.Order.TheVariants.{Tags, Octets}
 use Rattle.asn1_headers.specs.declared.header.ASN1Class.{ASN1Class}
@@ -19,6 +22,10 @@ AreDerUpTo octets index (end ∷ ends) = AreDer (slice_range octets index end) �
 abbrev pub AreEnds : ℕ → List ℕ → ℕ → Type 0
 AreEnds index [] whole = index ≡ whole
 AreEnds index (end ∷ ends) whole = (index ≤ end) × AreEnds end ends whole
+
+-- a measure of what a loop has left to do at the index: an encoding that is opened takes two octets
+abbrev pub work_left : {A : Type 0} → List ℕ → ℕ → List A → ℕ
+work_left octets index outer = 2 * (length octets - index) + length outer
 
 -- what is asked of an encoding beside its items
 abbrev pub IsDerAlone : List ℕ → ASN1Class → Bool → ℕ → List ℕ → Type 0
@@ -52,10 +59,18 @@ abbrev pub behind : Option (List ℕ) → List (List ℕ) → List (List ℕ)
 behind None items = items
 behind (Some first) items = first ∷ items
 
--- the octets are identifier octets of these fields, and length octets of this length
-pub record IsHeaderOf (octets : List ℕ) (class : ASN1Class) (constructed : Bool) (tag size : ℕ) : Type 0 where
-  pub identifier : List ℕ
-  pub len : List ℕ
-  pub whole : octets ≡ identifier ++ len
-  pub identifier_octets : IsIdentifier identifier class constructed tag
-  pub length_octets : IsLength len size
+-- the header is of these identifier octets and length octets
+pub record HasParts (header : PlacedHeader) (identifier len : List ℕ) : Type 0 where
+  pub identifier_octets : IsIdentifier identifier header.class header.constructed header.tag
+  pub length_octets : IsLength len (header.end - header.start)
+  pub identifier_all : AreOctets identifier
+  pub length_all : AreOctets len
+  pub identifier_size : header.identifier ≡ length identifier
+  pub size_is : header.size ≡ header.identifier + length len
+  pub length_80 : header.has_length_80 ≡ is_indefinite len
+
+-- identifier and length octets are the shortest of their fields
+pub record HasShortest (identifier len : List ℕ) (class : ASN1Class) (constructed : Bool) (tag size : ℕ)
+    : Type 0 where
+  pub identifier_is : identifier ≡ shortest_identifier class constructed tag
+  pub len_is : len ≡ shortest_length size

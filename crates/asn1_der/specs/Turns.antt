@@ -1,6 +1,6 @@
 -- Where the loop over open encodings stands. Private contracts alone name this.
-use Rattle.std.specs.Prelude.{◌↔◌, ◌+◌, ◌*◌, ◌-◌, ◌<◌, ℕ, List, ◌∷◌, length, reverse}
-use Rattle.asn1_der.specs.Steps.{AreDerUpTo, AreEnds}
+use Rattle.std.specs.Prelude.{◌↔◌, ◌<◌, List, ◌∷◌, ℕ, length, reverse}
+use Rattle.asn1_der.specs.Steps.{AreDerUpTo, AreEnds, work_left}
 use Rattle.asn1_der.specs.declared.der.Place.{Place}
 use Rattle.asn1_der.specs.declared.der.Turn.{Turn}
 use Rattle.asn1_der.specs.declared.der.Turn.TheVariants.{More, End, Stop}
@@ -16,15 +16,11 @@ IsPlaced octets place = AreEnds place.index (ends_of place) (length octets)
 abbrev pub IsLeftDer : List ℕ → Place → Type 0
 IsLeftDer octets place = AreDerUpTo octets place.index (ends_of place)
 
--- a measure: an encoding that is opened takes two octets
-abbrev pub work_left : List ℕ → Place → ℕ
-work_left octets place = 2 * (length octets - place.index) + length place.outer.items
-
 -- what is left after a turn is DER exactly if what was left before it is, and less is left to do
 pub record GoesOn (octets : List ℕ) (old new : Place) : Type 0 where
   pub placed : IsPlaced octets new
   pub same : IsLeftDer octets old ↔ IsLeftDer octets new
-  pub fewer : work_left octets new < work_left octets old
+  pub fewer : work_left octets new.index new.outer.items < work_left octets old.index old.outer.items
 
 abbrev pub HasTurned : List ℕ → Place → Turn → Place → Type 0
 HasTurned octets old More new = GoesOn octets old new

@@ -1,78 +1,40 @@
 // What DER asks of an encoding by its header, beside what it holds.
-ghost use Rattle.std.specs.Prelude.{◌≡◌, ◌↔◌, ◌≤◌, ◌++◌, ℕ, Bool, List, IsTrue, length, slice_range, false, true};
+ghost use Rattle.std.specs.Prelude.{◌≡◌, ◌↔◌, ◌-◌, ◌≤◌, ℕ, List, IsTrue, length, slice_range, false, true};
 ghost use Rattle.asn1_headers.specs.declared.header.ASN1Class.TheVariants.{Universal};
-ghost use Rattle.asn1_headers.specs.Header.{IsIdentifier, IsLength, shortest_identifier, shortest_length};
 ghost use Rattle.asn1_blocks.specs.Places.{HeaderFound};
 ghost use Rattle.asn1_der.specs.Der.{AreDerEncodings, AreOfType, IsRightAlone, is_constructed_type as is_constructed_type_is, is_reserved as is_reserved_is};
-ghost use Rattle.asn1_der.specs.Steps.{AreDer, IsDerAlone, IsHeaderOf, IsWhole};
+ghost use Rattle.asn1_der.specs.Steps.{AreDer, HasParts, HasShortest, IsDerAlone, IsWhole};
 
 use crate::contents::has_der_contents;
 use crate::external::{is_external, is_identified};
 use crate::order::is_in_order;
 use asn1_blocks::parsed::PlacedHeader;
-use asn1_headers::header::{ASN1Class, split_identifier};
+use asn1_headers::header::ASN1Class;
 use asn1_headers::tags::{
     BMP_STRING, BOOLEAN, CHARACTER_STRING, EMBEDDED_PDV, END_OF_CONTENTS, ENUMERATED, EXTERNAL,
     NUMERIC_STRING, OBJECT_DESCRIPTOR, REAL, RELATIVE_OID_IRI, RESERVED, SEQUENCE, SET, TIME,
     UNIVERSAL_STRING, UTF8_STRING,
 };
 
-// The least tag number that the short form of identifier octets does not have.
-pub const LEAST_HIGH_TAG: u8 = 31;
-
 // Whether an encoding with the header is one of DER, if its items are.
-pub fn is_der_alone(octets: &[u8], offset: usize, _limit: usize, header: &PlacedHeader) -> bool
-    requires found { HeaderFound octets.now offset _limit header.now }
+pub fn is_der_alone(octets: &[u8], _offset: usize, _limit: usize, header: &PlacedHeader) -> bool
+    requires found { HeaderFound octets.now _offset _limit header.now }
     requires within { _limit ≤ length octets.now }
-    ensures right { IsTrue result → IsDerAlone (slice_range octets.now offset header.now.end) header.now.class
+    ensures right { IsTrue result → IsDerAlone (slice_range octets.now _offset header.now.end) header.now.class
         header.now.constructed header.now.tag (slice_range octets.now header.now.start header.now.end) }
-    ensures needed { IsWhole (slice_range octets.now offset header.now.end) header.now.class
+    ensures needed { IsWhole (slice_range octets.now _offset header.now.end) header.now.class
         header.now.constructed header.now.tag (slice_range octets.now header.now.start header.now.end) →
         IsTrue result }
 {
-    let contents = &octets[header.start..header.end];
-    is_shortest(&octets[offset..header.start]) && is_right(header, contents)
+    is_shortest(header) && is_right(header, &octets[header.start..header.end])
 }
 
-// Whether identifier and length octets are the shortest of their header. Most are one octet each.
-fn is_shortest(front: &[u8]) -> bool
-    ensures { (class : ASN1Class) (constructed : Bool) (tag size : ℕ)
-        → IsHeaderOf front.now class constructed tag size → IsTrue result
-        ↔ (front.now ≡ shortest_identifier class constructed tag ++ shortest_length size) }
+// Whether the header is the shortest of its tag and its length.
+fn is_shortest(header: &PlacedHeader) -> bool
+    ensures { (identifier len : List ℕ) → HasParts header.now identifier len → IsTrue result ↔ HasShortest identifier
+        len header.now.class header.now.constructed header.now.tag (header.now.end - header.now.start) }
 {
-    match front {
-        [_, size] => *size < 128,
-        _ => {
-            let (identifier, len) = split_identifier(front);
-            is_shortest_identifier(identifier) && is_shortest_length(len)
-        }
-    }
-}
-
-// Whether identifier octets are the shortest of their tag: the long form has no number below 31, and does not begin
-// with an octet 80.
-pub fn is_shortest_identifier(identifier: &[u8]) -> bool
-    ensures { (class : ASN1Class) (constructed : Bool) (tag : ℕ)
-        → IsIdentifier identifier.now class constructed tag
-        → IsTrue result ↔ (identifier.now ≡ shortest_identifier class constructed tag) }
-{
-    match identifier {
-        [_, first, ..] => *first >= LEAST_HIGH_TAG && *first != 128,
-        _ => true,
-    }
-}
-
-// Whether length octets are the shortest of their length: of the long form a single octet has no number below 128, and
-// several do not begin with 0.
-pub fn is_shortest_length(len: &[u8]) -> bool
-    ensures { (size : ℕ) → IsLength len.now size → IsTrue result ↔ (len.now ≡ shortest_length size) }
-{
-    match len {
-        [] => false,
-        [initial] => *initial < 128,
-        [_, only] => *only >= 128,
-        [_, first, ..] => *first != 0,
-    }
+    header.has_shortest_identifier() && header.has_shortest_length()
 }
 
 // Whether contents octets are right for the class, the form and the tag, if the items are.

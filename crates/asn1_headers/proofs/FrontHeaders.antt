@@ -1,12 +1,15 @@
--- The header at the front of octets, or that there is none, for `whole_header::header_at` and
+-- The header at the front of octets, or that there is none, for `whole_header::any_header` and
 -- `whole_header::short_header`.
-use Rattle.std.proofs.Common.{◌≡◌, ℕ, zero, suc, ◌-◌, ◌%◌, ◌<◌, ◌≤◌, Bool, List, [], ◌∷◌, ◌++◌, inl, inr, length, take, drop, refl, sym, ap, ◌∙◌, subst, arith, append_assoc}
+use Rattle.std.proofs.Common.{◌≡◌, ◌&&◌, ℕ, zero, suc, ◌+◌, ◌-◌, ◌%◌, ◌<◌, ◌≤◌, Bool, List, [], ◌∷◌, ◌++◌, inl, inr, length, take, drop, refl, sym, ap, ◌∙◌, subst, arith, append_assoc, length-append}
 use Rattle.std.specs.List.{slice_range}
 use Rattle.std.proofs.lemmas.List.{drop_at, length-take-le, take-append-drop, take_at}
 use Rattle.asn1_headers.specs.declared.error.ASN1DecodeErr.{ASN1DecodeErr}
 use Rattle.asn1_headers.specs.declared.header.ASN1Class.{ASN1Class}
 use Rattle.asn1_headers.specs.Fault.{DecodeFault, OutOfMemoryOr}
-use Rattle.asn1_headers.specs.Front.{HasNoHeader}
+use Rattle.asn1_headers.specs.declared.whole_header.Header.{Header}
+use Rattle.asn1_headers.specs.Front.{BeginsWithHeader, HasNoHeader, KnowsParts}
+use Rattle.asn1_headers.specs.Indefinite.{is_indefinite}
+use Rattle.asn1_headers.proofs.HeaderSizes.{is_indefinite-append}
 use Rattle.asn1_headers.specs.Header.{BeginsWithNo, IsIdentifier, IsIncomplete, IsLength, IsSomeIdentifier, length_fault}
 use Rattle.asn1_headers.specs.HeaderFault.{HeaderFault, no_identifier, no_length}
 use Rattle.asn1_headers.proofs.Prefixes.{IsIdentifier-unique}
@@ -76,3 +79,37 @@ pub IsIdentifier-low_tag : (b d : ℕ) (octets : List ℕ) (size : ℕ) (c : ASN
 IsIdentifier-low_tag b d octets zero c k n low some i = absurd (omega (arith, some))
 IsIdentifier-low_tag b d octets (suc zero) c k n low some i = i
 IsIdentifier-low_tag b d octets (suc (suc size)) c k n low some i = absurd (omega (arith, low, i.0))
+
+module _ (rest : List ℕ) (size announced : ℕ) (class : ASN1Class) (constructed : Bool) (tag : ℕ)
+    (front : BeginsWithHeader rest size announced class constructed tag) where
+  -- a header has the octets of both its parts
+  pub length-header_parts : length front.identifier + length front.len ≡ size
+  length-header_parts = omega (
+    arith,
+    ap length front.front_is,
+    length-append front.identifier front.len,
+    length-take-le size rest front.within,
+  )
+
+  -- octets that begin with a header are its identifier octets, its length octets and what follows them
+  pub append-header_parts : rest ≡ front.identifier ++ (front.len ++ drop size rest)
+  append-header_parts =
+      sym (take-append-drop size rest)
+      ∙ (ap (λ z. z ++ drop size rest) front.front_is ∙ append_assoc front.identifier front.len (drop size rest))
+
+-- a header that was found by its identifier octets, and by what is behind them, tells its parts
+pub KnowsParts-of : (octets : List ℕ) (h : Header) → h.identifier ≤ length octets
+    → IsIdentifier (take h.identifier octets) h.class h.constructed h.tag
+    → h.has_length_80 ≡ is_indefinite (drop h.identifier octets)
+    → h.is_indefinite ≡ (h.constructed && h.has_length_80) → KnowsParts octets h
+KnowsParts-of octets h fits is form indefinite front =
+    let s = h.identifier in
+    let behind = front.len ++ drop h.size octets in
+    let same = IsIdentifier-unique (take s octets) front.identifier (drop s octets) behind h.class h.class h.constructed
+    h.constructed h.tag h.tag is front.fields (take-append-drop s octets
+    ∙ append-header_parts octets h.size h.announced h.class h.constructed h.tag front) in (
+      sym (length-take-le s octets fits) ∙ ap length same.octets,
+      form ∙ (ap is_indefinite same.rest ∙ is_indefinite-append front.len (drop h.size octets) h.announced
+          front.length_octets),
+      indefinite,
+    )

@@ -1,4 +1,4 @@
--- Headers of the indefinite form, for `whole_header::header_at`; and end-of-contents octets, for the crates above.
+-- Headers of the indefinite form, for `whole_header::any_header`; and end-of-contents octets, for the crates above.
 use Rattle.std.proofs.Common.{◌≡◌, ◌↔◌, ◌==◌, ℕ, ◌≤◌, Bool, true, false, List, [], ◌∷◌, ◌++◌, drop, length, take, sym, ap, ◌∙◌, subst, eqb-true}
 use Rattle.std.proofs.lemmas.Bool.{and_parts, false≢true}
 use Rattle.std.proofs.lemmas.List.{drop_at, length-take-le, take-append-drop}

@@ -1,4 +1,5 @@
 pub mod HeaderOctets
+pub mod HeaderSizes
 pub mod Prefixes
 pub mod Shortest
 pub mod Fronts

@@ -212,6 +212,20 @@ Encoding-unique xs ys c d j k m n v w g h r q F G e =
       rest = b.1;
     }
 
+-- encodings at the front of one list have the same identifier octets and the same length octets
+pub Encoding-same_parts : (xs ys : List ℕ) (c d : ASN1Class) (j k : Bool) (m n : ℕ) (v w : List ℕ) (g h : ℕ)
+    (r q : List ℕ) (F : Encoding xs c j m v g) (G : Encoding ys d k n w h) → xs ++ r ≡ ys ++ q →
+    (F.identifier ≡ G.identifier) × (F.len ≡ G.len)
+Encoding-same_parts xs ys c d j k m n v w g h r q F G e =
+    let whole : F.identifier ++ (F.len ++ (v ++ r)) ≡ G.identifier ++ (G.len ++ (w ++ q)) =
+    sym (append_assoc-four F.identifier F.len v r)
+    ∙ (ap (λ z. z ++ r) (sym F.whole) ∙ e ∙ ap (λ z. z ++ q) G.whole) ∙ append_assoc-four G.identifier G.len w q in
+    let first = IsIdentifier-unique F.identifier G.identifier (F.len ++ (v ++ r)) (G.len ++ (w ++ q)) c d j k m n
+    F.identifier_octets G.identifier_octets whole in
+    let second =
+    IsLength-unique F.len G.len (v ++ r) (w ++ q) (length v) (length w) F.length_octets G.length_octets first.rest in
+    (first.octets, second.octets)
+
 -- identifier octets that are found at the front of octets are those that the octets begin with
 pub IsSomeIdentifier-front :
     (octets identifier behind : List ℕ) (tag number size : ℕ) → IsSomeIdentifier identifier tag →

@@ -1,8 +1,9 @@
 -- Headers at the front of octets.
-use Rattle.std.specs.Prelude.{◌≡◌, ℕ, ◌≤◌, Bool, true, List, ◌∷◌, ◌++◌, length, take}
+use Rattle.std.specs.Prelude.{◌≡◌, ◌&&◌, ℕ, ◌≤◌, Bool, true, List, ◌∷◌, ◌++◌, length, take}
 use Rattle.asn1_headers.specs.declared.whole_header.Header.{Header}
 use Rattle.asn1_headers.specs.declared.header.ASN1Class.{ASN1Class}
 use Rattle.asn1_headers.specs.Header.{IsIdentifier, IsLength, IsSomeIdentifier}
+use Rattle.asn1_headers.specs.Indefinite.{is_indefinite}
 
 -- the octets begin with a header of so many octets, which announces so many contents octets
 pub record BeginsWithHeader (octets : List ℕ) (size announced : ℕ) (class : ASN1Class) (constructed : Bool)
@@ -18,6 +19,13 @@ pub record BeginsWithHeader (octets : List ℕ) (size announced : ℕ) (class : 
 abbrev pub IsAtFront : List ℕ → Header → Type 0
 IsAtFront octets header =
     BeginsWithHeader octets header.size header.announced header.class header.constructed header.tag
+
+-- the header tells how many identifier octets it has, whether its length octets are 80, and whether its form is
+-- indefinite
+abbrev pub KnowsParts : List ℕ → Header → Type 0
+KnowsParts octets header = (front : IsAtFront octets header) → (header.identifier ≡ length front.identifier)
+    × (header.has_length_80 ≡ is_indefinite front.len)
+    × (header.is_indefinite ≡ (header.constructed && header.has_length_80))
 
 -- the octets are a header: identifier and length octets
 abbrev pub IsHeader : List ℕ → Type 0

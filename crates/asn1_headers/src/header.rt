@@ -1,12 +1,14 @@
 // Identifier and length octets, each way.
 //
 // Each decoder is a function from a slice to the value and how many octets it took, with a wrapper that moves an index.
-ghost use Rattle.std.specs.Prelude.{◌≡◌, ℕ, ◌+◌, ◌*◌, ◌/◌, ◌<◌, ◌≤◌, ◌^◌, ◌++◌, List, length, drop, take, IfOk, OnOk, OnErr, slice_index, slice_range, IsOk, IfErr, IfSome, IfNone};
+ghost use Rattle.std.specs.Prelude.{◌≡◌, ◌↔◌, ℕ, ◌+◌, ◌*◌, ◌/◌, ◌<◌, ◌≤◌, ◌^◌, ◌++◌, List, length, drop, take, IfOk, OnOk, OnErr, slice_index, slice_range, IsOk, IfErr, IfSome, IfNone, IsTrue};
 ghost use Rattle.std.specs.Int.Digits.{number_from_digits, digits_of};
 ghost use Rattle.asn1_numbers.specs.Base128.{IsBase128, shortest_base128};
+ghost use Rattle.asn1_numbers.specs.Octets.{AreOctets};
 ghost use Rattle.asn1_headers.specs.Fault.{OutOfMemoryOr, fault_of};
 ghost use Rattle.asn1_headers.specs.Names.{class_name};
 ghost use Rattle.asn1_headers.specs.Header.{BeginsWithNo, IsIdentifier, IsIncomplete, IsLength, IsSomeIdentifier, class_number, leading_octet, length_fault, shortest_identifier, shortest_length};
+ghost use Rattle.asn1_headers.specs.Indefinite.{is_indefinite};
 
 use crate::error::ASN1DecodeErr;
 use asn1_numbers::number::big_uint::BigUint;
@@ -113,7 +115,7 @@ impl HeaderCount {
 }
 
 // The index of the first octet whose bit 8 is clear.
-fn last_octet_at(octets: &[u8]) -> Option<usize>
+pub fn last_octet_at(octets: &[u8]) -> Option<usize>
     ensures found { IfSome result (λ i. (i < length octets.now) × (slice_index octets.now i < 128)) }
     ensures before { IfSome result (λ i. (j : ℕ) → j < i → 128 ≤ slice_index octets.now j) }
     ensures none { IfNone result ((j : ℕ) → j < length octets.now → 128 ≤ slice_index octets.now j) }
@@ -426,6 +428,33 @@ pub fn push_length<S: Sink>(n: usize, out: &mut S)
     }
     out.push_octet(128 + octet_count(n) as u8);
     push_big_endian(n, out);
+}
+
+// Whether identifier octets are the shortest of their tag (X.690 8.1.2.2, 8.1.2.4.2), by how many they are: no others
+// are as few.
+#[inline(always)]
+pub fn is_least_identifier(size: usize, class: ASN1Class, constructed: bool, tag: &BigUint) -> bool
+    ensures { (identifier : List ℕ) → AreOctets identifier → IsIdentifier identifier class constructed tag.now
+        → size ≡ length identifier
+        → IsTrue result ↔ (identifier ≡ shortest_identifier class constructed tag.now) }
+{
+    if size == 1 {
+        return true;
+    }
+    size == identifier_size(class, constructed, tag)
+}
+
+// Whether length octets are the shortest of their length (X.690 10.1), by how many they are: no others are as few, but
+// that the octet 80 is as short as 00.
+#[inline(always)]
+pub fn is_least_length(size: usize, is_80: bool, n: usize) -> bool
+    ensures { (len : List ℕ) → AreOctets len → IsLength len n → size ≡ length len → is_80 ≡ is_indefinite len
+        → IsTrue result ↔ (len ≡ shortest_length n) }
+{
+    if size == 1 {
+        return !is_80;
+    }
+    size == length_size(n)
 }
 
 // How many identifier octets this tag has.

@@ -16,7 +16,7 @@ use Rattle.asn1_blocks.proofs.OneReading.{IsBlock-encodes}
 use Rattle.asn1_blocks.proofs.Slices.{end_before-encodes, middle-contents, middle-first, middle-rest, slice_range-middle}
 use Rattle.asn1_der.specs.Der.{IsDer, IsDerEncoding}
 use Rattle.asn1_der.specs.Steps.{AreDer}
-use Rattle.asn1_der.proofs.Encodings.{IsWhole-der, AreDer-first}
+use Rattle.asn1_der.proofs.DerEncodings.{IsWhole-der, AreDer-first}
 use Rattle.simple_asn1.specs.Canonical.{all_canonical, canonical, shortest_encoding}
 use Rattle.simple_asn1.proofs.Placed.{length-le_shortest_encoding, Encoding-shortest_encoding}
 use Rattle.simple_asn1.proofs.Strict.{IsEncoding-canonical}

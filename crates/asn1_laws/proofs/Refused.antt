@@ -3,7 +3,6 @@
 use Rattle.std.proofs.Common.{◌≡◌, ℕ, ◌+◌, ◌<◌, ◌≤◌, ◌^◌, true, false, List, [], ◌∷◌, ◌++◌, inl, inr, length, refl, ap, ◌∙◌, subst, arith, length-append, append_assoc}
 use Rattle.std.proofs.lemmas.Str.{IsUtf8-from_is_utf8}
 use Rattle.asn1_headers.specs.Fault.{DecodeFault}
-use Rattle.asn1_headers.specs.HeaderFault.{HeaderFault}
 use Rattle.asn1_headers.specs.declared.header.ASN1Class.TheVariants.{Universal}
 use Rattle.asn1_leaves.specs.Contents.BitString.{BitStringFault}
 use Rattle.asn1_leaves.specs.Contents.GeneralizedTime.{GeneralizedTimeContents}
@@ -14,11 +13,11 @@ use Rattle.asn1_leaves.specs.StringKind.{StringKind, utf8, printable, teletex, i
 use Rattle.asn1_leaves.proofs.Leaves.ObjectIdentifier.{ObjectIdentifierContents-ended}
 use Rattle.asn1_blocks.specs.Contents.{LeafFault, group_tag, of_bit_string, of_boolean, of_generalized_time, of_object_identifier, of_text, of_utc_time, string_tag}
 use Rattle.asn1_blocks.specs.Grammar.{AreBlocks, BlocksFaultAt, FirstFault, in_contents, in_header, in_item, more_blocks, no_blocks}
-use Rattle.asn1_blocks.proofs.Faults.{IsEncoding-block, HeaderFault-not_encoding}
+use Rattle.asn1_blocks.proofs.Faults.{IsEncoding-block}
 use Rattle.asn1_der.specs.Contents.{HasDerContents, are_subidentifiers, is_bit_string, is_boolean}
-use Rattle.asn1_der.specs.Der.{IsDer, is_constructed_type, more_encodings, no_encodings}
+use Rattle.asn1_der.specs.Der.{IsDer, is_constructed_type}
 use Rattle.asn1_der.specs.Steps.{AreDer}
-use Rattle.asn1_der.proofs.Encodings.{Encoding-der, IsWhole-der, AreDer-first}
+use Rattle.asn1_der.proofs.DerEncodings.{AreDer-first, AreDer-no_header_fault, IsWhole-der}
 use Rattle.asn1_der.specs.Times.{IsMoment}
 use Rattle.asn1_laws.specs.Refused.{IsFaultOfDer, of_bits, of_second_60, of_string}
 use Rattle.asn1_laws.proofs.Encodings.{length-contents-le, length-contents-lt, IsRightAlone-group, IsRightAlone-primitive}
@@ -128,15 +127,6 @@ AreDer-behind_blocks x front rest (more_blocks {x = first} {rest = others} w b b
     d in
     AreDer-behind_blocks (others ++ rest) others rest bs refl
     (omega (arith, small, ap length e, length-append first (others ++ rest))) s.more
-
--- no header of DER is at fault
-AreDer-no_header_fault : (o : ℕ) (x : List ℕ) (e : DecodeFault) → o + length x < 2 ^ 64 → 0 < length x →
-    HeaderFault o x e →
-    AreDer x → ⊥
-AreDer-no_header_fault o x e small some f (items, no_encodings) = omega (arith, some)
-AreDer-no_header_fault o x e small some f (items, more_encodings {first = first} {rest = rest} w d ds) =
-    let (c, k, n, v, h, F) = Encoding-der first (omega (arith, small, ap length w, length-append first rest)) d in
-    HeaderFault-not_encoding o x first rest e c k n v h f small w F
 
 -- encodings of DER have no fault but that of a string, of too many bits or of second 60
 IsFaultOfDer-blocks : (x : List ℕ) (e : DecodeFault) (o : ℕ) → length x < 2 ^ 64 → AreDer x → BlocksFaultAt x e o →

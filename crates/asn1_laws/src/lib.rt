@@ -4,5 +4,5 @@
 
 mod laws;
 
-pub use asn1_departures::law_departures;
+pub use asn1_der::law_departures;
 pub use laws::{law_der_is_canonical, law_der_is_read, law_written_is_der};

@@ -6,7 +6,7 @@ use Rattle.std.proofs.lemmas.List.{get_or-drop, get_or_append_left, length-map, 
 use Rattle.asn1_blocks.specs.declared.block.ASN1Block.{ASN1Block}
 use Rattle.asn1_blocks.specs.Tree.{Tree}
 use Rattle.asn1_blocks.specs.View.{tree_offset, view}
-use Rattle.asn1_outline.specs.Building.{IsNext, IsTaken, built_trees, items_of, roots}
+use Rattle.asn1_outline.specs.Building.{IsBuiltNext, IsTaken, built_trees, items_of, roots}
 use Rattle.asn1_outline.specs.Entries.{IsOutline, no_entry}
 use Rattle.asn1_outline.specs.Structure.{Holds, IsNode, IsStructure, Node, Nodes, no_node, node, node_at, node_count, node_in_order, node_items, node_tree, nodes_in_order, nodes_trees}
 use Rattle.asn1_outline.specs.declared.entry.Entry.{Entry}
@@ -81,10 +81,10 @@ module _ (octets : List ℕ) (es : List Entry) (ns : Nodes) (lent : ∥ IsOutlin
       ∙ get_or-drop k whole j no_node
 
   -- the entry of a node inside the node at k comes next, once all nodes behind it are built
-  pub IsNext-entry : (j : ℕ) → j < length (node_in_order (node_at ns k)) → k + j < length es → (ahead : List (Tree ℕ))
-      → ahead ≡ roots (drop (j + 1) (node_in_order (node_at ns k))) →
-      IsNext octets (node_at ns (k + j)) (get_or es (k + j) no_entry) ahead
-  IsNext-entry j l within ahead built =
+  pub IsBuiltNext-entry : (j : ℕ) → j < length (node_in_order (node_at ns k)) → k + j < length es
+      → (ahead : List (Tree ℕ)) → ahead ≡ roots (drop (j + 1) (node_in_order (node_at ns k))) →
+      IsBuiltNext octets (node_at ns (k + j)) (get_or es (k + j) no_entry) ahead
+  IsBuiltNext-entry j l within ahead built =
       let n = node_at ns (k + j) in
       let r = get_or es (k + j) no_entry in
       let (y, s, is) =

@@ -5,7 +5,7 @@ use Rattle.std.proofs.lemmas.List.{get_or_past, length-drop}
 use Rattle.std.specs.Prelude.{MatchOption}
 use mathlib.Core.Logic.{∥∥₁_elim}
 use Rattle.asn1_blocks.specs.Grammar.{IsDocument}
-use Rattle.asn1_blocks.specs.Tree.{Trees}
+use Rattle.asn1_blocks.specs.Tree.{Tree, Trees}
 use Rattle.asn1_outline.specs.Entries.{AreEntries, AreEntriesOf, IsOutline, no_entry}
 use Rattle.asn1_outline.specs.Structure.{IsStructure, Nodes, more_nodes, no_node, no_nodes, no_tree, node, node_at, node_count, node_in_order, node_items, node_tree, nodes_depths, nodes_in_order, nodes_trees, tree_at}
 use Rattle.asn1_outline.specs.Values.{IsEntryOf}
@@ -119,6 +119,17 @@ pub MatchOption-is_prop : {A B : Type 0} (o : Option A) (x : Option B) (f : A �
     → IsProp (MatchOption o (x ≡ None) (λ a. x ≡ Some (f a)))
 MatchOption-is_prop None x f set = set x None
 MatchOption-is_prop (Some a) x f set = set x (Some (f a))
+
+-- the value at an index is that of the tree there, where what was found is right for each tree of the entry
+pub value-looked_up : {A B : Type 0} (f : A → B) (value : Tree ℕ → Option B) → IsSet (Option B) → (found : Option A)
+    (octets : List ℕ) (es : List Entry) (ns : Nodes) (k : ℕ) → ∥ IsOutline octets es ∥₁ → IsStructure octets ns
+    → (items : List Entry) (entry : Entry) → items ≡ es → (k < length items) × ((r : Entry) → entry ≡ get_or items k r)
+    → ((t : Tree ℕ) → IsEntryOf octets t entry → MatchOption found (value t ≡ None) (λ x. value t ≡ Some (f x)))
+    → MatchOption found (value (tree_at ns k) ≡ None) (λ x. value (tree_at ns k) ≡ Some (f x))
+value-looked_up f value set found octets es ns k lent d items entry same at is =
+    IsEntryOf-looked_up octets es ns k lent d items entry same at
+    (MatchOption found (value (tree_at ns k) ≡ None) (λ x. value (tree_at ns k) ≡ Some (f x)))
+    (MatchOption-is_prop found (value (tree_at ns k)) f set) (is (tree_at ns k))
 
 -- what was looked up is the entry at the index
 pub get_or-looked_up : (es items : List Entry) (k : ℕ) (entry : Entry) → items ≡ es →

@@ -23,7 +23,7 @@ use Rattle.asn1_blocks.specs.View.{tree_offset}
 use Rattle.asn1_blocks.proofs.HeldFronts.{HoldAround, HoldFront-inside}
 use Rattle.asn1_blocks.proofs.Slices.{tree_offset-encodes}
 use Rattle.asn1_outline.specs.Entries.{AreEntries, AreEntriesOf, no_entry}
-use Rattle.asn1_outline.specs.Listing.{AllHold, AreOfTrees, IsBegun, IsFront, all_hold, builder_holds, with_items_at, with_items}
+use Rattle.asn1_outline.specs.Listing.{AllHold, AreOfTrees, IsBegun, IsFront, all_hold, entries_hold, with_items_at, with_items}
 use Rattle.asn1_outline.specs.Structure.{Holds, IsNode, IsTaggedAt, Node, no_nodes, node, node_depths, node_in_order, node_tree, nodes_depths, nodes_in_order, nodes_of, nodes_trees}
 use Rattle.asn1_outline.specs.declared.entry.Entry.{Entry}
 use Rattle.asn1_outline.specs.declared.entry_builder.EntryBuilder.{EntryBuilder}
@@ -101,7 +101,7 @@ pub HasOpened-entry_builder :
     (x : List ℕ) (h : PlacedHeader) (offset depth : ℕ) (a b : EntryBuilder) (i : EntryItems) (r : Entry) →
     IsBegun x offset i.entry depth r →
     ((all : List Entry) → IsFront a all → i.entry ≡ length all) → i.count ≡ 0 →
-    ((all : List Entry) → IsFront a all → IsFront b (all ++ r ∷ [])) → HasOpened builder_holds x h offset depth a i b
+    ((all : List Entry) → IsFront a all → IsFront b (all ++ r ∷ [])) → HasOpened entries_hold x h offset depth a i b
 HasOpened-entry_builder x h offset depth a b i r begun at none is = record {
   holds = λ kind f fs trees d k (all, front, w).
       let e = opened_at offset kind h in
@@ -129,7 +129,7 @@ pub HasLeaf-entry_builder :
     (IsReadInside h.class h.constructed h.tag → ⊥) → IsSingleAt offset (slice_range x offset h.end) →
     IsBegun x offset n depth r → ((all : List Entry) → IsFront a all → n ≡ length all) →
     ((all : List Entry) → IsFront a all → IsFront b (all ++ r ∷ [])) →
-    HasLeaf builder_holds x offset h.end depth a i b (with_one_more i)
+    HasLeaf entries_hold x offset h.end depth a i b (with_one_more i)
 HasLeaf-entry_builder x h offset limit depth a b i r n found shut (t, none, encoded) begun at is =
     let o = tree_offset-encodes offset (slice_range x offset h.end) t encoded in
     let holds = Holds-none x offset h.end h t _ _ none encoded found.encoding shut in
@@ -218,7 +218,7 @@ Holds-ended x e ts t bs same w = go e.kind refl
 -- an entry whose items are set is that of the tree that ended
 pub HasEndedIn-entry_builder : (x : List ℕ) (a b : EntryBuilder) (f : OpenFrame EntryItems) (i : EntryItems) (depth : ℕ)
     → ((all : List Entry) → IsFront a all → IsFront b (with_items_at all f.items.entry f.items.count)) →
-    HasEndedIn builder_holds x f depth a i b (with_one_more i)
+    HasEndedIn entries_hold x f depth a i b (with_one_more i)
 HasEndedIn-entry_builder x a b f i depth is = record {
   holds = λ e fs ts us rest t d ends (rs, kept, w).
       let blocks = w.blocks in
@@ -258,7 +258,7 @@ all_hold-around x rs k f gs l ts rest held =
 -- an attempt that a fault ended has its own entry alone
 pub HasKept-entry_builder : (x : List ℕ) (a b : EntryBuilder) (f : OpenFrame EntryItems) (i : EntryItems) (depth : ℕ)
     → ((all : List Entry) → IsFront a all → IsFront b (take (suc f.items.entry) all)) →
-    HasKept builder_holds x f depth a i b (with_one_more i)
+    HasKept entries_hold x f depth a i b (with_one_more i)
 HasKept-entry_builder x a b f i depth is = record {
   holds = λ inside lost e fs ts us rest k d m here tried none (rs, kept, held).
       let left = HoldFront-inside (all_hold x) (all_hold-around x) rs inside f (in_frame e i ∷ fs) lost ts (us ∷ rest)

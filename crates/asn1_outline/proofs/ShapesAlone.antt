@@ -1,19 +1,34 @@
 -- Octets have one list of shapes, or one first header fault, and not both, for `headers::Headers::read` and the
 -- functions of `signed`.
-use Rattle.std.proofs.Common.{◌≡◌, ℕ, ◌-◌, ◌<◌, ◌≤◌, ◌^◌, ◌++◌, List, drop, inl, inr, length, refl, sym, ap, ◌∙◌, subst, arith}
+use Rattle.std.proofs.Common.{◌≡◌, ◌&&◌, Bool, ℕ, ◌-◌, ◌<◌, ◌≤◌, ◌^◌, ◌++◌, List, drop, inl, inr, length, refl, sym, ap, ap₂, ◌∙◌, subst, arith}
 use Rattle.std.specs.List.{slice_range}
 use Rattle.asn1_headers.specs.Fault.{DecodeFault}
-use Rattle.asn1_headers.specs.HeaderFault.{HeaderFault}
+use Rattle.asn1_headers.specs.declared.header.ASN1Class.{ASN1Class}
 use Rattle.asn1_headers.specs.declared.header.ASN1Class.TheVariants.{Universal}
-use Rattle.asn1_headers.proofs.Prefixes.{Encoding-unique}
+use Rattle.asn1_headers.specs.Indefinite.{is_indefinite}
+use Rattle.asn1_headers.proofs.Prefixes.{Encoding-same_parts, Encoding-unique}
 use Rattle.asn1_blocks.specs.HeadersBegun.{IsReadInside}
 use Rattle.asn1_blocks.specs.Places.{HeaderFound}
 use Rattle.asn1_blocks.specs.declared.parsed.PlacedHeader.{PlacedHeader}
-use Rattle.asn1_blocks.proofs.Faults.{HeaderFault-not_encoding}
+use Rattle.asn1_blocks.proofs.PlacedHeaders.{HeaderFound-no_fault}
 use Rattle.asn1_blocks.proofs.FaultsAlone.{HeaderFault-unique}
-use Rattle.asn1_blocks.proofs.ReadSteps.{slice_range-append, length-slice_range}
+use Rattle.asn1_blocks.proofs.ReadSteps.{length-slice_range}
 use Rattle.asn1_outline.specs.Shapes.{AreShapes, FirstHeaderFaultAt, HasItems, HasShapes, HeadersFaultAt, Shapes, as_it_came, in_header, in_item, in_later, more_shapes, no_more, not_read, one_more, read_inside}
 use Rattle.std.proofs.lemmas.List.Folds.{drop_split}
+
+-- a header with these fields
+abbrev placed : ASN1Class → Bool → ℕ → ℕ → ℕ → Bool → Bool → ℕ → ℕ → PlacedHeader
+placed class constructed tag identifier size is_80 is_open start end = record {
+  class = class;
+  constructed = constructed;
+  tag = tag;
+  identifier = identifier;
+  size = size;
+  has_length_80 = is_80;
+  is_indefinite = is_open;
+  start = start;
+  end = end;
+}
 
 -- one header alone stands at an offset
 pub HeaderFound-unique : (x : List ℕ) (p e : ℕ) (h g : PlacedHeader) → e ≤ length x → HeaderFound x p e h →
@@ -36,24 +51,26 @@ HeaderFound-unique x p e h g within f f' =
     length-slice_range x p g.end (omega (arith, f'.starts_after, f'.order)) (omega (arith, f'.ends_within, within)) in
     let end : h.end ≡ g.end =
     omega (arith, l, m, ap length s.octets, f.starts_after, f.order, f'.starts_after, f'.order) in
+    let parts = Encoding-same_parts y z h.class g.class h.constructed g.constructed h.tag g.tag _ _ _ _ (drop h.end x)
+    (drop g.end x) f.encoding f'.encoding whole in
+    let identifier : h.identifier ≡ g.identifier =
+    f.identifier_size ∙ (ap length parts.0 ∙ sym f'.identifier_size) in
+    let size : h.size ≡ g.size = omega (arith, f.size_is, f'.size_is, start) in
+    let length_80 : h.has_length_80 ≡ g.has_length_80 =
+    f.length_80 ∙ (ap is_indefinite parts.1 ∙ sym f'.length_80) in
+    let indefinite : h.is_indefinite ≡ g.is_indefinite =
+    f.indefinite ∙ (ap₂ (λ k l. k && l) constructed length_80 ∙ sym f'.indefinite) in
     let same : h ≡ g =
-    ap (λ z. record { class = z; constructed = h.constructed; tag = h.tag; start = h.start; end = h.end }) class
-    ∙ ap (λ z. record { class = g.class; constructed = z; tag = h.tag; start = h.start; end = h.end }) constructed
-    ∙ ap (λ z. record { class = g.class; constructed = g.constructed; tag = z; start = h.start; end = h.end }) tag
-    ∙ ap (λ z. record { class = g.class; constructed = g.constructed; tag = g.tag; start = z; end = h.end }) start
-    ∙ ap (λ z. record { class = g.class; constructed = g.constructed; tag = g.tag; start = g.start; end = z }) end in
+    ap (λ z. placed z h.constructed h.tag h.identifier h.size h.has_length_80 h.is_indefinite h.start h.end) class
+    ∙ ap (λ z. placed g.class z h.tag h.identifier h.size h.has_length_80 h.is_indefinite h.start h.end) constructed
+    ∙ ap (λ z. placed g.class g.constructed z h.identifier h.size h.has_length_80 h.is_indefinite h.start h.end) tag
+    ∙ ap (λ z. placed g.class g.constructed g.tag z h.size h.has_length_80 h.is_indefinite h.start h.end) identifier
+    ∙ ap (λ z. placed g.class g.constructed g.tag g.identifier z h.has_length_80 h.is_indefinite h.start h.end) size
+    ∙ ap (λ z. placed g.class g.constructed g.tag g.identifier g.size z h.is_indefinite h.start h.end) length_80
+    ∙ ap (λ z. placed g.class g.constructed g.tag g.identifier g.size g.has_length_80 z h.start h.end) indefinite
+    ∙ ap (λ z. placed g.class g.constructed g.tag g.identifier g.size g.has_length_80 g.is_indefinite z h.end) start
+    ∙ ap (λ z. placed g.class g.constructed g.tag g.identifier g.size g.has_length_80 g.is_indefinite g.start z) end in
     same
-
--- no header is at fault where one is found
-pub HeaderFound-no_fault : (x : List ℕ) (s p e : ℕ) (h : PlacedHeader) (fault : DecodeFault) → length x < 2 ^ 64 →
-    e ≤ length x → HeaderFound x p e h
-    → HeaderFault (p - s) (slice_range x p e) fault → ⊥
-HeaderFound-no_fault x s p e h fault small within f w =
-    let before : p ≤ h.end = omega (arith, f.starts_after, f.order) in
-    let l = length-slice_range x p e (omega (arith, before, f.ends_within)) within in
-    HeaderFault-not_encoding (p - s) (slice_range x p e) (slice_range x p h.end) (slice_range x h.end e) fault h.class
-    h.constructed h.tag _ _ w (omega (arith, l, small, within, before, f.ends_within))
-    (slice_range-append x p h.end e before f.ends_within) f.encoding
 
 module _ (x : List ℕ) (small : length x < 2 ^ 64) where
   mutual

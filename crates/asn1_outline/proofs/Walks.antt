@@ -19,7 +19,7 @@ use Rattle.asn1_blocks.proofs.Frames.Advances.{FramePlaces}
 use Rattle.asn1_blocks.proofs.Reader.Popping.{reverse-append_last}
 use Rattle.asn1_outline.specs.Listing.{IsFront, with_items_at, with_items}
 use Rattle.asn1_outline.specs.Shapes.{AreShapes, HasItems, HeadersFaultAt, Shapes, as_it_came, entries_of, in_item, in_later, more_shapes, no_more, no_shapes, one_more, read_inside, shape_count, shape_entry}
-use Rattle.asn1_outline.specs.Walking.{AreOpen, GoesOn, HasTurned, IsFaulty, IsReadTo, Leads}
+use Rattle.asn1_outline.specs.Walking.{AreOpen, HasWalkedOn, HasWalked, IsFaulty, IsReadTo, Leads}
 use Rattle.asn1_outline.specs.declared.entry.Entry.{Entry}
 use Rattle.asn1_outline.specs.declared.entry_builder.EntryBuilder.{EntryBuilder}
 use Rattle.asn1_outline.specs.declared.listing.EntryItems.{EntryItems}
@@ -307,13 +307,13 @@ AreOpen-equal x f f' gs gs' p p' rs rs' a b c d w =
 
 module _ (x : List ℕ) (w : Walk) where
   -- the walk goes on behind a leaf
-  pub GoesOn-leaf :
+  pub HasWalkedOn-leaf :
       (h : PlacedHeader) (b : EntryBuilder) (i : EntryItems) (all : List Entry) →
       AreOpen x w.inner (reverse w.outer.items) w.index all → HeaderFound x w.index w.inner.extent.end h →
       HasItems x h no_shapes →
       IsFront b (all ++ shape_entry w.index h 0 (suc (length all)) (length w.outer.items) ∷ []) →
       i ≡ with_one_more w.inner.items →
-      GoesOn x (record {
+      HasWalkedOn x (record {
         inner = record w.inner { items = i };
         outer = w.outer;
         index = h.end;
@@ -321,7 +321,7 @@ module _ (x : List ℕ) (w : Walk) where
         fault =
             w.fault;
       }) (work_left (length x) w.index w.outer.items)
-  GoesOn-leaf h b i all walking found inside added more =
+  HasWalkedOn-leaf h b i all walking found inside added more =
       let gs = reverse w.outer.items in
       let v = AreOpen-places x w.inner gs w.index all walking in
       let new = all ++ shape_entry w.index h 0 (suc (length all)) (length w.outer.items) ∷ [] in
@@ -341,15 +341,15 @@ module _ (x : List ℕ) (w : Walk) where
       }
 
   -- the walk goes on inside a frame that was entered
-  pub GoesOn-enter :
+  pub HasWalkedOn-enter :
       (h : PlacedHeader) (b : EntryBuilder) (n : ℕ) (kind : FrameKind) (r : Walk) (all : List Entry) →
       AreOpen x w.inner (reverse w.outer.items) w.index all → HeaderFound x w.index w.inner.extent.end h →
       IsReadInside h.class h.constructed h.tag → IsKindOf kind h →
       n ≡ length all →
       IsFront b (all ++ shape_entry w.index h 0 (suc (length all)) (length w.outer.items) ∷ []) →
       IsEntered (record w { builder = b }) (in_frame (opened_at w.index kind h) (record { entry = n; count = 0 })) r →
-      GoesOn x r (work_left (length x) w.index w.outer.items)
-  GoesOn-enter h b n kind r all walking found inside is_kind at added e =
+      HasWalkedOn x r (work_left (length x) w.index w.outer.items)
+  HasWalkedOn-enter h b n kind r all walking found inside is_kind at added e =
       let gs = reverse w.outer.items in
       let f : EntryFrame = in_frame (opened_at w.index kind h) (record { entry = n; count = 0 }) in
       let v = AreOpen-places x w.inner gs w.index all walking in
@@ -384,11 +384,11 @@ module _ (x : List ℕ) (w : Walk) where
         (reverse-append_last w.outer.items outer.items g popped) faulty.opened
 
     -- the walk goes on behind an attempt with a fault, which stays as it came
-    pub GoesOn-failed_attempt :
+    pub HasWalkedOn-failed_attempt :
         (b : EntryBuilder) (i : EntryItems) → is_attempt w.inner.extent.kind ≡ true →
         ((all : List Entry) → IsFront w.builder all → IsFront b (take (suc w.inner.items.entry) all)) →
         i ≡ with_one_more g.items →
-        GoesOn x (record {
+        HasWalkedOn x (record {
           inner = record g { items = i };
           outer = outer;
           index = w.inner.extent.end;
@@ -396,7 +396,7 @@ module _ (x : List ℕ) (w : Walk) where
               b;
           fault = w.fault;
         }) most
-    GoesOn-failed_attempt b i tries cut more =
+    HasWalkedOn-failed_attempt b i tries cut more =
         let gs = reverse outer.items in
         let rs = faulty.front ++ faulty.more in
         let left = take (suc w.inner.items.entry) rs in
@@ -442,9 +442,9 @@ module _ (x : List ℕ) (w : Walk) where
       (subst (λ z. AreOpen x w.inner (reverse z) faulty.reached faulty.front) none faulty.opened) faulty.stops
 
   -- a step leads on, or stops where memory ran out
-  pub HasTurned-stepped : (most : ℕ) (step : Result (Unit {0}) AllocError) (t : Turn) (r : Walk) → Leads step w t r →
-      OnOk step (GoesOn x w most)
-      → HasTurned x t r most
-  HasTurned-stepped most (Ok u) t r is on =
-      subst (λ z. HasTurned x z r most) (sym is.0) (subst (λ z. GoesOn x z most) (sym is.1) on)
-  HasTurned-stepped most (Err a) t r is on = subst (λ z. HasTurned x z r most) (sym is.0) (inl is.1)
+  pub HasWalked-stepped : (most : ℕ) (step : Result (Unit {0}) AllocError) (t : Turn) (r : Walk) → Leads step w t r →
+      OnOk step (HasWalkedOn x w most)
+      → HasWalked x t r most
+  HasWalked-stepped most (Ok u) t r is on =
+      subst (λ z. HasWalked x z r most) (sym is.0) (subst (λ z. HasWalkedOn x z most) (sym is.1) on)
+  HasWalked-stepped most (Err a) t r is on = subst (λ z. HasWalked x z r most) (sym is.0) (inl is.1)

@@ -37,7 +37,7 @@ pub record IsNodeAt (document : List ℕ) (start : ℕ) (n : Node) : Type 0 wher
   pub holds : Holds document (node_tree n) (nodes_trees (node_items n))
 
 -- the entry is of the node, and the trees ahead begin with those of its items
-pub record IsNext (document : List ℕ) (n : Node) (r : Entry) (ahead : List (Tree ℕ)) : Type 0 where
+pub record IsBuiltNext (document : List ℕ) (n : Node) (r : Entry) (ahead : List (Tree ℕ)) : Type 0 where
   pub node : IsNodeAt document r.offset n
   pub items : r.items ≡ node_count (node_items n)
   pub rest : List (Tree ℕ)

@@ -69,7 +69,7 @@ IsReading document w = (all : List Entry) × IsFront w.builder all
     × AreOpen document w.inner (reverse w.outer.items) w.index all
 
 -- reading goes on, with less left to do
-pub record GoesOn (document : List ℕ) (w : Reader EntryBuilder EntryItems) (most : ℕ) : Type 0 where
+pub record HasWalkedOn (document : List ℕ) (w : Reader EntryBuilder EntryItems) (most : ℕ) : Type 0 where
   pub reading : IsReading document w
   pub nearer : work_left (length document) w.index w.outer.items < most
 
@@ -84,10 +84,10 @@ HasEnded document w = (all : Shapes) × AreShapes document 0 (length document) a
     × IsFront w.builder (entries_of 0 0 all)
 
 -- where a turn leads: reading goes on, has ended, or has stopped
-abbrev pub HasTurned : List ℕ → Turn → Reader EntryBuilder EntryItems → ℕ → Type 0
-HasTurned document More w most = GoesOn document w most
-HasTurned document End w most = HasEnded document w
-HasTurned document Stop w most = HasStopped document w
+abbrev pub HasWalked : List ℕ → Turn → Reader EntryBuilder EntryItems → ℕ → Type 0
+HasWalked document More w most = HasWalkedOn document w most
+HasWalked document End w most = HasEnded document w
+HasWalked document Stop w most = HasStopped document w
 
 -- where a step leads that only memory can end
 abbrev pub Leads : Result (Unit {0}) AllocError → Reader EntryBuilder EntryItems → Turn

@@ -4,7 +4,7 @@ ghost use Rattle.asn1_blocks.specs.declared.block.ASN1Block.{ASN1Block};
 ghost use Rattle.asn1_blocks.specs.Places.{HeaderFound};
 ghost use Rattle.asn1_blocks.specs.Tree.{explicit, unknown};
 ghost use Rattle.asn1_blocks.specs.View.{view};
-ghost use Rattle.asn1_outline.specs.Building.{IsNext, IsNodeAt, IsTaken, built_trees, items_of};
+ghost use Rattle.asn1_outline.specs.Building.{IsBuiltNext, IsNodeAt, IsTaken, built_trees, items_of};
 ghost use Rattle.asn1_outline.specs.Outlines.{entries_in, octets_in};
 ghost use Rattle.asn1_outline.specs.Structure.{IsStructure, Node, Nodes, node_count, node_items, node_tree, tree_at};
 
@@ -13,11 +13,11 @@ use crate::outline::Outline;
 use asn1_blocks::block::{ASN1Block, GroupKind};
 use asn1_blocks::contents::leaf_block;
 use asn1_blocks::held::HeldBlocks;
-use asn1_blocks::parsed::{PlacedHeader, header_within};
+use asn1_blocks::parsed::{PlacedHeader, header_between};
 use asn1_blocks::postponed::{explicit_block, group_block, unknown_block};
 use asn1_blocks::read_loop::Attempt;
 use asn1_headers::error::ASN1DecodeErr;
-use asn1_headers::header::{ASN1Class, HeaderCount};
+use asn1_headers::header::ASN1Class;
 use asn1_headers::tags::{SEQUENCE, SET};
 use std::alloc::{AllocError, Global};
 
@@ -56,31 +56,23 @@ fn block_of(
     entry: &Entry,
     built: &mut HeldBlocks,
 ) -> Result<ASN1Block, AllocError>
-    ensures block { (n : Node) → IsNext octets.now n entry.now (built_trees built.old)
+    ensures block { (n : Node) → IsBuiltNext octets.now n entry.now (built_trees built.old)
         → IfOk result (λ block. view block ≡ node_tree n) }
-    ensures rest { (n : Node) → IsNext octets.now n entry.now (built_trees built.old)
+    ensures rest { (n : Node) → IsBuiltNext octets.now n entry.now (built_trees built.old)
         → OnOk result (built_trees built.new
         ≡ drop (node_count (node_items n)) (built_trees built.old)) }
 {
     let inside = take_built(built, entry.items)?;
-    let Ok(header) = header_at(alloc, octets, entry.offset) else {
+    if entry.offset > octets.len() {
+        return Err(AllocError);
+    }
+    let Some(header) = header_between(alloc, octets, entry.offset, octets.len())? else {
         return Err(AllocError);
     };
     match block_around(alloc, octets, header, entry.offset, inside) {
         Ok(block) => Ok(block),
         Err(_) => Err(AllocError),
     }
-}
-
-// The header at the offset.
-fn header_at(alloc: Global, octets: &[u8], offset: usize) -> Result<PlacedHeader, ASN1DecodeErr>
-    ensures { IfOk result (HeaderFound octets.now offset (length octets.now)) }
-{
-    if offset >= octets.len() {
-        return Err(ASN1DecodeErr::Incomplete);
-    }
-    let mut count = HeaderCount::new();
-    header_within(alloc, octets, 0, octets.len(), offset, &mut count)
 }
 
 // Takes so many blocks that were built last, in order: the last of them first.

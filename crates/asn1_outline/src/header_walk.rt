@@ -6,7 +6,7 @@ ghost use Rattle.asn1_blocks.specs.Inner.ReaderSteps.{work_left};
 ghost use Rattle.asn1_blocks.specs.Places.{HeaderFound};
 ghost use Rattle.asn1_outline.specs.Listing.{IsFound, IsFront};
 ghost use Rattle.asn1_outline.specs.Shapes.{AreEntriesOfShapes, FirstHeaderFaultAt, HasShapes, Shapes, entries_of};
-ghost use Rattle.asn1_outline.specs.Walking.{AreOpen, GoesOn, HasTurned, IsFaulty, IsReading, Leads};
+ghost use Rattle.asn1_outline.specs.Walking.{AreOpen, HasWalkedOn, HasWalked, IsFaulty, IsReading, Leads};
 ghost use Rattle.asn1_outline.specs.declared.entry.Entry.{Entry};
 
 use crate::entry::Entry;
@@ -109,7 +109,7 @@ pub fn list_headers_within(alloc: Global, octets: &[u8], room: usize) -> Result<
 // Reads one header, or closes a frame at its end.
 fn take_turn(alloc: Global, octets: &[u8], reader: &mut Reader<EntryBuilder, EntryItems>) -> Turn
     requires reading { IsReading octets.now reader.old }
-    ensures { HasTurned octets.now result reader.new
+    ensures { HasWalked octets.now result reader.new
         (work_left (length octets.now) reader.old.index reader.old.outer.items) }
 {
     if reader.index == reader.inner.extent.end {
@@ -140,7 +140,7 @@ fn take(
 ) -> Result<(), AllocError>
     requires reading { IsReading octets.now reader.old }
     requires found { HeaderFound octets.now reader.old.index reader.old.inner.extent.end header }
-    ensures { OnOk result (GoesOn octets.now reader.new
+    ensures { OnOk result (HasWalkedOn octets.now reader.new
         (work_left (length octets.now) reader.old.index reader.old.outer.items)) }
 {
     let offset = reader.index;
@@ -172,7 +172,7 @@ fn close(
     requires ended { reader.old.index ≡ reader.old.inner.extent.end }
     requires opened { (all : List Entry) × IsFront reader.old.builder all
         × AreOpen _octets.now reader.old.inner (parent ∷ reverse reader.old.outer.items) reader.old.index all }
-    ensures { OnOk result (GoesOn _octets.now reader.new
+    ensures { OnOk result (HasWalkedOn _octets.now reader.new
         (work_left (length _octets.now) reader.old.index (parent ∷ reader.old.outer.items))) }
 {
     let items = reader.inner.items;
@@ -187,7 +187,7 @@ fn close(
 fn fail(octets: &[u8], reader: &mut Reader<EntryBuilder, EntryItems>, error: ASN1DecodeErr) -> Turn
     requires failed { OutOfMemoryOr (λ fault. IsFaulty octets.now reader.old fault reader.old.index
         (work_left (length octets.now) reader.old.index reader.old.outer.items)) error }
-    ensures { HasTurned octets.now result reader.new
+    ensures { HasWalked octets.now result reader.new
         (work_left (length octets.now) reader.old.index reader.old.outer.items) }
 {
     if is_out_of_memory(&error) {
@@ -206,7 +206,7 @@ fn refuse(
 ) -> Turn
     requires faulty { IsFaulty _octets.now reader.old (fault_of error) reader.old.index
         (work_left (length _octets.now) reader.old.index reader.old.outer.items) }
-    ensures { HasTurned _octets.now result reader.new
+    ensures { HasWalked _octets.now result reader.new
         (work_left (length _octets.now) reader.old.index reader.old.outer.items) }
 {
     while let Some(parent) = reader.outer.pop() {

@@ -8,7 +8,7 @@ ghost use Rattle.asn1_blocks.specs.HeadersBegun.{HeadersBegun};
 ghost use Rattle.asn1_blocks.specs.Places.{HeaderFound};
 ghost use Rattle.asn1_blocks.specs.Tree.{Trees};
 ghost use Rattle.asn1_outline.specs.Entries.{AreEntriesOf, HasTag};
-ghost use Rattle.asn1_outline.specs.Listing.{IsBegun, IsFound, IsFront, builder_holds, with_items_at};
+ghost use Rattle.asn1_outline.specs.Listing.{IsBegun, IsFound, IsFront, entries_hold, with_items_at};
 ghost use Rattle.asn1_outline.specs.Shapes.{shape_entry};
 ghost use Rattle.asn1_outline.specs.declared.entry.Entry.{Entry};
 
@@ -117,7 +117,7 @@ impl EntryItems {
 impl Builder for EntryBuilder {
     type Items = EntryItems;
 
-    ghost holds = { builder_holds };
+    ghost holds = { entries_hold };
 
     #[inline(always)]
     fn open(

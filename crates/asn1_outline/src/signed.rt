@@ -1,7 +1,6 @@
 // What was signed of a signed triple, found by headers. No entries are kept.
 ghost use Rattle.std.specs.Prelude.{◌≡◌, ◌↔◌, ◌≤◌, IfErr, IfOk, IsTrue, List, MatchOption, length};
 ghost use Rattle.asn1_headers.specs.Reading.{OutOfMemoryOrAt};
-ghost use Rattle.asn1_blocks.specs.Places.{HeaderFound};
 ghost use Rattle.asn1_blocks.specs.declared.parsed.PlacedHeader.{PlacedHeader};
 ghost use Rattle.asn1_outline.specs.Shapes.{AreEntriesOfShapes, FirstHeaderFaultAt, encoding_octets};
 ghost use Rattle.asn1_outline.specs.Triple.{BeginWithTriple, entry_at};
@@ -9,10 +8,10 @@ ghost use Rattle.asn1_outline.specs.TripleHeaders.{HasNoTriple, IsSignedIn, IsUn
 ghost use Rattle.asn1_outline.specs.declared.entry.Entry.{Entry};
 
 use crate::header_walk::check_headers;
-use asn1_blocks::parsed::{PlacedHeader, header_within};
-use asn1_blocks::read_loop::{is_out_of_memory, out_of_memory};
+use asn1_blocks::parsed::{PlacedHeader, header_between};
+use asn1_blocks::read_loop::out_of_memory;
 use asn1_headers::error::LocatedErr;
-use asn1_headers::header::{ASN1Class, HeaderCount};
+use asn1_headers::header::ASN1Class;
 use asn1_headers::tags::{BIT_STRING, OBJECT_IDENTIFIER, SEQUENCE};
 use std::alloc::{AllocError, Global};
 
@@ -43,7 +42,7 @@ fn signed_in<'a>(alloc: Global, octets: &'a [u8]) -> Result<Option<&'a [u8]>, Al
     let Some(whole) = universal_header(alloc, octets, 0, octets.len(), SEQUENCE)? else {
         return Ok(None);
     };
-    let Some(content) = header_at(alloc, octets, whole.start, whole.end)? else {
+    let Some(content) = header_between(alloc, octets, whole.start, whole.end)? else {
         return Ok(None);
     };
     let Some(algorithm) = universal_header(alloc, octets, content.end, whole.end, SEQUENCE)? else {
@@ -83,7 +82,7 @@ fn universal_header(
         ((h : PlacedHeader) → IsUniversalAt octets.now offset end tag h → ⊥)
         (IsUniversalAt octets.now offset end tag)) }
 {
-    let Some(header) = header_at(alloc, octets, offset, end)? else {
+    let Some(header) = header_between(alloc, octets, offset, end)? else {
         return Ok(None);
     };
     if !is_universal(&header, tag) {
@@ -99,29 +98,5 @@ fn is_universal(header: &PlacedHeader, tag: u64) -> bool
     match header.class {
         ASN1Class::Universal => header.tag.to_u64() == Some(tag),
         _ => false,
-    }
-}
-
-// The header of the encoding from the offset on, where one stands there.
-fn header_at(
-    alloc: Global,
-    octets: &[u8],
-    offset: usize,
-    end: usize,
-) -> Result<Option<PlacedHeader>, AllocError>
-    requires order { offset ≤ end }
-    requires within { end ≤ length octets.now }
-    ensures { IfOk result (λ found. MatchOption found
-        ((h : PlacedHeader) → HeaderFound octets.now offset end h → ⊥)
-        (HeaderFound octets.now offset end)) }
-{
-    if offset == end {
-        return Ok(None);
-    }
-    let mut count = HeaderCount::new();
-    match header_within(alloc, octets, offset, end, offset, &mut count) {
-        Ok(header) => Ok(Some(header)),
-        Err(error) if is_out_of_memory(&error) => Err(AllocError),
-        Err(_) => Ok(None),
     }
 }

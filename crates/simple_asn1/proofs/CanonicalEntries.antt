@@ -187,8 +187,10 @@ module _ (x y v : List ℕ) (r : Entry) (n : ℕ) (at : EncodingAt x r.offset y)
     class = r.class;
     constructed = r.constructed;
     tag = n;
-    announced = length v;
+    identifier = length e.identifier;
     size = r.header;
+    announced = length v;
+    has_length_80 = false;
     is_indefinite = false;
   }
 

@@ -319,12 +319,13 @@ IsLength-80 l n is one =
     elim (subst (λ z. IsLength z n) one is) [ inl q ↦ absurd (omega (arith, q.0)) | inr q ↦ q.2 ]
 
 -- the octets of a header, all of them octets
-record AreHeaderOctets (i l : List ℕ) : Type 0 where
+pub record AreHeaderOctets (i l : List ℕ) : Type 0 where
   pub identifier : All (λ b. b < 256) i
   pub len : All (λ b. b < 256) l
 
 -- the octets of a header at the front of octets are octets
-AreHeaderOctets-front : (x i l : List ℕ) (size : ℕ) → All (λ b. b < 256) x → take size x ≡ i ++ l → AreHeaderOctets i l
+pub AreHeaderOctets-front : (x i l : List ℕ) (size : ℕ) → All (λ b. b < 256) x → take size x ≡ i ++ l →
+    AreHeaderOctets i l
 AreHeaderOctets-front x i l size all whole =
     let octets : All (λ b. b < 256) (i ++ l) = subst (All (λ b. b < 256)) whole (All-take (λ b. b < 256) size x all) in
     record {
@@ -334,20 +335,9 @@ AreHeaderOctets-front x i l size all whole =
     }
 
 -- a header has the octets of its identifier and its length
-length-header_parts : (x i l : List ℕ) (size : ℕ) → size ≤ length x → take size x ≡ i ++ l → size ≡ length i + length l
+pub length-header_parts : (x i l : List ℕ) (size : ℕ) → size ≤ length x → take size x ≡ i ++ l →
+    size ≡ length i + length l
 length-header_parts x i l size within whole = sym (length-take-le size x within) ∙ (ap length whole ∙ length-append i l)
-
--- the shortest header is no longer than any header with its fields
-pub length-shortest_header_le : (x : List ℕ) (h : Header) → All (λ b. b < 256) x → IsAtFront x h
-    → length (shortest_identifier h.class h.constructed h.tag) + length (shortest_length h.announced) ≤ h.size
-length-shortest_header_le x h all f =
-    let p = AreHeaderOctets-front x f.identifier f.len h.size all f.front_is in
-    omega (
-      arith,
-      length-header_parts x f.identifier f.len h.size f.within f.front_is,
-      length-shortest_identifier_le f.identifier h.class h.constructed h.tag f.fields,
-      length-shortest_length_le f.len h.announced p.len f.length_octets,
-    )
 
 -- a header as long as the shortest, whose length octets are not 80, is the shortest
 pub BeginsShortest-of_size : (x : List ℕ) (h : Header) → All (λ b. b < 256) x → IsAtFront x h →

@@ -14,7 +14,7 @@ use Rattle.asn1_headers.specs.Header.{shortest_length}
 use Rattle.asn1_headers.proofs.Prefixes.{append_assoc-four}
 use Rattle.asn1_blocks.specs.Contents.{leaf_write_fault}
 use Rattle.asn1_blocks.specs.Tree.{Tree, leaf, group, explicit, unknown}
-use Rattle.asn1_blocks.specs.Inner.TreeOrder.{IsInTreeOrder, IsNext, inside}
+use Rattle.asn1_blocks.specs.Inner.TreeOrder.{IsInTreeOrder, IsNextTree, inside}
 use Rattle.asn1_blocks.specs.View.{view, views}
 use Rattle.asn1_blocks.specs.Inner.OwnContents.{own_contents, own_fault}
 use Rattle.simple_asn1.specs.Inner.WriteWalk.{all_own_octets, contents_of, contents_size_of, first_own_fault, identifier_of, measured_blocks, measured_sizes, own_octets}
@@ -91,7 +91,7 @@ first_write_fault-append (x ∷ xs) ys = ap (λ z. first_of (write_fault (view x
     ∙ first_of-first_of (write_fault (view x)) (first_write_fault (views xs)) (first_write_fault (views ys))
 
 -- the first fault of what is ahead is that of the next block, or that of what comes after it
-pub first_write_fault-next : (b : ASN1Block) (before after : List ASN1Block) → IsNext b before after
+pub first_write_fault-next : (b : ASN1Block) (before after : List ASN1Block) → IsNextTree b before after
     → first_write_fault (views before) ≡ first_of (own_fault (view b)) (first_write_fault (views after))
 first_write_fault-next b before after n =
     let rest = first_write_fault (views n.rest) in
@@ -148,7 +148,7 @@ pub record MeasuresBlock (b : ASN1Block) (left : List ASN1Block) (sizes : List �
 
 -- measuring a block takes the sizes of the blocks that it holds, and puts its own
 pub MeasuresBlock-next : (b : ASN1Block) (left after : List ASN1Block) (sizes : List ℕ) (m n : ℕ) →
-    IsNext b left after →
+    IsNextTree b left after →
     m ≡ length sizes
     → sizes ≡ sizes_back after
     → n ≡ tree_count (inside (view b)) → MeasuresBlock b left sizes m n

@@ -60,9 +60,9 @@ fn canonical_outline<'a>(alloc: Global, octets: &'a [u8]) -> Result<Outline<'a>,
 // The most entries that are looked at. More do not fit into the processor's cache, so that octets are looked at faster.
 const MOST_ENTRIES: usize = 4096;
 
-// Whether a document is canonical: by its entries, unless they are many; where these say no, by its octets; and then by
-// its blocks.
-fn check_canonical(alloc: Global, octets: &[u8], entries: &[Entry]) -> Result<(), ASN1DecodeErr>
+// Whether a document is canonical, of which these are the entries: by them, unless they are many; where these say no,
+// by its octets; and then by its blocks.
+pub fn check_canonical(alloc: Global, octets: &[u8], entries: &[Entry]) -> Result<(), ASN1DecodeErr>
     requires { IsOutline octets.now entries.now }
     ensures canonical { OnOk result
         ((bs : Trees ℕ) → IsDocument octets.now bs → octets.now ≡ all_canonical bs) }

@@ -1,68 +1,44 @@
-//! The calls of `simple_asn1` for C: flat records in place of trees, and no memory that a caller must give back.
+//! The calls of `simple_asn1` for C, as `asn1_records` has them: flat records in place of trees, and no memory that a
+//! caller must give back. An archive is proved each time it is made, so here is no more than what C sees.
 #![tactic(auto)]
-
-mod alone;
-mod bits;
-mod canonical;
-mod components;
-mod departures;
-mod document_entries;
-mod dotted;
-mod encoding;
-mod first_fault;
-mod header_record;
-mod identifier;
-mod integer;
-mod moment;
-mod number;
-mod paths;
-mod prepender;
-mod put_encodings;
-mod putting;
-mod raw;
-mod record;
-mod signed;
-mod spelling;
-mod status;
-mod text;
 
 ghost use Rattle.std.specs.Prelude.{◌≡◌, ◌↔◌, ◌+◌, ◌*◌, ◌≤◌, ℕ, List, length};
 ghost use Rattle.asn1_der.specs.Der.{IsDer};
 ghost use Rattle.simple_asn1.specs.Places.{EncodingAt};
 ghost use Rattle.simple_asn1.specs.Shapes.{HasShapes, Shapes, entries_of};
 ghost use Rattle.simple_asn1.specs.Structure.{IsStructure, Nodes, nodes_in_order};
-ghost use Rattle.simple_asn1_c.specs.Answers.{AnswersCheck, AnswersOutline, AnswersRead, AnswersReadStrict, AnswersRewrite, AnswersSigned, AnswersWrite};
-ghost use Rattle.simple_asn1_c.specs.Contents.{AnswersComponent, AnswersComponents, AnswersDotted, AnswersFault, AnswersHeader, AnswersShortest, AnswersTag, AnswersTagOctets};
-ghost use Rattle.simple_asn1_c.specs.Departures.{AnswersDepartures};
-ghost use Rattle.simple_asn1_c.specs.Paths.{AnswersValues};
-ghost use Rattle.simple_asn1_c.specs.Puts.{AnswersPutBits, AnswersPutBoolean, AnswersPutIdentifier, AnswersPutInteger, AnswersPutMoment, AnswersPutText, moment_in};
-ghost use Rattle.simple_asn1_c.specs.Raw.{AnswersEncoding, AnswersRawBits, AnswersRawIdentifier, AnswersRawMoment, AnswersRawText, AnswersSpell};
-ghost use Rattle.simple_asn1_c.specs.Status.{done};
-ghost use Rattle.simple_asn1_c.specs.Values.{AnswersBits, AnswersIdentifier, AnswersInteger, AnswersMoment, AnswersText, UniversalAt};
+ghost use Rattle.asn1_records.specs.Answers.{AnswersCheck, AnswersOutline, AnswersRead, AnswersReadStrict, AnswersRewrite, AnswersSigned, AnswersWrite};
+ghost use Rattle.asn1_records.specs.Contents.{AnswersComponent, AnswersComponents, AnswersDotted, AnswersFault, AnswersHeader, AnswersShortest, AnswersTag, AnswersTagOctets};
+ghost use Rattle.asn1_records.specs.Departures.{AnswersDepartures};
+ghost use Rattle.asn1_records.specs.Paths.{AnswersValues};
+ghost use Rattle.asn1_records.specs.Puts.{AnswersPutBits, AnswersPutBoolean, AnswersPutIdentifier, AnswersPutInteger, AnswersPutMoment, AnswersPutText, moment_in};
+ghost use Rattle.asn1_records.specs.Raw.{AnswersEncoding, AnswersRawBits, AnswersRawIdentifier, AnswersRawMoment, AnswersRawText, AnswersSpell};
+ghost use Rattle.asn1_records.specs.Status.{done};
+ghost use Rattle.asn1_records.specs.Values.{AnswersBits, AnswersIdentifier, AnswersInteger, AnswersMoment, AnswersText, UniversalAt};
 
-use crate::bits::{bits_at, put_bits, put_boolean};
-use crate::components::{component_at, put_components, put_dotted, put_shortest};
-use crate::departures::{list_departures, put_departures};
-use crate::document_entries::{
-    Fault, canonical_octets, check, check_by_headers, find_headers, find_records,
-    find_records_strict, read_headers, read_records_strict,
+use asn1_records::bits::{bits_at, put_bits, put_boolean};
+use asn1_records::components::{component_at, put_components, put_dotted, put_shortest};
+use asn1_records::departures::{list_departures, put_departures};
+use asn1_records::document_entries::{
+    canonical_octets, check, check_by_headers, find_headers, find_records, find_records_strict,
+    read_headers,
 };
-use crate::encoding::{put_header, put_tag, tag_octets_at};
-use crate::first_fault::{FaultAnswer, fault_in};
-use crate::identifier::{identifier_at, put_identifier};
-use crate::integer::{integer_at, put_integer};
-use crate::moment::{moment_at, put_moment};
-use crate::paths::put_values;
-use crate::put_encodings::{put_encoding, put_spelled};
-use crate::putting::{all_put, not_enough, put_found, put_octets, put_records};
-use crate::raw::{put_raw_bits, put_raw_identifier, put_raw_moment, put_raw_text};
-use crate::record::{
+use asn1_records::encoding::{put_header, put_tag, tag_octets_at};
+use asn1_records::first_fault::{FaultAnswer, fault_in};
+use asn1_records::identifier::{identifier_at, put_identifier};
+use asn1_records::integer::{integer_at, put_integer};
+use asn1_records::moment::{moment_at, put_moment};
+use asn1_records::paths::put_values;
+use asn1_records::put_encodings::{put_encoding, put_spelled};
+use asn1_records::putting::{all_put, not_enough, nothing_put, put_found, put_front};
+use asn1_records::raw::{put_raw_bits, put_raw_identifier, put_raw_moment, put_raw_text};
+use asn1_records::record::{
     BitStringAnswer, Block, DepartureRecord, IntegerAnswer, MomentAnswer, Outcome, Path,
     SignedAnswer, Value,
 };
-use crate::signed::signed_in;
-use crate::spelling::spell;
-use crate::text::{put_text, text_at};
+use asn1_records::signed::signed_in;
+use asn1_records::spelling::spell;
+use asn1_records::text::{put_text, text_at};
 use std::alloc::Global;
 
 // The version that `simple_asn1_version` returns.
@@ -94,19 +70,19 @@ pub extern "C" fn simple_asn1_read(alloc: Global, octets: &[u8], blocks: &mut [B
 {
     match find_records(alloc, octets, blocks.len()) {
         Ok(found) => put_found(&found, blocks),
-        Err(fault) => refused_outcome(fault),
+        Err(fault) => nothing_put(fault.status, fault.offset),
     }
 }
 
-// How many records take little memory: where a document has no more, or where there is room for all that it may have,
-// they are kept, and not counted.
+// How many records take little memory: so many are kept also without room, since a document is canonical at a look at
+// them.
 const FEW: usize = 4096;
 
 /// Reads a document in canonical form (X.690 10, 11) into records, as [`simple_asn1_read`] does. For another document
 /// it returns `NOT_CANONICAL`, with the offset of the first top-level block that is not in its canonical octets.
 ///
-/// A document of more than 8,192 octets is read twice, unless there is room for half as many records as octets. One
-/// that a quick look does not find to be canonical takes memory for its blocks.
+/// A document of more than 4,096 blocks is read twice, unless there is room for their records. One that a quick look
+/// does not find to be canonical takes memory for its blocks.
 #[unsafe(no_mangle)]
 pub extern "C" fn simple_asn1_read_strict(
     alloc: Global,
@@ -115,22 +91,9 @@ pub extern "C" fn simple_asn1_read_strict(
 ) -> Outcome
     ensures { AnswersReadStrict octets.now blocks.old blocks.new result }
 {
-    if octets.len() / 2 > blocks.len().max(FEW) {
-        return read_strict_within(alloc, octets, blocks);
-    }
-    match read_records_strict(alloc, octets) {
-        Ok(outline) => put_records(outline.entries(), blocks),
-        Err(fault) => refused_outcome(fault),
-    }
-}
-
-// Reads a document in canonical form where no more entries are kept than there is room for.
-fn read_strict_within(alloc: Global, octets: &[u8], blocks: &mut [Block]) -> Outcome
-    ensures { AnswersReadStrict octets.now blocks.old blocks.new result }
-{
-    match find_records_strict(alloc, octets, blocks.len()) {
+    match find_records_strict(alloc, octets, blocks.len().max(FEW)) {
         Ok(found) => put_found(&found, blocks),
-        Err(fault) => refused_outcome(fault),
+        Err(fault) => nothing_put(fault.status, fault.offset),
     }
 }
 
@@ -146,7 +109,7 @@ pub extern "C" fn simple_asn1_outline(alloc: Global, octets: &[u8], blocks: &mut
 {
     match find_headers(alloc, octets, blocks.len()) {
         Ok(found) => put_found(&found, blocks),
-        Err(fault) => refused_outcome(fault),
+        Err(fault) => nothing_put(fault.status, fault.offset),
     }
 }
 
@@ -173,12 +136,12 @@ pub extern "C" fn simple_asn1_values(
     if values.len() < paths.len() {
         return match check_by_headers(alloc, octets) {
             Ok(()) => not_enough(paths.len()),
-            Err(fault) => refused_outcome(fault),
+            Err(fault) => nothing_put(fault.status, fault.offset),
         };
     }
     match read_headers(alloc, octets) {
-        Ok(headers) => put_values(octets, headers.entries(), steps, paths, values),
-        Err(fault) => refused_outcome(fault),
+        Ok(entries) => put_values(octets, &entries, steps, paths, values),
+        Err(fault) => nothing_put(fault.status, fault.offset),
     }
 }
 
@@ -201,7 +164,7 @@ pub extern "C" fn simple_asn1_departures(
 {
     match list_departures(alloc, octets) {
         Ok(found) => put_departures(&found, records),
-        Err(fault) => refused_outcome(fault),
+        Err(fault) => nothing_put(fault.status, fault.offset),
     }
 }
 
@@ -214,9 +177,9 @@ pub extern "C" fn simple_asn1_rewrite(alloc: Global, octets: &[u8], room: &mut [
     ensures { AnswersRewrite octets.now room.old room.new result }
 {
     match canonical_octets(alloc, octets) {
-        Ok(Some(canonical)) => put_octets(&canonical, room),
-        Ok(None) => put_octets(octets, room),
-        Err(fault) => refused_outcome(fault),
+        Ok(Some(canonical)) => put_front(&canonical, room),
+        Ok(None) => put_front(octets, room),
+        Err(fault) => nothing_put(fault.status, fault.offset),
     }
 }
 
@@ -228,17 +191,7 @@ pub extern "C" fn simple_asn1_check(alloc: Global, octets: &[u8]) -> Outcome
 {
     match check(alloc, octets) {
         Ok(()) => all_put(0),
-        Err(fault) => refused_outcome(fault),
-    }
-}
-
-fn refused_outcome(fault: Fault) -> Outcome
-    ensures { (result.status ≡ fault.status) × (result.offset ≡ fault.offset) × (result.count ≡ 0) }
-{
-    Outcome {
-        status: fault.status,
-        offset: fault.offset,
-        count: 0,
+        Err(fault) => nothing_put(fault.status, fault.offset),
     }
 }
 
@@ -329,15 +282,15 @@ pub extern "C" fn simple_asn1_write(
 {
     let spelled = match spell(alloc, octets, blocks, true) {
         Ok(spelled) => spelled,
-        Err(fault) => return refused_outcome(fault),
+        Err(fault) => return nothing_put(fault.status, fault.offset),
     };
     if spelled.canonical {
-        return put_octets(spelled.octets.as_slice(), room);
+        return put_front(spelled.octets.as_slice(), room);
     }
     match canonical_octets(alloc, spelled.octets.as_slice()) {
-        Ok(Some(canonical)) => put_octets(&canonical, room),
-        Ok(None) => put_octets(spelled.octets.as_slice(), room),
-        Err(fault) => refused_outcome(fault),
+        Ok(Some(canonical)) => put_front(&canonical, room),
+        Ok(None) => put_front(spelled.octets.as_slice(), room),
+        Err(fault) => nothing_put(fault.status, fault.offset),
     }
 }
 

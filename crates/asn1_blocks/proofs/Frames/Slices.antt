@@ -1,4 +1,4 @@
--- An empty slice, and the slice of all octets, for the frames of `read_loop` and for asn1_der and asn1_departures.
+-- An empty slice, and the slice of all octets, for the frames of `read_loop` and for asn1_der.
 use Rattle.std.proofs.Common.{◌≡◌, ℕ, ◌-◌, List, [], length, take, drop, ap, ◌∙◌, arith}
 use Rattle.std.specs.List.{slice_range}
 use Rattle.std.proofs.lemmas.List.{take_all}

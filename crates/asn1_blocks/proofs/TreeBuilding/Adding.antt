@@ -12,7 +12,7 @@ use Rattle.asn1_blocks.specs.declared.read.FrameBlocks.{FrameBlocks}
 use Rattle.asn1_blocks.specs.declared.read.TreeBuilder.{TreeBuilder}
 use Rattle.asn1_blocks.specs.Inner.OpenFrames.{around, as_it_came}
 use Rattle.asn1_blocks.specs.Inner.Postponed.{Builds}
-use Rattle.asn1_blocks.specs.Inner.TreeBuilding.{AllHold, HasHeader, IsAddedAsItCame, IsPostponed, IsAdded}
+use Rattle.asn1_blocks.specs.Inner.TreeBuilding.{AllHold, KeepsHeader, IsAddedAsItCame, IsPostponed, IsAdded}
 use Rattle.asn1_blocks.specs.Inner.ReaderSteps.{in_frame}
 use Rattle.asn1_blocks.specs.Tree.{Tree, group, trees_of}
 use Rattle.asn1_blocks.specs.View.{view}
@@ -71,9 +71,9 @@ AddsTree-explicit octets es n x a k =
     }
 
 -- a frame whose items keep the class and the tag number keeps its header
-HasHeader-same_fields : (octets : List ℕ) (e : Extent) (i j : FrameBlocks) → j.class ≡ i.class → j.tag ≡ i.tag →
-    HasHeader octets (in_frame e i) → HasHeader octets (in_frame e j)
-HasHeader-same_fields octets e i j class tag header after b start here at =
+KeepsHeader-same_fields : (octets : List ℕ) (e : Extent) (i j : FrameBlocks) → j.class ≡ i.class → j.tag ≡ i.tag →
+    KeepsHeader octets (in_frame e i) → KeepsHeader octets (in_frame e j)
+KeepsHeader-same_fields octets e i j class tag header after b start here at =
     (λ k. record { class = class k; offset = e.offset; tag = tag k }) ∙ header after b start here at
 
 -- the builder a became r, and the items of the frame were i and are j
@@ -92,7 +92,7 @@ module _ (octets : List ℕ) (a r : TreeBuilder) (i j : FrameBlocks) (e : Extent
         before = u.before;
         first = u.first;
         count = u.count;
-        header = HasHeader-same_fields octets e i j u.class u.tag;
+        header = KeepsHeader-same_fields octets e i j u.class u.tag;
         grown = grown;
       } in
       subst (λ z. AllHold octets z (in_frame e j) gs (ts ++ t ∷ []) rest) (sym u.postponed)
@@ -107,7 +107,7 @@ module _ (octets : List ℕ) (a r : TreeBuilder) (i j : FrameBlocks) (e : Extent
         before = u.before;
         first = u.first;
         count = u.count;
-        header = HasHeader-same_fields octets e i j u.class u.tag;
+        header = KeepsHeader-same_fields octets e i j u.class u.tag;
         none = u.none;
       } in
       subst (λ z. AllHold octets z (in_frame e j) gs (ts ++ view b ∷ []) rest) (sym u.postponed)

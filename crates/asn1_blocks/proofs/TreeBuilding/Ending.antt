@@ -17,7 +17,7 @@ use Rattle.asn1_blocks.specs.declared.read_loop.OpenFrame.{OpenFrame}
 use Rattle.asn1_blocks.specs.Inner.OpenFrames.{IsAttemptAlone, IsEnded, around, as_it_came, attempt_tree}
 use Rattle.asn1_blocks.specs.Inner.Postponed.{Builds, trees_after_all}
 use Rattle.asn1_blocks.specs.Inner.ReaderSteps.{HasEndedIn, HasKept, HasOpened, in_frame, opened_at}
-use Rattle.asn1_blocks.specs.Inner.TreeBuilding.{AllHold, HasHeader, Holds, IsAddedAsItCame, IsPostponed, IsAdded, all_hold, attempt_of, builder_holds}
+use Rattle.asn1_blocks.specs.Inner.TreeBuilding.{AllHold, KeepsHeader, HasReadTrees, IsAddedAsItCame, IsPostponed, IsAdded, all_hold, attempt_of, trees_hold}
 use Rattle.asn1_blocks.specs.Tree.{Tree, group, trees_of}
 use Rattle.asn1_blocks.specs.View.{view, views}
 use Rattle.asn1_blocks.specs.Places.{HeaderFound}
@@ -56,7 +56,7 @@ IsEnded-attempt octets f k ts t is alone w =
     tree ∙ ap (λ z. attempt_tree octets z f.start f.end ts) (sym (alone b f.start here at))
 
 module _ (octets : List ℕ) (es : List Postponed) (f : OpenFrame FrameBlocks) (ts : List (Tree ℕ))
-    (h : Holds octets es f ts)
+    (h : HasReadTrees octets es f ts)
   where
     -- the one postponed block of a frame without others builds its tree
     pub Builds-one_tree : f.items.postponed_count ≡ 1 → length f.items.first ≡ 0 →
@@ -101,7 +101,7 @@ AllHold-around_attempt :
     (gs : List (OpenFrame FrameBlocks)) (lost : List (List (Tree ℕ))) (ts us : List (Tree ℕ))
     (rest : List (List (Tree ℕ))) →
     length inside ≡ length lost → all_hold octets es (inside ++ f ∷ g ∷ gs) (lost ++ ts ∷ us ∷ rest) →
-    HasHeader octets f × AllHold octets (take f.items.postponed_before es) g gs us rest
+    KeepsHeader octets f × AllHold octets (take f.items.postponed_before es) g gs us rest
 AllHold-around_attempt octets es inside f g gs lost ts us rest m a =
     let w = HoldFront-inside (all_hold octets) (all_hold-around octets) es inside f (g ∷ gs) lost ts (us ∷ rest) m a in
     let n = f.items.postponed_before in
@@ -114,7 +114,7 @@ pub AllHold-empty : (octets : List ℕ) (e : Extent) (b : TreeBuilder) (i : Fram
     → AllHold octets b.postponed.items (record { extent = e; items = i }) [] [] []
 AllHold-empty octets e b i none before count first start_is =
     let f : OpenFrame FrameBlocks = record { extent = e; items = i } in
-    let start : Holds octets [] f [] = record {
+    let start : HasReadTrees octets [] f [] = record {
       before = omega (arith, before);
       postponed = [];
       leads = λ s. ap (λ n. trees_after_all octets (drop n []) s) before ∙ sym (append-nil s);
@@ -128,7 +128,7 @@ AllHold-empty octets e b i none before count first start_is =
 all_hold-open : (octets : List ℕ) (es : List Postponed) (f g : OpenFrame FrameBlocks)
     (gs : List (OpenFrame FrameBlocks))
     (trees : List (List (Tree ℕ)))
-    → f.items.postponed_before ≡ length es → f.items.postponed_count ≡ 0 → f.items.first ≡ [] → HasHeader octets f →
+    → f.items.postponed_before ≡ length es → f.items.postponed_count ≡ 0 → f.items.first ≡ [] → KeepsHeader octets f →
     all_hold octets es (g ∷ gs) trees
     → all_hold octets es (f ∷ g ∷ gs) ([] ∷ trees)
 all_hold-open octets es f g gs [] before count first header h = absurd h
@@ -141,7 +141,7 @@ pub HasOpened-tree_builder :
     b.postponed ≡ a.postponed →
     i.postponed_before ≡ length b.postponed.items →
     i.postponed_count ≡ 0 → i.first ≡ [] → i.class ≡ h.class → i.tag ≡ h.tag →
-    (limit : ℕ) → HeaderFound octets offset limit h → HasOpened builder_holds octets h offset depth a i b
+    (limit : ℕ) → HeaderFound octets offset limit h → HasOpened trees_hold octets h offset depth a i b
 HasOpened-tree_builder octets h offset depth a b i same before count first class tag limit found = record {
   holds = λ kind f fs trees d is w.
       let alone : IsAttemptAlone octets offset h.end (attempt_with i.class offset i.tag) =
@@ -151,6 +151,10 @@ HasOpened-tree_builder octets h offset depth a b i same before count first class
         starts_after = found.starts_after;
         order = found.order;
         ends_within = omega arith;
+        identifier_size = found.identifier_size;
+        size_is = found.size_is;
+        length_80 = found.length_80;
+        indefinite = found.indefinite;
       }) c start here at in
       all_hold-open octets b.postponed.items (in_frame (opened_at offset kind h) i) f fs trees before count first
       (λ after. alone)
@@ -168,7 +172,7 @@ module _ (octets : List ℕ) (a r : TreeBuilder) (i j : FrameBlocks) (f : OpenFr
     -- a group some of whose items were postponed ends as a postponed one
     pub HasEndedIn-group_postponed : (g : GroupKind) → f.extent.kind ≡ Group g →
         IsPostponed c i (PostponedAs.Group g f.extent.offset f.items.first f.items.postponed_count) r j
-        → HasEndedIn builder_holds octets f depth a i r j
+        → HasEndedIn trees_hold octets f depth a i r j
     HasEndedIn-group_postponed g kind u = record {
       holds = λ e fs ts us rest t d is w.
           let o = f.extent.offset in
@@ -190,7 +194,7 @@ module _ (octets : List ℕ) (a r : TreeBuilder) (i j : FrameBlocks) (f : OpenFr
     pub HasEndedIn-group_pushed : (g : GroupKind) (b : ASN1Block) → f.extent.kind ≡ Group g →
         f.items.postponed_count ≡ 0
         → view b ≡ group f.extent.offset g (views f.items.first) → IsAdded c i b r j →
-        HasEndedIn builder_holds octets f depth a i r j
+        HasEndedIn trees_hold octets f depth a i r j
     HasEndedIn-group_pushed g b kind none means u = record {
       holds = λ e fs ts us rest t d is w.
           let clean = HasNothingPostponed-ended octets a.postponed.items f (in_frame e i) fs ts us rest none w.0 w.1 in
@@ -205,7 +209,7 @@ module _ (octets : List ℕ) (a r : TreeBuilder) (i j : FrameBlocks) (f : OpenFr
     -- an attempt around one postponed block ends as a postponed explicit one
     pub HasEndedIn-explicit_postponed : f.extent.kind ≡ Attempt →
         f.items.postponed_count ≡ 1 → length f.items.first ≡ 0
-        → IsPostponed c i (PostponedAs.Explicit (attempt_of f)) r j → HasEndedIn builder_holds octets f depth a i r j
+        → IsPostponed c i (PostponedAs.Explicit (attempt_of f)) r j → HasEndedIn trees_hold octets f depth a i r j
     HasEndedIn-explicit_postponed kind one none u = record {
       holds = λ e fs ts us rest t d is w.
           let k = attempt_of f in
@@ -226,7 +230,7 @@ module _ (octets : List ℕ) (a r : TreeBuilder) (i j : FrameBlocks) (f : OpenFr
     pub HasEndedIn-explicit_pushed : (b item : ASN1Block) → f.extent.kind ≡ Attempt →
         f.items.postponed_count ≡ 0 → f.items.first ≡ item ∷ []
         → view b ≡ around (attempt_of f) (view item) → IsAdded c i b r j →
-        HasEndedIn builder_holds octets f depth a i r j
+        HasEndedIn trees_hold octets f depth a i r j
     HasEndedIn-explicit_pushed b item kind none one means u = record {
       holds = λ e fs ts us rest t d is w.
           let k = attempt_of f in
@@ -244,7 +248,7 @@ module _ (octets : List ℕ) (a r : TreeBuilder) (i j : FrameBlocks) (f : OpenFr
     -- an attempt with any number of blocks but one stays as it came
     pub HasEndedIn-as_it_came : f.extent.kind ≡ Attempt → (length f.items.first + f.items.postponed_count ≡ 1 → ⊥) →
         IsAddedAsItCame octets c i (attempt_of f) f.extent.start f.extent.end r j
-        → HasEndedIn builder_holds octets f depth a i r j
+        → HasEndedIn trees_hold octets f depth a i r j
     HasEndedIn-as_it_came kind many u = record {
       holds = λ e fs ts us rest t d is w.
           let k = attempt_of f in
@@ -260,7 +264,7 @@ module _ (octets : List ℕ) (a r : TreeBuilder) (i j : FrameBlocks) (f : OpenFr
     -- an attempt that a fault ended stays as it came
     pub HasKept-as_it_came : f.extent.offset < f.extent.start →
         IsAddedAsItCame octets c i (attempt_of f) f.extent.start f.extent.end r j →
-        HasKept builder_holds octets f depth a i r j
+        HasKept trees_hold octets f depth a i r j
     HasKept-as_it_came after u = record {
       holds = λ inside lost e fs ts us rest l d m here at none w.
           let k = attempt_of f in

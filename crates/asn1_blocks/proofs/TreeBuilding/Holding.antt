@@ -9,7 +9,7 @@ use Rattle.asn1_blocks.specs.declared.read.FrameBlocks.{FrameBlocks}
 use Rattle.asn1_blocks.specs.Tree.{Tree}
 use Rattle.asn1_blocks.specs.View.{view}
 use Rattle.asn1_blocks.specs.Inner.Postponed.{trees_after_all, Builds}
-use Rattle.asn1_blocks.specs.Inner.TreeBuilding.{AllHold, HasHeader, Holds}
+use Rattle.asn1_blocks.specs.Inner.TreeBuilding.{AllHold, KeepsHeader, HasReadTrees}
 use Rattle.asn1_blocks.proofs.PostponedBlocks.{Builds-append_nothing}
 
 -- more blocks are postponed, which build one tree more
@@ -25,7 +25,7 @@ pub record PostponesTree (octets : List ℕ) (es fs : List Postponed) (f g : Ope
   pub before : g.items.postponed_before ≡ f.items.postponed_before
   pub first : g.items.first ≡ f.items.first
   pub count : g.items.postponed_count ≡ f.items.postponed_count + 1
-  pub header : HasHeader octets f → HasHeader octets g
+  pub header : KeepsHeader octets f → KeepsHeader octets g
   pub grown : AddsTree octets es fs t
 
 -- a frame has one block more, and nothing is postponed
@@ -33,15 +33,15 @@ pub record PushesBlock (octets : List ℕ) (f g : OpenFrame FrameBlocks) (b : AS
   pub before : g.items.postponed_before ≡ f.items.postponed_before
   pub first : g.items.first ≡ f.items.first ++ b ∷ []
   pub count : g.items.postponed_count ≡ f.items.postponed_count
-  pub header : HasHeader octets f → HasHeader octets g
+  pub header : KeepsHeader octets f → KeepsHeader octets g
   pub none : f.items.postponed_count ≡ 0
 
 -- a frame holds one tree more by a postponed block
-Holds-postpone : (octets : List ℕ) (es fs : List Postponed) (f g : OpenFrame FrameBlocks) (ts : List (Tree ℕ))
+HasReadTrees-postpone : (octets : List ℕ) (es fs : List Postponed) (f g : OpenFrame FrameBlocks) (ts : List (Tree ℕ))
     (t : Tree ℕ)
-    → PostponesTree octets es fs f g t → Holds octets es f ts
-    → Holds octets fs g (ts ++ t ∷ [])
-Holds-postpone octets es fs f g ts t w h =
+    → PostponesTree octets es fs f g t → HasReadTrees octets es f ts
+    → HasReadTrees octets fs g (ts ++ t ∷ [])
+HasReadTrees-postpone octets es fs f g ts t w h =
     let more = w.grown.more in
     let own : drop g.items.postponed_before fs ≡ drop f.items.postponed_before es ++ more =
     ap (λ z. drop z fs) w.before ∙
@@ -59,11 +59,11 @@ Holds-postpone octets es fs f g ts t w h =
     }
 
 -- a frame holds one tree more by a block
-Holds-push : (octets : List ℕ) (es : List Postponed) (f g : OpenFrame FrameBlocks) (ts : List (Tree ℕ))
+HasReadTrees-push : (octets : List ℕ) (es : List Postponed) (f g : OpenFrame FrameBlocks) (ts : List (Tree ℕ))
     (b : ASN1Block) →
-    PushesBlock octets f g b → Holds octets es f ts
-    → Holds octets es g (ts ++ view b ∷ [])
-Holds-push octets es f g ts b w h =
+    PushesBlock octets f g b → HasReadTrees octets es f ts
+    → HasReadTrees octets es g (ts ++ view b ∷ [])
+HasReadTrees-push octets es f g ts b w h =
     let none : h.postponed ≡ [] = nil_from_length h.postponed (sym (sym w.none ∙ h.count)) in
     let before : ts ≡ map view f.items.first =
     h.trees ∙ (ap (λ z. map view f.items.first ++ z) none ∙ append-nil (map view f.items.first)) in
@@ -93,13 +93,15 @@ pub AllHold-postpone : (octets : List ℕ) (es fs : List Postponed) (f g : OpenF
     (ts : List (Tree ℕ))
     (rest : List (List (Tree ℕ))) (t : Tree ℕ)
     → PostponesTree octets es fs f g t → AllHold octets es f hs ts rest → AllHold octets fs g hs (ts ++ t ∷ []) rest
-AllHold-postpone octets es fs f g [] ts [] t w a = (Holds-postpone octets es fs f g ts t w a.0, w.before ∙ a.1)
+AllHold-postpone octets es fs f g [] ts [] t w a = (HasReadTrees-postpone octets es fs f g ts t w a.0, w.before ∙ a.1)
 AllHold-postpone octets es fs f g [] ts (us ∷ rest) t w a = absurd a
 AllHold-postpone octets es fs f g (h ∷ hs) ts [] t w a = absurd a
 AllHold-postpone octets es fs f g (h ∷ hs) ts (us ∷ rest) t w a =
     let u = AllHold-take_append octets es w.grown.more f.items.postponed_before h hs us rest a.0.before a.1 in
-    let v = subst (λ z. AllHold octets (take f.items.postponed_before z) h hs us rest) (sym w.grown.whole) u in
-    (Holds-postpone octets es fs f g ts t w a.0, subst (λ z. AllHold octets (take z fs) h hs us rest) (sym w.before) v)
+    let v = subst (λ z. AllHold octets (take f.items.postponed_before z) h hs us rest) (sym w.grown.whole) u in (
+      HasReadTrees-postpone octets es fs f g ts t w a.0,
+      subst (λ z. AllHold octets (take z fs) h hs us rest) (sym w.before) v,
+    )
 
 -- the frames hold one tree more when a block is pushed
 pub AllHold-push : (octets : List ℕ) (es : List Postponed) (f g : OpenFrame FrameBlocks)
@@ -107,17 +109,20 @@ pub AllHold-push : (octets : List ℕ) (es : List Postponed) (f g : OpenFrame Fr
     (ts : List (Tree ℕ))
     (rest : List (List (Tree ℕ))) (b : ASN1Block)
     → PushesBlock octets f g b → AllHold octets es f hs ts rest → AllHold octets es g hs (ts ++ view b ∷ []) rest
-AllHold-push octets es f g [] ts [] b w a = (Holds-push octets es f g ts b w a.0, w.before ∙ a.1)
+AllHold-push octets es f g [] ts [] b w a = (HasReadTrees-push octets es f g ts b w a.0, w.before ∙ a.1)
 AllHold-push octets es f g [] ts (us ∷ rest) b w a = absurd a
 AllHold-push octets es f g (h ∷ hs) ts [] b w a = absurd a
-AllHold-push octets es f g (h ∷ hs) ts (us ∷ rest) b w a =
-    (Holds-push octets es f g ts b w a.0, subst (λ n. AllHold octets (take n es) h hs us rest) (sym w.before) a.1)
+AllHold-push octets es f g (h ∷ hs) ts (us ∷ rest) b w a = (
+  HasReadTrees-push octets es f g ts b w a.0,
+  subst (λ n. AllHold octets (take n es) h hs us rest) (sym w.before) a.1,
+)
 
 -- a frame holds what it did where more is postponed that builds nothing
-Holds-append_nothing : (octets : List ℕ) (es fs : List Postponed) (f : OpenFrame FrameBlocks) (ts : List (Tree ℕ)) →
-    Builds octets fs [] → Holds octets es f ts
-    → Holds octets (es ++ fs) f ts
-Holds-append_nothing octets es fs f ts k h =
+HasReadTrees-append_nothing : (octets : List ℕ) (es fs : List Postponed) (f : OpenFrame FrameBlocks)
+    (ts : List (Tree ℕ)) →
+    Builds octets fs [] → HasReadTrees octets es f ts
+    → HasReadTrees octets (es ++ fs) f ts
+HasReadTrees-append_nothing octets es fs f ts k h =
     let own = drop-append-le f.items.postponed_before es fs h.before in
     record {
       before = omega (arith, h.before, length-append es fs);
@@ -135,11 +140,11 @@ AllHold-append_nothing : (octets : List ℕ) (es fs : List Postponed) (f : OpenF
     (ts : List (Tree ℕ)) (rest : List (List (Tree ℕ)))
     → Builds octets fs []
     → AllHold octets es f hs ts rest → AllHold octets (es ++ fs) f hs ts rest
-AllHold-append_nothing octets es fs f [] ts [] k a = (Holds-append_nothing octets es fs f ts k a.0, a.1)
+AllHold-append_nothing octets es fs f [] ts [] k a = (HasReadTrees-append_nothing octets es fs f ts k a.0, a.1)
 AllHold-append_nothing octets es fs f [] ts (us ∷ rest) k a = absurd a
 AllHold-append_nothing octets es fs f (h ∷ hs) ts [] k a = absurd a
 AllHold-append_nothing octets es fs f (h ∷ hs) ts (us ∷ rest) k a = (
-  Holds-append_nothing octets es fs f ts k a.0,
+  HasReadTrees-append_nothing octets es fs f ts k a.0,
   AllHold-take_append octets es fs f.items.postponed_before h hs us
       rest a.0.before a.1,
 )
@@ -158,7 +163,7 @@ pub HasNothingPostponed-ended : (octets : List ℕ) (es : List Postponed) (f g :
     (hs : List (OpenFrame FrameBlocks))
     (ts us : List (Tree ℕ)) (rest : List (List (Tree ℕ)))
     → f.items.postponed_count ≡ 0
-    → Holds octets es f ts → AllHold octets (take f.items.postponed_before es) g hs us rest →
+    → HasReadTrees octets es f ts → AllHold octets (take f.items.postponed_before es) g hs us rest →
     HasNothingPostponed octets es f g hs ts us rest
 HasNothingPostponed-ended octets es f g hs ts us rest z own around =
     let none : own.postponed ≡ [] = nil_from_length own.postponed (sym (sym z ∙ own.count)) in
@@ -176,7 +181,7 @@ HasNothingPostponed-ended octets es f g hs ts us rest z own around =
 pub AllHold-open : (octets : List ℕ) (es : List Postponed) (f g : OpenFrame FrameBlocks)
     (hs : List (OpenFrame FrameBlocks))
     (us : List (Tree ℕ)) (rest : List (List (Tree ℕ)))
-    → f.items.postponed_before ≡ length es → f.items.postponed_count ≡ 0 → f.items.first ≡ [] → HasHeader octets f →
+    → f.items.postponed_before ≡ length es → f.items.postponed_count ≡ 0 → f.items.first ≡ [] → KeepsHeader octets f →
     AllHold octets es g hs us rest →
     AllHold octets es f (g ∷ hs) [] (us ∷ rest)
 AllHold-open octets es f g hs us rest b z i header a =

@@ -18,37 +18,37 @@ attempt_of f = record { class = f.items.class; offset = f.extent.offset; tag = f
 
 -- where a header stands before the contents octets, its class and tag were kept: whichever attempt begins at the
 -- frame's offset and ends where the frame does, it has these
-abbrev pub HasHeader : List ℕ → OpenFrame FrameBlocks → Type 0
-HasHeader octets f =
+abbrev pub KeepsHeader : List ℕ → OpenFrame FrameBlocks → Type 0
+KeepsHeader octets f =
     f.extent.offset < f.extent.start → IsAttemptAlone octets f.extent.offset f.extent.end (attempt_of f)
 
 -- the frame has read these trees: its blocks, and those that its postponed blocks build, which are the last of these
-pub record Holds (octets : List ℕ) (es : List Postponed) (f : OpenFrame FrameBlocks)
+pub record HasReadTrees (octets : List ℕ) (es : List Postponed) (f : OpenFrame FrameBlocks)
     (ts : List (Tree ℕ)) : Type 0 where
   pub before : f.items.postponed_before ≤ length es
   pub postponed : List (Tree ℕ)
   pub leads : Builds octets (drop f.items.postponed_before es) postponed
   pub count : f.items.postponed_count ≡ length postponed
   pub trees : ts ≡ map view f.items.first ++ postponed
-  pub header : HasHeader octets f
+  pub header : KeepsHeader octets f
 
 -- the innermost frame has read its trees, and so has each frame around it, whose postponed blocks stand before
 abbrev pub AllHold : List ℕ → List Postponed → OpenFrame FrameBlocks → List (OpenFrame FrameBlocks)
     → List (Tree ℕ) → List (List (Tree ℕ)) → Type 0
-AllHold octets es f [] ts [] = Holds octets es f ts × (f.items.postponed_before ≡ 0)
+AllHold octets es f [] ts [] = HasReadTrees octets es f ts × (f.items.postponed_before ≡ 0)
 AllHold octets es f [] ts (us ∷ rest) = ⊥
 AllHold octets es f (g ∷ gs) ts [] = ⊥
 AllHold octets es f (g ∷ gs) ts (us ∷ rest) =
-    Holds octets es f ts × AllHold octets (take f.items.postponed_before es) g gs us rest
+    HasReadTrees octets es f ts × AllHold octets (take f.items.postponed_before es) g gs us rest
 
 abbrev pub all_hold : List ℕ → List Postponed → List (OpenFrame FrameBlocks) → List (List (Tree ℕ)) → Type 0
 all_hold octets es [] trees = ⊥
 all_hold octets es (f ∷ gs) [] = ⊥
 all_hold octets es (f ∷ gs) (ts ∷ rest) = AllHold octets es f gs ts rest
 
-abbrev pub builder_holds : List ℕ → TreeBuilder → List (OpenFrame FrameBlocks) → List (List (Tree ℕ))
+abbrev pub trees_hold : List ℕ → TreeBuilder → List (OpenFrame FrameBlocks) → List (List (Tree ℕ))
     → Type 0
-builder_holds octets b fs trees = all_hold octets b.postponed.items fs trees
+trees_hold octets b fs trees = all_hold octets b.postponed.items fs trees
 
 -- the frame has one block more
 pub record IsPushed (a : TreeBuilder) (i : FrameBlocks) (b : ASN1Block) (r : TreeBuilder) (j : FrameBlocks)

@@ -20,7 +20,7 @@ own_shape (explicit class o tag b) = explicit class tt tag (leaf tt null)
 own_shape (unknown class constructed o tag contents) = unknown class constructed tt tag contents
 
 -- the block is the first, and after it the blocks that it holds take its place
-pub record IsNext (b : ASN1Block) (before after : List ASN1Block) : Type 0 where
+pub record IsNextTree (b : ASN1Block) (before after : List ASN1Block) : Type 0 where
   pub held : List ASN1Block
   pub rest : List ASN1Block
   pub first : before ≡ b ∷ rest
@@ -31,7 +31,7 @@ pub record IsNext (b : ASN1Block) (before after : List ASN1Block) : Type 0 where
 abbrev pub IsInTreeOrder : List ASN1Block → List ASN1Block → Type 0
 IsInTreeOrder [] blocks = blocks ≡ []
 IsInTreeOrder (b ∷ order) blocks =
-    (after : List ASN1Block) × IsNext b blocks after × IsInTreeOrder order after
+    (after : List ASN1Block) × IsNextTree b blocks after × IsInTreeOrder order after
 
 -- lists inside one another, the innermost last, as they are walked over
 abbrev pub stacked : List (List ASN1Block) → List ASN1Block

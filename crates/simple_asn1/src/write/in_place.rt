@@ -2,13 +2,13 @@
 // over the blocks: in a SEQUENCE or SET without a look at where it ends, since what was read has each block end where
 // the length before it says.
 ghost use Rattle.std.specs.Prelude.{◌≡◌, ◌<◌, ◌≤◌, ◌⊎◌, ◌∷◌, [], List, ℕ, false, length, take, IfErr, IfOk, IfSome, IsTrue};
-ghost use Rattle.asn1_headers.specs.Front.{IsAtFront};
+ghost use Rattle.asn1_headers.specs.Front.{IsAtFront, KnowsParts};
 ghost use Rattle.simple_asn1.specs.Inner.InPlace.{AreCanonical, AreCanonicalContents, BeginsShortest, IsOfGroup, LeavesBoth};
 ghost use Rattle.asn1_headers.specs.declared.header.ASN1Class.TheVariants.{Universal};
 ghost use Rattle.asn1_headers.specs.declared.error.ASN1DecodeErr.TheVariants.{OutOfMemory};
 
 use asn1_headers::error::ASN1DecodeErr;
-use asn1_headers::header::{ASN1Class, HeaderCount, identifier_size, length_size};
+use asn1_headers::header::{ASN1Class, HeaderCount};
 use asn1_headers::tags::{
     BIT_STRING, BOOLEAN, GENERALIZED_TIME, INTEGER, NULL, OBJECT_IDENTIFIER, SEQUENCE, SET,
 };
@@ -22,17 +22,14 @@ use std::simd::prelude::*;
 // How many octets are looked at at once. Few object identifiers have more.
 const LANES: usize = 16;
 
-// Whether the header at the front of the octets has its shortest form. 80 is as short as 00.
+// Whether the header at the front of the octets has its shortest form.
 #[inline(always)]
-fn is_shortest(octets: &[u8], header: &Header) -> bool
-    requires { IsAtFront octets.now header.now }
-    ensures { IsTrue result → BeginsShortest octets.now header.now }
+fn is_shortest(_octets: &[u8], header: &Header) -> bool
+    requires front { IsAtFront _octets.now header.now }
+    requires parts { KnowsParts _octets.now header.now }
+    ensures { IsTrue result → BeginsShortest _octets.now header.now }
 {
-    if header.announced == 0 && octets[header.size - 1] == 0x80 {
-        return false;
-    }
-    let identifier = identifier_size(header.class, header.constructed, &header.tag);
-    identifier + length_size(header.announced) == header.size
+    header.has_shortest_identifier() && header.has_shortest_length()
 }
 
 // Whether the header is that of a constructed SEQUENCE or SET.

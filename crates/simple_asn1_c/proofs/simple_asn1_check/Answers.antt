@@ -1,6 +1,6 @@
 -- For `simple_asn1_check`: what it returns is right.
-use Rattle.simple_asn1_c.specs.Answers.{is_document}
-use Rattle.simple_asn1_c.proofs.Outcomes.{AnswersCheck-refused}
+use Rattle.asn1_records.specs.Answers.{IsRefused, is_document, is_no_document}
+use Rattle.asn1_records.proofs.Outcomes.{OrNoMemory-at}
 use Rattle.simple_asn1_c.proofs.simple_asn1_check.Goals as goal
 
 pub returns-in-Ok : goal.returns-in-Ok
@@ -11,6 +11,6 @@ returns-in-Ok c =
 
 pub returns-in-Err : goal.returns-in-Err
 returns-in-Err c =
-    let f = c.in-Err.fault in
-    AnswersCheck-refused c.args.octets.now c.refused_outcome.result f.status f.offset c.refused_outcome.ensures
-    c.in-Err.ensures.fault
+    let put = c.nothing_put.ensures in
+    is_no_document
+    (OrNoMemory-at (IsRefused c.args.octets.now) _ _ _ _ put.status put.offset c.in-Err.ensures.fault) put.count

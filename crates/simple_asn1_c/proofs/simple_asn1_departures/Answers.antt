@@ -1,30 +1,30 @@
 -- For `simple_asn1_departures`: what it returns is right (`answer`, `none`).
-use Rattle.simple_asn1_c.proofs.ListedDepartures.{AnswersDepartures-listed, AnswersDepartures-refused, count-none_iff_der}
+use Rattle.std.proofs.Common.{ap, map}
+use Rattle.asn1_records.specs.Departures.{IsNoEncodings, departure_record}
+use Rattle.asn1_records.specs.Room.{was_found}
+use Rattle.asn1_records.proofs.ListedDepartures.{count-none_iff_der}
+use Rattle.asn1_records.proofs.Outcomes.{Answers-refused}
 use Rattle.simple_asn1_c.proofs.simple_asn1_departures.Goals as goal
 
 pub returns-in-Ok-clause-answer : goal.returns-in-Ok-clause-answer
 returns-in-Ok-clause-answer c =
-    AnswersDepartures-listed c.args.octets.now c.in-Ok.found.items c.deref.result.now c.args.records.now
-    c.put_departures.new.room c.put_departures.result
-    c.deref.ensures.value c.in-Ok.ensures.listed c.in-Ok.ensures.none c.put_departures.ensures
+    let listed = c.in-Ok.ensures in
+    was_found (map departure_record c.deref.result.now)
+    (c.in-Ok.found.items, listed.listed, listed.none, ap (map departure_record) c.deref.ensures.value)
+    c.put_departures.ensures
 
 pub returns-in-Ok-clause-none : goal.returns-in-Ok-clause-none
 returns-in-Ok-clause-none c =
     count-none_iff_der c.args.octets.now c.args.records.now c.put_departures.new.room c.put_departures.result
-    (AnswersDepartures-listed c.args.octets.now c.in-Ok.found.items c.deref.result.now c.args.records.now
-    c.put_departures.new.room c.put_departures.result
-    c.deref.ensures.value c.in-Ok.ensures.listed c.in-Ok.ensures.none c.put_departures.ensures)
+    (returns-in-Ok-clause-answer c)
 
 pub returns-in-Err-clause-answer : goal.returns-in-Err-clause-answer
 returns-in-Err-clause-answer c =
-    let f = c.in-Err.fault in
-    AnswersDepartures-refused c.args.octets.now c.args.records.now c.refused_outcome.result f.status f.offset
-    c.refused_outcome.ensures c.in-Err.ensures.fault
+    let put = c.nothing_put.ensures in
+    Answers-refused _ (IsNoEncodings c.args.octets.now) c.args.records.now _ _ _ put.status put.offset put.count
+    c.in-Err.ensures.fault
 
 pub returns-in-Err-clause-none : goal.returns-in-Err-clause-none
 returns-in-Err-clause-none c =
-    let f = c.in-Err.fault in
-    count-none_iff_der c.args.octets.now c.args.records.now c.args.records.now c.refused_outcome.result
-    (AnswersDepartures-refused c.args.octets.now c.args.records.now c.refused_outcome.result f.status f.offset
-    c.refused_outcome.ensures
-    c.in-Err.ensures.fault)
+    count-none_iff_der c.args.octets.now c.args.records.now c.args.records.now c.nothing_put.result
+    (returns-in-Err-clause-answer c)

@@ -1,7 +1,7 @@
 -- For `simple_asn1_oid`: what it returns is right (`few`).
 use Rattle.std.proofs.Common.{◌<◌, arith}
 use Rattle.std.proofs.lemmas.List.Elements.{All-from_get_or}
-use Rattle.simple_asn1_c.proofs.Rooms.{count-identifier_le}
+use Rattle.asn1_records.proofs.Rooms.{count-identifier_le}
 use Rattle.simple_asn1_c.proofs.simple_asn1_oid.Goals as goal
 
 pub returns-clause-few : goal.returns-clause-few

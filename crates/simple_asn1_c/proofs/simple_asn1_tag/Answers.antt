@@ -1,5 +1,5 @@
 -- For `simple_asn1_tag`: what it returns is right (`few`).
-use Rattle.simple_asn1_c.proofs.Rooms.{count-tag_le}
+use Rattle.asn1_records.proofs.Rooms.{count-tag_le}
 use Rattle.simple_asn1_c.proofs.simple_asn1_tag.Goals as goal
 
 pub returns-clause-few : goal.returns-clause-few

@@ -1,29 +1,42 @@
 -- For `simple_asn1_values`: what it returns is right.
-use Rattle.std.proofs.Common.{◌<◌, length, map, subst, ◌∙◌, arith}
+use Rattle.std.proofs.Common.{◌<◌, List, length, map, inr, refl, ap, ◌∙◌, sym, arith}
 use Rattle.std.proofs.lemmas.Grind.{common_steps}
-use Rattle.simple_asn1_c.specs.Paths.{value_of, were_valued}
-use Rattle.simple_asn1_c.specs.Room.{ArePut}
-use Rattle.simple_asn1_c.proofs.Outcomes.{AnswersValues-counted, AnswersValues-refused}
+use Rattle.std.proofs.lemmas.List.{length-map}
+use Rattle.asn1_outline.specs.declared.entry.Entry.{Entry}
+use Rattle.simple_asn1.specs.Shapes.{entries_of}
+use Rattle.asn1_records.specs.Answers.{IsRefusedByHeader}
+use Rattle.asn1_records.specs.Paths.{value_of}
+use Rattle.asn1_records.specs.Room.{was_found}
+use Rattle.asn1_records.specs.declared.record.Path.{Path}
+use Rattle.asn1_records.specs.declared.record.Value.{Value}
+use Rattle.asn1_records.proofs.Outcomes.{Answers-refused}
 use Rattle.simple_asn1_c.proofs.simple_asn1_values.Goals as goal
 
 pub returns-in-Ok : goal.returns-in-Ok
 returns-in-Ok c =
     let few : length c.args.values.now < length c.args.paths.now = grind (arith, common_steps) in
     let (all, has) = c.in-Ok.ensures.document in
-    AnswersValues-counted c.args.octets.now c.args.steps.now c.args.paths.now c.args.values.now c.not_enough.result all
-    has few c.not_enough.ensures
+    let value : Path → Value = λ p. value_of c.args.octets.now (entries_of 0 0 all) c.args.steps.now p in
+    let size = length-map c.args.paths.now value in
+    let (status, count, offset) = c.not_enough.ensures in
+    was_found (map value c.args.paths.now) (all, has, refl)
+    (count ∙ sym size, offset, inr (status, omega (arith, few, count, size), refl))
 
 pub returns-in-Err : goal.returns-in-Err
 returns-in-Err c =
-    let f = c.in-Err.fault in
-    AnswersValues-refused c.args.octets.now c.args.steps.now c.args.paths.now c.args.values.now c.refused_outcome.result
-    f.status f.offset c.refused_outcome.ensures c.in-Err.ensures.fault
+    let put = c.nothing_put.ensures in
+    Answers-refused _ (IsRefusedByHeader c.args.octets.now) c.args.values.now _ _ _ put.status put.offset put.count
+    c.in-Err.ensures.fault
 
 pub returns-in-Ok-read_headers : goal.returns-in-Ok-read_headers
 returns-in-Ok-read_headers c =
     let (all, has, are) = c.in-Ok-read_headers.ensures.document in
-    were_valued all has
-    (subst
-    (λ z. ArePut (map (λ p. value_of c.args.octets.now z c.args.steps.now p) c.args.paths.now) c.args.values.now
-    c.put_values.new.room c.put_values.result)
-    (c.entries.ensures ∙ are) c.put_values.ensures)
+    let value : List Entry → Path → Value = λ es p. value_of c.args.octets.now es c.args.steps.now p in
+    was_found (map (value c.deref.result.now) c.args.paths.now)
+    (all, has, ap (λ es. map (value es) c.args.paths.now) (c.deref.ensures.value ∙ are)) c.put_values.ensures
+
+pub returns-in-Err-read_headers : goal.returns-in-Err-read_headers
+returns-in-Err-read_headers c =
+    let put = c.nothing_put-in-Err-read_headers.ensures in
+    Answers-refused _ (IsRefusedByHeader c.args.octets.now) c.args.values.now _ _ _ put.status put.offset put.count
+    c.in-Err-read_headers.ensures.fault

@@ -27,7 +27,6 @@ returns-then-announced-rest-clause-refused c =
 
 pub returns-clause-found : goal.returns-clause-found
 returns-clause-found c =
-    let h = c.in_ok-header.header in
-    HeaderFound-fits c.args.octets.now c.args.offset c.args.end h.size h.announced h.class h.constructed h.tag
-    c.in_ok-header.ensures.found
+    HeaderFound-fits c.args.octets.now c.args.offset c.args.end c.in_ok-header.header c.in_ok-header.ensures.found
+    c.in_ok-header.ensures.parts
     (omega (arith, c.requires.more)) (omega (arith, c.requires.within)) (omega (arith, c.if-announced-rest.false))

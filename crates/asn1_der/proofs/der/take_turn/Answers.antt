@@ -1,6 +1,9 @@
 -- For `der::take_turn`: what it returns is right and `header_within` may be called.
-use Rattle.std.proofs.Common.{◌≡◌, ◌≢◌, ◌<◌, ◌^◌, arith, false, inl, inr, length, reverse, true}
-use Rattle.asn1_der.proofs.Turns.{AreEnds-le, AreDer-not_at_fault}
+use Rattle.std.proofs.Common.{◌≡◌, ◌≢◌, ◌-◌, ◌<◌, ◌^◌, arith, false, inl, inr, length, reverse, true}
+use Rattle.std.specs.List.{slice_range}
+use Rattle.asn1_blocks.proofs.ReadSteps.{length-slice_range}
+use Rattle.asn1_der.proofs.DerEncodings.{AreDer-no_header_fault}
+use Rattle.asn1_der.proofs.Turns.{AreEnds-le}
 use Rattle.asn1_der.proofs.der.take_turn.Goals as goal
 
 pub header_within-requires-clause-more : goal.header_within-requires-clause-more
@@ -25,5 +28,8 @@ returns-else-is_out_of_memory c p =
       | inl memory ↦ let is : c.is_out_of_memory.result ≡ true = c.is_out_of_memory.ensures.1 memory in
           let not : c.is_out_of_memory.result ≡ false = c.if-is_out_of_memory.false in
           absurd cc
-      | inr fault ↦ AreDer-not_at_fault x small w.index w.end within _ (omega (arith, c.requires.0, other)) fault p.0
+      | inr fault ↦
+          let size = length-slice_range x w.index w.end (omega (arith, c.requires.0)) within in
+          AreDer-no_header_fault (w.index - w.index) (slice_range x w.index w.end) _
+          (omega (arith, size, within, small)) (omega (arith, size, c.requires.0, other)) fault p.0
     ]

@@ -1,28 +1,17 @@
 -- For `header_rules::is_shortest`: what it returns is right.
-use Rattle.std.proofs.Common.{◌≡◌, ◌∙◌, true, false, subst, sym}
-use Rattle.asn1_headers.specs.Header.{IsIdentifier, IsLength}
-use Rattle.asn1_der.proofs.Shortest.{IsHeaderOf-shortest}
+use Rattle.std.proofs.Common.{sym, ◌∙◌}
+use Rattle.std.proofs.lemmas.Bool.{false≢true}
 use Rattle.asn1_der.proofs.header_rules.is_shortest.Goals as goal
 
-pub returns-then-is_shortest_identifier : goal.returns-then-is_shortest_identifier
-returns-then-is_shortest_identifier c class constructed tag size h =
-    let parts = c.split_identifier.ensures h.identifier h.len tag (class, constructed, h.identifier_octets) h.whole in
-    let both = IsHeaderOf-shortest c.args.front.now class constructed tag size h in
-    let id = c.is_shortest_identifier.ensures class constructed tag
-    (subst (λ z. IsIdentifier z class constructed tag) (sym parts.0) h.identifier_octets) in
-    let len = c.is_shortest_length.ensures size (subst (λ z. IsLength z size) (sym parts.1) h.length_octets) in (
-      λ t. both.0 (sym parts.0 ∙ id.0 c.if-is_shortest_identifier.true, sym parts.1 ∙ len.0 t),
-      λ e. len.1 (parts.1 ∙ (both.1 e).1),
-    )
+pub returns-then-has_shortest_identifier : goal.returns-then-has_shortest_identifier
+returns-then-has_shortest_identifier c id len p =
+    let i = c.has_shortest_identifier.ensures id p.identifier_all p.identifier_octets p.identifier_size in
+    let l = c.has_shortest_length.ensures len p.length_all p.length_octets p.size_is p.length_80 in
+    (λ t. record { identifier_is = i.0 c.if-has_shortest_identifier.true; len_is = l.0 t }, λ s. l.1 s.len_is)
 
-pub returns-else-is_shortest_identifier : goal.returns-else-is_shortest_identifier
-returns-else-is_shortest_identifier c class constructed tag size h =
-    let parts = c.split_identifier.ensures h.identifier h.len tag (class, constructed, h.identifier_octets) h.whole in
-    let both = IsHeaderOf-shortest c.args.front.now class constructed tag size h in
-    let id = c.is_shortest_identifier.ensures class constructed tag
-    (subst (λ z. IsIdentifier z class constructed tag) (sym parts.0) h.identifier_octets) in (
-      λ t. absurd cc,
-      λ e. let is : c.is_shortest_identifier.result ≡ true = id.1 (parts.0 ∙ (both.1 e).0) in
-          let not : c.is_shortest_identifier.result ≡ false = c.if-is_shortest_identifier.false in
-          absurd cc,
+pub returns-else-has_shortest_identifier : goal.returns-else-has_shortest_identifier
+returns-else-has_shortest_identifier c id len p =
+    let i = c.has_shortest_identifier.ensures id p.identifier_all p.identifier_octets p.identifier_size in (
+      λ t. absurd (false≢true (sym c.if-has_shortest_identifier.false ∙ t)),
+      λ s. i.1 s.identifier_is,
     )

@@ -4,7 +4,7 @@ use Rattle.std.proofs.lemmas.Grind.{common_steps}
 use Rattle.std.proofs.lemmas.Result.{IfOk-weaker}
 use Rattle.asn1_blocks.specs.Inner.ReaderSteps.{work_left}
 use Rattle.asn1_outline.specs.Shapes.{HasShapes, entries_of}
-use Rattle.asn1_outline.specs.Walking.{HasEnded, HasTurned}
+use Rattle.asn1_outline.specs.Walking.{HasEnded, HasWalked}
 use Rattle.asn1_outline.proofs.Walks.{IsReadTo-start, AreOpen-equal}
 use Rattle.asn1_outline.proofs.header_walk.list_headers_within.Goals as goal
 
@@ -25,7 +25,7 @@ pub returns-in-End-clause-walked : goal.returns-in-End-clause-walked
 returns-in-End-clause-walked c =
     let x = c.args.octets.now in
     let ended : HasEnded x c.take_turn.new.reader =
-    subst (λ z. HasTurned x z c.take_turn.new.reader
+    subst (λ z. HasWalked x z c.take_turn.new.reader
     (work_left (length x) c.turns.reader.index c.turns.reader.outer.items)) c.in-End.is
     c.take_turn.ensures in
     let (all, are, front) = ended in

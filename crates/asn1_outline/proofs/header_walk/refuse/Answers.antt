@@ -3,7 +3,7 @@ use Rattle.std.proofs.Common.{◌≡◌, [], true, inr, arith}
 use Rattle.std.proofs.lemmas.Grind.{common_steps}
 use Rattle.std.proofs.lemmas.Result.{on_ok_weaker}
 use Rattle.asn1_blocks.specs.Inner.OpenFrames.{is_attempt}
-use Rattle.asn1_outline.proofs.Walks.{GoesOn-failed_attempt, IsFaulty-enclosing, HeadersFaultAt-faulty, HasTurned-stepped}
+use Rattle.asn1_outline.proofs.Walks.{HasWalkedOn-failed_attempt, IsFaulty-enclosing, HeadersFaultAt-faulty, HasWalked-stepped}
 use Rattle.asn1_outline.proofs.header_walk.refuse.Goals as goal
 
 pub returns-then-attempt : goal.returns-then-attempt
@@ -12,9 +12,9 @@ returns-then-attempt c =
     let w = c.loop-parent.reader in
     let g = c.in-Some.parent in
     let tries : is_attempt w.inner.extent.kind ≡ true = grind (arith, common_steps) in
-    HasTurned-stepped x _ _ c.add-step.result c.turn_of.result c.turn_of.new.reader c.turn_of.ensures
+    HasWalked-stepped x _ _ c.add-step.result c.turn_of.result c.turn_of.new.reader c.turn_of.ensures
     (on_ok_weaker c.add-step.result
-    (GoesOn-failed_attempt x w g c.pop.new.self _ _ _ c.loop-parent.invariant.faulty c.in-Some.ensures.items
+    (HasWalkedOn-failed_attempt x w g c.pop.new.self _ _ _ c.loop-parent.invariant.faulty c.in-Some.ensures.items
     c.cut.new.self c.add-step.new.self tries
     c.cut.ensures)
     c.add-step.ensures)

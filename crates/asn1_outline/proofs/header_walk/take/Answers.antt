@@ -6,7 +6,7 @@ use Rattle.asn1_blocks.specs.HeadersBegun.{IsReadInside}
 use Rattle.asn1_outline.specs.Listing.{IsFront}
 use Rattle.asn1_outline.specs.Shapes.{not_read, shape_entry}
 use Rattle.asn1_outline.specs.declared.entry.Entry.{Entry}
-use Rattle.asn1_outline.proofs.Walks.{GoesOn-enter, GoesOn-leaf}
+use Rattle.asn1_outline.proofs.Walks.{HasWalkedOn-enter, HasWalkedOn-leaf}
 use Rattle.asn1_outline.proofs.header_walk.take.Goals as goal
 
 pub returns-then-is_read_inside : goal.returns-then-is_read_inside
@@ -22,7 +22,7 @@ returns-then-is_read_inside c =
     ∙ ap (λ z. shape_entry w.index h 0 (suc (length all)) z) d in
     let added = subst (λ (z : Entry). IsFront c.add.new.self (all ++ z ∷ [])) block (c.in_ok-add.ensures all front) in
     on_ok_weaker c.enter.result
-    (GoesOn-enter c.args.octets.now w h c.add.new.self c.count-entry.result c.kind_of.result c.enter.new.reader all
+    (HasWalkedOn-enter c.args.octets.now w h c.add.new.self c.count-entry.result c.kind_of.result c.enter.new.reader all
     opened c.requires.found inside c.kind_of.ensures n added) c.enter.ensures
 
 pub returns : goal.returns
@@ -37,5 +37,5 @@ returns c =
     ∙ ap (λ z. shape_entry w.index h 0 (suc z) c.len.result) n
     ∙ ap (λ z. shape_entry w.index h 0 (suc (length all)) z) d in
     let added = subst (λ (z : Entry). IsFront c.add.new.self (all ++ z ∷ [])) block (c.in_ok-add.ensures all front) in
-    GoesOn-leaf c.args.octets.now w h c.add.new.self c.add-2.new.self all opened c.requires.found (not_read leaf)
+    HasWalkedOn-leaf c.args.octets.now w h c.add.new.self c.add-2.new.self all opened c.requires.found (not_read leaf)
     added c.in_ok-add-2.ensures

@@ -140,3 +140,10 @@ returns c =
       },
       refl,
     )
+
+pub returns-in_default : goal.returns-in_default
+returns-in_default c w c1 a i s t =
+    let x = c.args.octets.now in
+    let none = MatchOption-at_none (NoUniversalAt x 0 (length x) SEQUENCE) (IsUniversalAt x 0 (length x) SEQUENCE)
+    c.in_default.is c.in_ok-whole.ensures in
+    none w t.is_whole

@@ -2,7 +2,7 @@
 use Rattle.std.proofs.Common.{subst, sym}
 use Rattle.std.proofs.lemmas.Result.{on_ok_weaker}
 use Rattle.asn1_blocks.specs.Inner.ReaderSteps.{HasEndedIn, in_frame}
-use Rattle.asn1_outline.specs.Listing.{builder_holds}
+use Rattle.asn1_outline.specs.Listing.{entries_hold}
 use Rattle.asn1_outline.proofs.Listed.{HasEndedIn-entry_builder}
 use Rattle.asn1_outline.proofs.listing.EntryBuilderBuilder.close.Goals as goal
 
@@ -14,5 +14,5 @@ returns c =
     let b = c.set_items.new.self in
     let i = c.args.parent.now in
     on_ok_weaker c.add.result
-    (λ u. subst (λ z. HasEndedIn builder_holds x f c.args._depth a i b z) (sym u)
+    (λ u. subst (λ z. HasEndedIn entries_hold x f c.args._depth a i b z) (sym u)
     (HasEndedIn-entry_builder x a b f i c.args._depth c.set_items.ensures)) c.add.ensures

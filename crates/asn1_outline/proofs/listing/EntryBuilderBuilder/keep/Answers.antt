@@ -2,7 +2,7 @@
 use Rattle.std.proofs.Common.{subst, sym}
 use Rattle.std.proofs.lemmas.Result.{on_ok_weaker}
 use Rattle.asn1_blocks.specs.Inner.ReaderSteps.{HasKept, in_frame}
-use Rattle.asn1_outline.specs.Listing.{builder_holds}
+use Rattle.asn1_outline.specs.Listing.{entries_hold}
 use Rattle.asn1_outline.proofs.Listed.{HasKept-entry_builder}
 use Rattle.asn1_outline.proofs.listing.EntryBuilderBuilder.keep.Goals as goal
 
@@ -14,5 +14,5 @@ returns c =
     let b = c.cut.new.self in
     let i = c.args.parent.now in
     on_ok_weaker c.add.result
-    (λ u. subst (λ z. HasKept builder_holds x f c.args._depth a i b z) (sym u)
+    (λ u. subst (λ z. HasKept entries_hold x f c.args._depth a i b z) (sym u)
     (HasKept-entry_builder x a b f i c.args._depth c.cut.ensures)) c.add.ensures

@@ -3,7 +3,7 @@ use Rattle.std.proofs.Common.{◌-◌, inl, inr, refl, subst, sym}
 use Rattle.std.proofs.lemmas.Result.{err_from_is_err_and}
 use Rattle.std.specs.List.{slice_range}
 use Rattle.asn1_blocks.specs.Inner.ReaderSteps.{HasLeaf}
-use Rattle.asn1_outline.specs.Listing.{builder_holds}
+use Rattle.asn1_outline.specs.Listing.{entries_hold}
 use Rattle.asn1_outline.proofs.Listed.{HasLeaf-entry_builder}
 use Rattle.asn1_outline.proofs.listing.EntryBuilderBuilder.leaf.Goals as goal
 
@@ -20,7 +20,7 @@ returns-clause-built c =
     let built = HasLeaf-entry_builder x h o limit c.args.depth a b i c.encoding_entry-block.result c.count-entry.result
     found
     c.requires.leaf single c.encoding_entry-block.ensures c.count-entry.ensures.count c.in_ok-add.ensures in
-    subst (λ z. HasLeaf builder_holds x o h.end c.args.depth a i b z) (sym c.in_ok-add-2.ensures) built
+    subst (λ z. HasLeaf entries_hold x o h.end c.args.depth a i b z) (sym c.in_ok-add-2.ensures) built
 
 pub returns-in_err-check_contents-clause-refused : goal.returns-in_err-check_contents-clause-refused
 returns-in_err-check_contents-clause-refused c =

@@ -1,24 +1,17 @@
 -- For `outline::Outline::ascii_text`: what it returns is right.
-use Rattle.std.proofs.Common.{◌≡◌, ℕ, List, Option, Some, None, ap}
+use Rattle.std.proofs.Common.{ap}
 use Rattle.std.proofs.Props.{props}
-use Rattle.std.specs.Prelude.{MatchOption}
 use Rattle.std.specs.Str.{chars}
 use Rattle.asn1_blocks.specs.UnknownValues.{tree_ascii_text}
-use Rattle.asn1_outline.specs.Structure.{tree_at}
-use Rattle.asn1_outline.proofs.Lent.{IsEntryOf-looked_up, tree_at-none, MatchOption-is_prop}
+use Rattle.asn1_outline.proofs.Lent.{tree_at-none, value-looked_up}
 use Rattle.asn1_outline.proofs.outline.Outline.ascii_text.Goals as goal
 
 pub returns : goal.returns
 returns c ns d =
     let o = c.args.self.now in
-    let t = tree_at ns c.args.index in
-    let found = c.ascii_text.result in
-    let set : IsSet (Option (List ℕ)) = hlevel props in
-    IsEntryOf-looked_up o.octets.now o.entries.items ns c.args.index o.document d c.deref.result.now c.in-Some.entry.now
-    c.deref.ensures.value c.in-Some.ensures.lookup.3
-    (MatchOption found (tree_ascii_text t ≡ None) (λ x. tree_ascii_text t ≡ Some (chars x.now)))
-    (MatchOption-is_prop found (tree_ascii_text t) (λ x. chars x.now) set)
-    (λ e. c.ascii_text.ensures t e)
+    value-looked_up (λ x. chars x.now) tree_ascii_text (hlevel props) c.ascii_text.result
+    o.octets.now o.entries.items ns c.args.index o.document d
+    c.deref.result.now c.in-Some.entry.now c.deref.ensures.value c.in-Some.ensures.lookup.3 c.ascii_text.ensures
 
 pub returns-in_default : goal.returns-in_default
 returns-in_default c ns d =

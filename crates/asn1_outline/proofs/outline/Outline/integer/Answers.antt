@@ -1,23 +1,16 @@
 -- For `outline::Outline::integer`: what it returns is right.
-use Rattle.std.proofs.Common.{◌≡◌, ℤ, Option, Some, None, ap}
+use Rattle.std.proofs.Common.{ap}
 use Rattle.std.proofs.Props.{props}
-use Rattle.std.specs.Prelude.{MatchOption}
 use Rattle.asn1_blocks.specs.BlockParts.{tree_integer}
-use Rattle.asn1_outline.specs.Structure.{tree_at}
-use Rattle.asn1_outline.proofs.Lent.{IsEntryOf-looked_up, tree_at-none, MatchOption-is_prop}
+use Rattle.asn1_outline.proofs.Lent.{tree_at-none, value-looked_up}
 use Rattle.asn1_outline.proofs.outline.Outline.integer.Goals as goal
 
 pub returns-in-Ok : goal.returns-in-Ok
 returns-in-Ok c ns d =
     let o = c.args.self.now in
-    let t = tree_at ns c.args.index in
-    let found = c.in-Ok.found in
-    let set : IsSet (Option (ℤ)) = hlevel props in
-    IsEntryOf-looked_up o.octets.now o.entries.items ns c.args.index o.document d c.deref.result.now c.in-Some.entry.now
-    c.deref.ensures.value
-    c.in-Some.ensures.lookup.3 (MatchOption found (tree_integer t ≡ None) (λ x. tree_integer t ≡ Some (x)))
-    (MatchOption-is_prop found (tree_integer t) (λ x. x) set)
-    (λ e. c.in-Ok.ensures t e)
+    value-looked_up (λ x. x) tree_integer (hlevel props) c.in-Ok.found
+    o.octets.now o.entries.items ns c.args.index o.document d
+    c.deref.result.now c.in-Some.entry.now c.deref.ensures.value c.in-Some.ensures.lookup.3 c.in-Ok.ensures
 
 pub returns-in_default : goal.returns-in_default
 returns-in_default c ns d =

@@ -1,10 +1,10 @@
 -- For `outline::Outline::to_block`: its loop keeps its invariant and what it returns is right (`found`).
 use Rattle.std.proofs.Common.{◌≡◌, ◌+◌, ◌-◌, ◌<◌, drop, get_or, length, sym, ap, subst, ◌∙◌, arith}
 use Rattle.std.proofs.lemmas.List.{drop_all, get_or_default}
-use Rattle.asn1_outline.specs.Building.{IsNext, built_trees, roots}
+use Rattle.asn1_outline.specs.Building.{IsBuiltNext, built_trees, roots}
 use Rattle.asn1_outline.specs.Entries.{no_entry}
 use Rattle.asn1_outline.specs.Structure.{node_at, node_in_order, tree_at}
-use Rattle.asn1_outline.proofs.BuildSteps.{built_trees-block_pushed, IsNext-entry, view-only_built}
+use Rattle.asn1_outline.proofs.BuildSteps.{built_trees-block_pushed, IsBuiltNext-entry, view-only_built}
 use Rattle.asn1_outline.proofs.Lent.{get_or-looked_up, next-node_in_order, next-within}
 use Rattle.asn1_outline.proofs.Roots.{roots-one_node}
 use Rattle.asn1_outline.proofs.outline.Outline.to_block.Goals as goal
@@ -52,11 +52,12 @@ loop-i-preserved c =
           let one : i - k ≡ j + 1 = omega arith in
           let here : i - 1 ≡ k + j = omega arith in
           let built = c.loop-i.invariant.built ns d ∙ ap (λ z. roots (drop z own)) one in
-          let next = IsNext-entry x es ns o.document d k h j l within (built_trees c.loop-i.built) built in
+          let next = IsBuiltNext-entry x es ns o.document d k h j l within (built_trees c.loop-i.built) built in
           let same : c.index.result.now ≡ get_or es (k + j) no_entry =
           c.index.ensures ∙ get_or_default es (i - 1) c.index.result.now no_entry (omega arith)
           ∙ ap (λ z. get_or es z no_entry) here in
-          let own_next = subst (λ z. IsNext x (node_at ns (k + j)) z (built_trees c.loop-i.built)) (sym same) next in
+          let own_next =
+          subst (λ z. IsBuiltNext x (node_at ns (k + j)) z (built_trees c.loop-i.built)) (sym same) next in
           built_trees-block_pushed x es ns o.document d k h j l c.loop-i.built c.block_of.new.built c.push.new.self
           c.in_ok-block.block built (c.in_ok-block.ensures.block (node_at ns (k + j)) own_next)
           (c.in_ok-block.ensures.rest (node_at ns (k + j)) own_next) c.in_ok-push.ensures;

@@ -1,33 +1,27 @@
--- For `write::in_place::is_shortest`: what it returns is right and no sum or product is too large.
-use Rattle.std.proofs.Common.{◌≡◌, ◌≢◌, ◌-◌, ◌<◌, get_or, arith}
+-- For `write::in_place::is_shortest`: what it returns is right.
+use Rattle.std.proofs.Common.{◌<◌, ◌++◌, ap₂, sym, ◌∙◌, arith}
 use Rattle.std.specs.Prelude.{All}
+use Rattle.std.proofs.lemmas.Bool.{false≢true}
 use Rattle.std.proofs.lemmas.List.Elements.{All-from_get_or}
-use Rattle.std.proofs.lemmas.Grind.{common_steps}
-use Rattle.simple_asn1.proofs.InPlace.{length-shortest_header_le, BeginsShortest-of_size}
+use Rattle.simple_asn1.proofs.InPlace.{AreHeaderOctets-front, length-header_parts}
 use Rattle.simple_asn1.proofs.write.in_place.is_shortest.Goals as goal
-use Rattle.simple_asn1.proofs.write.in_place.is_shortest.Goals.{else-header-eq0-via-then-header-eq0+else-octets-header, else-header-eq0-via-else-header-eq0}
 
-pub overflow_add-result : goal.overflow_add-result
-overflow_add-result c =
-    let x = c.args.octets.now in
+pub returns-then-has_shortest_identifier : goal.returns-then-has_shortest_identifier
+returns-then-has_shortest_identifier c shortest =
+    let x = c.args._octets.now in
     let h = c.args.header.now in
-    let all : All (λ b. b < 256) x = All-from_get_or (λ b. b < 256) x 0 (λ k _. omega (arith, c.type_inv.octets k)) in
-    omega (
-      arith,
-      c.requires.within,
-      length-shortest_header_le x h all c.requires,
-      c.identifier_size-identifier.ensures,
-      c.length_size.ensures.size,
-    )
+    let f = c.requires.front in
+    let (identifier, length_80, _) = c.requires.parts f in
+    let all : All (λ b. b < 256) x = All-from_get_or (λ b. b < 256) x 0 (λ k _. omega (arith, c.type_inv._octets k)) in
+    let p = AreHeaderOctets-front x f.identifier f.len h.size all f.front_is in
+    let size = length-header_parts x f.identifier f.len h.size f.within f.front_is in
+    let i = c.has_shortest_identifier.ensures f.identifier p.identifier f.fields identifier in
+    let l = c.has_shortest_length.ensures f.len p.len f.length_octets (omega (arith, size, identifier)) length_80 in
+    record {
+      within = f.within;
+      shortest = f.front_is ∙ ap₂ (λ s t. s ++ t) (i.0 c.if-has_shortest_identifier.true) (l.0 shortest);
+    }
 
-pub returns : goal.returns
-returns c same =
-    let x = c.args.octets.now in
-    let h = c.args.header.now in
-    let all : All (λ b. b < 256) x = All-from_get_or (λ b. b < 256) x 0 (λ k _. omega (arith, c.type_inv.octets k)) in
-    let not : h.announced ≡ 0 → get_or x (h.size - 1) 0 ≢ 128 = λ none last. elim c.else-header-eq0.branch [
-      | else-header-eq0-via-then-header-eq0+else-octets-header w ↦ omega (arith, last, w.if-octets-header.false)
-      | else-header-eq0-via-else-header-eq0 w ↦ omega (arith, none, w.if-header-eq0.false)
-    ] in
-    BeginsShortest-of_size x h all c.requires not
-    (grind (arith, common_steps, same, c.identifier_size-identifier.ensures, c.length_size.ensures.size))
+pub returns-else-has_shortest_identifier : goal.returns-else-has_shortest_identifier
+returns-else-has_shortest_identifier c shortest =
+    absurd (false≢true (sym c.if-has_shortest_identifier.false ∙ shortest))

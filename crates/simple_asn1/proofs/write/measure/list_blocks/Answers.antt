@@ -4,7 +4,7 @@ use Rattle.std.proofs.Common.{◌≡◌, ◌++◌, ◌∷◌, [], map, sym, ap, 
 use Rattle.std.proofs.lemmas.Grind.{common_steps}
 use Rattle.std.proofs.lemmas.List.{map_push}
 use Rattle.simple_asn1.specs.Canonical.{first_of, first_write_fault}
-use Rattle.asn1_blocks.specs.Inner.TreeOrder.{IsNext, ahead}
+use Rattle.asn1_blocks.specs.Inner.TreeOrder.{IsNextTree, ahead}
 use Rattle.asn1_blocks.specs.View.{views}
 use Rattle.simple_asn1.specs.Inner.WriteWalk.{measured_blocks, measured_sizes, own_size_of}
 use Rattle.simple_asn1.specs.declared.write.measure.Measured.{Measured}
@@ -14,7 +14,7 @@ use Rattle.simple_asn1.proofs.write.measure.list_blocks.Goals as goal
 
 pub loop-walk-smaller : goal.loop-walk-smaller
 loop-walk-smaller c =
-    let n : IsNext c.in-Some.block.now (ahead c.loop-walk.walk) (ahead c.next.new.self) =
+    let n : IsNextTree c.in-Some.block.now (ahead c.loop-walk.walk) (ahead c.next.new.self) =
     rw c.in-Some.is at c.in_ok-block.ensures in
     omega (arith, all_blocks_in-next c.in-Some.block.now (ahead c.loop-walk.walk) (ahead c.next.new.self) n)
 
@@ -22,7 +22,7 @@ pub loop-walk-preserved : goal.loop-walk-preserved
 loop-walk-preserved c =
     let b = c.in-Some.block.now in
     let m : Measured = record { block = c.in-Some.block; contents = c.in_ok-contents.contents } in
-    let n : IsNext b (ahead c.loop-walk.walk) (ahead c.next.new.self) = rw c.in-Some.is at c.in_ok-block.ensures in
+    let n : IsNextTree b (ahead c.loop-walk.walk) (ahead c.next.new.self) = rw c.in-Some.is at c.in_ok-block.ensures in
     let p : c.push.new.self.items ≡ c.loop-walk.list.items ++ m ∷ [] = grind (arith, common_steps) in
     let e : measured_blocks c.push.new.self.items ≡ measured_blocks c.loop-walk.list.items ++ b ∷ [] =
     ap measured_blocks p

@@ -1,5 +1,0 @@
-pub mod Fronts
-pub mod Law
-pub mod Walk
-pub mod Alone
-pub mod DerLists

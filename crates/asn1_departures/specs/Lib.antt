@@ -1,4 +1,0 @@
-pub mod Rules
-pub mod Departures
-pub mod Steps
-pub mod Laws

@@ -1,0 +1,18 @@
+mod Headers
+mod OffsetLeaves
+mod HeldBits
+mod Refusals
+pub mod TwoEach
+pub mod TwoEachHeader
+pub mod Outcomes
+mod CanonicalRecords
+mod Spellings
+pub mod Entries
+mod ShortHeaders
+mod Triples
+mod TextOctets
+pub mod Rooms
+mod FittingComponents
+mod PushedNumerals
+mod PathSteps
+pub mod ListedDepartures

@@ -1,0 +1,218 @@
+// Entries of documents, or the number of their fault with its place.
+ghost use Rattle.std.specs.Prelude.{◌≡◌, ◌≢◌, ℕ, List, IfErr, IfOk, MatchOption, OnOk};
+ghost use Rattle.simple_asn1.specs.Canonical.{all_canonical};
+ghost use Rattle.simple_asn1.specs.Fault.{DecodeFault, OutOfMemoryOr, fault_of};
+ghost use Rattle.simple_asn1.specs.Grammar.{IsDocument, FirstFault};
+ghost use Rattle.simple_asn1.specs.ReadBack.{CanonicalDocument};
+ghost use Rattle.simple_asn1.specs.Strict.{StrictFault};
+ghost use Rattle.simple_asn1.specs.Tree.{Trees};
+ghost use Rattle.asn1_outline.specs.Entries.{AreEntriesOf, IsOutline};
+ghost use Rattle.asn1_outline.specs.declared.entry.Entry.{Entry};
+ghost use Rattle.asn1_outline.specs.Listing.{IsFound};
+ghost use Rattle.asn1_outline.specs.Shapes.{AreEntriesOfShapes, HasShapes, Shapes, entries_of};
+ghost use Rattle.asn1_records.specs.Answers.{IsRefused, IsRefusedByHeader, IsRefusedStrict};
+ghost use Rattle.asn1_records.specs.Room.{IsNoMemory, OrNoMemory};
+ghost use Rattle.asn1_records.specs.Status.{status_of};
+ghost use Rattle.asn1_headers.specs.declared.error.ASN1DecodeErr.TheVariants.{OutOfMemory};
+
+use crate::status::{NO_MEMORY, NOT_CANONICAL, status_of_fault};
+use asn1_headers::header::HeaderCount;
+use asn1_outline::entry::Entry;
+use asn1_outline::entry_builder::Found;
+use asn1_outline::header_walk::{check_headers, list_headers, list_headers_within};
+use asn1_outline::listing::{list, list_within};
+use simple_asn1::outline::check_canonical;
+use simple_asn1::{
+    ASN1DecodeErr, LocatedErr, check_document, discard, from_der_strict, law_one_reading,
+    rewrite_unless_canonical,
+};
+use std::alloc::Global;
+
+// The number of a fault, and its place.
+#[derive(Clone, Copy, Drop)]
+pub struct Fault {
+    pub status: u32,
+    pub offset: usize,
+}
+
+pub const OUT_OF_MEMORY: Fault = Fault {
+    status: NO_MEMORY,
+    offset: 0,
+};
+
+// Whether octets are a document.
+pub fn check(alloc: Global, octets: &[u8]) -> Result<(), Fault>
+    ensures document { OnOk result ((bs : Trees ℕ) × IsDocument octets.now bs) }
+    ensures fault { IfErr result (λ f. OrNoMemory (IsRefused octets.now) f.status f.offset) }
+{
+    match check_document(alloc, octets) {
+        Ok(()) => Ok(()),
+        Err(located) => Err(fault_at(&located)),
+    }
+}
+
+// The canonical octets of a document, where they are not found to be its own.
+pub fn canonical_octets(alloc: Global, octets: &[u8]) -> Result<Option<Vec<u8>>, Fault>
+    ensures document { IfOk result (λ written. (bs : Trees ℕ) × IsDocument octets.now bs
+        × MatchOption written (octets.now ≡ all_canonical bs) (λ v. v.items ≡ all_canonical bs)) }
+    ensures fault { IfErr result (λ f. OrNoMemory (IsRefused octets.now) f.status f.offset) }
+{
+    match rewrite_unless_canonical(alloc, octets) {
+        Ok(written) => Ok(written),
+        Err(located) => Err(fault_at(&located)),
+    }
+}
+
+// The number of an error, with its place where it is a fault of octets.
+pub fn fault_at(located: &LocatedErr) -> Fault
+    ensures memory { located.now.error ≡ OutOfMemory → IsNoMemory result.status result.offset }
+    ensures fault { located.now.error ≢ OutOfMemory →
+        (result.status ≡ status_of (fault_of located.now.error)) × (result.offset ≡ located.now.offset) }
+{
+    match located.error {
+        ASN1DecodeErr::OutOfMemory => OUT_OF_MEMORY,
+        _ => Fault {
+            status: status_of_fault(&located.error),
+            offset: located.offset,
+        },
+    }
+}
+
+// The entries of a document, where there is room for so many, or else their number.
+pub fn find_records(alloc: Global, octets: &[u8], room: usize) -> Result<Found, Fault>
+    ensures document { IfOk result (λ found. (bs : Trees ℕ) × (all : List Entry) × IsDocument octets.now bs
+        × AreEntriesOf octets.now bs all × IsFound room all found) }
+    ensures fault { IfErr result (λ f. OrNoMemory (IsRefused octets.now) f.status f.offset) }
+{
+    let mut count = HeaderCount::new();
+    match list_within(alloc, octets, room, &mut count) {
+        Ok(found) => Ok(found),
+        Err(located) => Err(fault_at(&located)),
+    }
+}
+
+// The entries of a document in canonical form, or their number.
+pub fn find_records_strict(alloc: Global, octets: &[u8], room: usize) -> Result<Found, Fault>
+    ensures document { IfOk result (λ found. (bs : Trees ℕ) × (all : List Entry) × CanonicalDocument octets.now bs
+        × AreEntriesOf octets.now bs all × IsFound room all found) }
+    ensures fault { IfErr result (λ f. OrNoMemory (IsRefusedStrict octets.now) f.status f.offset) }
+{
+    law_one_reading();
+    let found = match find_records(alloc, octets, room) {
+        Ok(found) => found,
+        Err(fault) => return Err(fault),
+    };
+    match check_strict(alloc, octets, &found) {
+        Ok(()) => Ok(found),
+        Err(fault) => Err(fault),
+    }
+}
+
+// Whether a document is in canonical form, of which this was found. Without its entries it is read a second time.
+// Blocks are built only where a quick look does not find that it is canonical.
+fn check_strict(alloc: Global, octets: &[u8], found: &Found) -> Result<(), Fault>
+    requires { (bs : Trees ℕ) × (all : List Entry) × IsDocument octets.now bs
+        × AreEntriesOf octets.now bs all × ((room : ℕ) × IsFound room all found.now) }
+    ensures document { OnOk result ((bs : Trees ℕ) × CanonicalDocument octets.now bs) }
+    ensures fault { IfErr result (λ f. OrNoMemory (IsRefusedStrict octets.now) f.status f.offset) }
+{
+    if let Found::Entries(entries) = found {
+        return match check_canonical(alloc, octets, entries) {
+            Ok(()) => Ok(()),
+            Err(e) => Err(strict_fault(alloc, octets, &e)),
+        };
+    }
+    match canonical_octets(alloc, octets) {
+        Ok(None) => Ok(()),
+        Ok(Some(_)) => check_blocks(alloc, octets),
+        Err(fault) => Err(fault),
+    }
+}
+
+// Whether the octets are a document in canonical form, by its blocks.
+fn check_blocks(alloc: Global, octets: &[u8]) -> Result<(), Fault>
+    ensures document { OnOk result ((bs : Trees ℕ) × CanonicalDocument octets.now bs) }
+    ensures fault { IfErr result (λ f. OrNoMemory (IsRefusedStrict octets.now) f.status f.offset) }
+{
+    match from_der_strict(alloc, octets) {
+        Ok(blocks) => {
+            discard(blocks);
+            Ok(())
+        }
+        Err(e) => Err(strict_fault(alloc, octets, &e)),
+    }
+}
+
+// The fault of octets that were refused strictly.
+fn strict_fault(alloc: Global, octets: &[u8], e: &ASN1DecodeErr) -> Fault
+    requires { OutOfMemoryOr (StrictFault octets.now) e.now }
+    ensures { OrNoMemory (IsRefusedStrict octets.now) result.status result.offset }
+{
+    law_one_reading();
+    match e {
+        ASN1DecodeErr::NotCanonical(offset) => Fault {
+            status: NOT_CANONICAL,
+            offset: *offset,
+        },
+        ASN1DecodeErr::OutOfMemory => OUT_OF_MEMORY,
+        _ => fault_of_refused(alloc, octets),
+    }
+}
+
+// The fault of octets that are no document.
+fn fault_of_refused(alloc: Global, octets: &[u8]) -> Fault
+    requires { (fault : DecodeFault) × FirstFault octets.now fault }
+    ensures { OrNoMemory (IsRefused octets.now) result.status result.offset }
+{
+    law_one_reading();
+    match check(alloc, octets) {
+        Ok(()) => unreachable!(),
+        Err(fault) => fault,
+    }
+}
+
+// The entries of a document.
+pub fn read_records(alloc: Global, octets: &[u8]) -> Result<Vec<Entry>, Fault>
+    ensures document { IfOk result (λ entries. IsOutline octets.now entries.items) }
+    ensures fault { IfErr result (λ f. OrNoMemory (IsRefused octets.now) f.status f.offset) }
+{
+    let mut count = HeaderCount::new();
+    match list(alloc, octets, &mut count) {
+        Ok(entries) => Ok(entries),
+        Err(located) => Err(fault_at(&located)),
+    }
+}
+
+// The entries of encodings by their headers alone.
+pub fn read_headers(alloc: Global, octets: &[u8]) -> Result<Vec<Entry>, Fault>
+    ensures document { IfOk result (λ entries. AreEntriesOfShapes octets.now entries.items) }
+    ensures fault { IfErr result (λ f. OrNoMemory (IsRefusedByHeader octets.now) f.status f.offset) }
+{
+    match list_headers(alloc, octets) {
+        Ok(entries) => Ok(entries),
+        Err(located) => Err(fault_at(&located)),
+    }
+}
+
+// The entries of encodings by their headers alone, where there is room for so many, or else their number.
+pub fn find_headers(alloc: Global, octets: &[u8], room: usize) -> Result<Found, Fault>
+    ensures document { IfOk result (λ found. (all : Shapes) × HasShapes octets.now all
+        × IsFound room (entries_of 0 0 all) found) }
+    ensures fault { IfErr result (λ f. OrNoMemory (IsRefusedByHeader octets.now) f.status f.offset) }
+{
+    match list_headers_within(alloc, octets, room) {
+        Ok(found) => Ok(found),
+        Err(located) => Err(fault_at(&located)),
+    }
+}
+
+// Whether octets are encodings by their headers.
+pub fn check_by_headers(alloc: Global, octets: &[u8]) -> Result<(), Fault>
+    ensures document { OnOk result ((all : Shapes) × HasShapes octets.now all) }
+    ensures fault { IfErr result (λ f. OrNoMemory (IsRefusedByHeader octets.now) f.status f.offset) }
+{
+    match check_headers(alloc, octets) {
+        Ok(()) => Ok(()),
+        Err(located) => Err(fault_at(&located)),
+    }
+}

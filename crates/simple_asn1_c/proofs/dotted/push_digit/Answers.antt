@@ -1,6 +1,0 @@
--- For `dotted::push_digit`: what it returns is right.
-use Rattle.simple_asn1_c.proofs.PushedNumerals.{OnOk-is_ok}
-use Rattle.simple_asn1_c.proofs.dotted.push_digit.Goals as goal
-
-pub returns : goal.returns
-returns c ok = OnOk-is_ok c.try_push.result c.is_ok.result c.is_ok.ensures.value ok c.try_push.ensures.ok

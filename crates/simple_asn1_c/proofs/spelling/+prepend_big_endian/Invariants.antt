@@ -1,5 +1,0 @@
--- For the cycle `prepend_big_endian` of `spelling`: what grows less, so that it ends.
-use Rattle.simple_asn1_c.proofs.spelling.+prepend_big_endian.Given as goal
-
-abbrev pub decreases-prepend_big_endian : goal.decreases-prepend_big_endian
-decreases-prepend_big_endian l = l.n
