@@ -6,6 +6,10 @@ pub mod Laws
 pub mod FieldLaws
 pub mod GroupLaws
 pub mod TagLaws
+pub mod EnumeratedLaws
+pub mod DefaultLaws
 pub mod ChoiceLaws
 -- What is read of a value's trees is the value.
 pub mod WholeLaws
+-- How a type whose values are trees is stored.
+pub mod TreeCode

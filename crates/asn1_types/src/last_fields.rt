@@ -4,9 +4,9 @@ ghost use Rattle.asn1_blocks.specs.Tree.{shape, shapes, group, no_trees, more_tr
 ghost use Rattle.asn1_blocks.specs.View.{view, views};
 ghost use Rattle.asn1_blocks.specs.declared.block.GroupKind.TheVariants.{Sequence as a_sequence, Set as a_set};
 ghost use Rattle.asn1_headers.specs.declared.error.ASN1EncodeErr.TheVariants.{OutOfMemory as no_memory};
-ghost use Rattle.asn1_types.specs.FieldTrees.{optional_trees};
+ghost use Rattle.asn1_types.specs.FieldTrees.{optional_trees, unless_default};
 
-use crate::Asn1Write;
+use crate::{Asn1Write, DefaultOf};
 use asn1_blocks::block::ASN1Block;
 use asn1_headers::error::ASN1EncodeErr;
 use std::alloc::Global;
@@ -70,6 +70,23 @@ impl LastFields {
         match field {
             None => Ok(self),
             Some(field) => self.preceded_by(alloc, field),
+        }
+    }
+
+    /// These fields after this one, unless it is the default that `D` says.
+    pub fn preceded_by_defaulted<T: Asn1Write, D: DefaultOf<T>>(
+        self,
+        alloc: Global,
+        field: &T,
+    ) -> Result<LastFields, ASN1EncodeErr>
+        ensures made { IfOk result (λ fields. written_trees fields ≡ optional_trees T.Asn1Type.tree (λ trees. trees)
+            (unless_default D.is_default field.now) (written_trees self)) }
+        ensures refused { IfErr result (λ e. e ≡ no_memory) }
+    {
+        if D::is_default(field) {
+            Ok(self)
+        } else {
+            self.preceded_by(alloc, field)
         }
     }
 

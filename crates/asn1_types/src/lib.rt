@@ -22,7 +22,11 @@ ghost use Rattle.asn1_blocks.specs.View.{view};
 ghost use Rattle.asn1_headers.specs.declared.error.ASN1EncodeErr.TheVariants.{OutOfMemory as no_memory};
 ghost use Rattle.asn1_types.specs.declared.TypeErr.TheVariants.{Shape};
 
+mod any;
+mod apart;
 mod choice;
+mod defaulted;
+mod enumerated;
 mod fields;
 mod groups;
 mod last_fields;
@@ -33,8 +37,13 @@ mod strings;
 mod tagged;
 mod times;
 mod whole;
+mod wide;
 
+pub use crate::any::Any;
+pub use crate::apart::{Before, BeforeOptional, Last};
 pub use crate::choice::{Or, Unlike};
+pub use crate::defaulted::{DefaultOf, Defaulted, False, Natural};
+pub use crate::enumerated::Enumerated;
 pub use crate::fields::{Apart, End, Field, Fields, Optional, WriteFields};
 pub use crate::groups::{Sequence, Set};
 pub use crate::last_fields::LastFields;
@@ -48,6 +57,7 @@ pub use crate::strings::{
 pub use crate::tagged::{Explicit, ImplicitOctets};
 pub use crate::times::{GeneralizedTime, UtcTime};
 pub use crate::whole::{Whole, WholeErr};
+pub use crate::wide::Fields4;
 use asn1_blocks::block::ASN1Block;
 use asn1_headers::error::ASN1EncodeErr;
 use std::alloc::{AllocError, Global};

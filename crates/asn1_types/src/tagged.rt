@@ -36,7 +36,7 @@ pub struct Explicit<T, const N: u64> {
 }
 
 // Whether a tag number is this one.
-fn is_number(tag: &BigUint, number: u64) -> bool
+pub fn is_number(tag: &BigUint, number: u64) -> bool
     ensures { IsTrue result ↔ (tag.now ≡ number) }
 {
     match tag.to_u64() {
