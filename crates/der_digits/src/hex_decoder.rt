@@ -18,8 +18,8 @@ pub enum Spelling {
 // The octets of the pairs of digits that were read, and the value of a last digit that has no second one yet.
 #[derive(Drop)]
 pub(crate) struct HexDecoder {
-    octets: Vec<u8>,
-    high: Option<u8>,
+    pub(crate) octets: Vec<u8>,
+    pub(crate) high: Option<u8>,
     ghost is_value: { unwrap_or high 0 < 16 },
 }
 

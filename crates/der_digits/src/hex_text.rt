@@ -1,14 +1,16 @@
 // Text in hex digits.
-ghost use Rattle.std.specs.Prelude.{◌≡◌, ◌++◌, ◌∷◌, ◌<◌, ℕ, List, [], length, if◌then◌else◌, IfOk, MatchOption, drop};
+ghost use Rattle.std.specs.Prelude.{◌≡◌, ◌++◌, ℕ, List, if◌then◌else◌, IfOk};
+ghost use Rattle.std.specs.Iterator.{YieldsFirst, item_count};
 ghost use Rattle.std.specs.List.{list_all};
 ghost use Rattle.der_digits.specs.Decoded.{HasRead, IsRead};
 ghost use Rattle.der_digits.specs.Digits.{begins_prefix, begins_space, column_behind, column_of, digits_of, has_bits, has_columns, has_hex_offsets, has_octets, has_other_columns, is_binary, is_separator, offset_of, without_separators};
 ghost use Rattle.der_digits.specs.Spelled.{IsSpelling};
+ghost use Rattle.der_digits.specs.Symbols.{symbols_left};
 ghost use Rattle.der_io.specs.Lines.{lines_of};
 
 use crate::hex_decoder::{HexDecoder, Spelling};
-use crate::search::part_before;
-use der_io::split_line;
+use crate::lines::LineIter;
+use crate::search::{behind, part_before};
 use std::alloc::{AllocError, Global};
 
 // Where the first pair of digits ends in what `od -t x1` and `od -A x -t x1` print.
@@ -31,28 +33,23 @@ pub fn spelling_in(alloc: Global, text: &[u8]) -> Result<Spelling, AllocError>
 {
     let in_columns = is_in_columns(text);
     let mut decoder = HexDecoder::new(alloc);
-    let mut rest = text;
-    while !rest.is_empty() {
-        let (line, after) = split_line(rest);
+    for line in LineIter(text) {
         if !read_symbols(digits_part(in_columns, line), &mut decoder)? {
             return Ok(Spelling::Nothing);
         }
-        rest = after;
     }
     Ok(decoder.finish())
 }
 
-// Reads what is left of a text without its separators. Returns `false` where a symbol is no digit.
+// Reads the symbols of a text. Returns `false` where one is no digit.
 pub(crate) fn read_symbols(text: &[u8], decoder: &mut HexDecoder) -> Result<bool, AllocError>
     ensures { (digits : List ℕ) → HasRead decoder.old digits
         → IfOk result (λ are_read. IsRead are_read decoder.new (digits ++ without_separators text.now)) }
 {
-    let mut rest = text;
-    while let Some((symbol, after)) = next_symbol(rest) {
+    for symbol in Symbols(text) {
         if !decoder.read(symbol)? {
             return Ok(false);
         }
-        rest = after;
     }
     Ok(true)
 }
@@ -79,14 +76,6 @@ fn has_hex_offsets(text: &[u8]) -> bool
     ensures { result ≡ has_hex_offsets text.now }
 {
     text.starts_with(b"000000 ") && begins_space(behind(HEX_PAIR_END, text))
-}
-
-// What stands behind so many characters.
-fn behind(count: usize, text: &[u8]) -> &[u8]
-    ensures { result.now ≡ drop count text.now }
-{
-    let (_, after) = text.split_at(text.len().min(count));
-    after
 }
 
 // Whether the text comes in columns of bits, as `xxd -b` prints them.
@@ -123,10 +112,7 @@ pub fn has_other_columns(text: &[u8]) -> bool
 fn begins_space(text: &[u8]) -> bool
     ensures { result ≡ begins_space text.now }
 {
-    match text.first() {
-        Some(b) => b.is_ascii_whitespace(),
-        None => true,
-    }
+    text.first().is_none_or(|b| b.is_ascii_whitespace())
 }
 
 // The offset in a line: the hex digits at its front.
@@ -177,37 +163,43 @@ fn column_behind(text: &[u8]) -> &[u8]
     }
 }
 
-// The first symbol of a text without its separators, and the text behind it.
-fn next_symbol(text: &[u8]) -> Option<(u8, &[u8])>
-    ensures { MatchOption result (without_separators text.now ≡ [])
-        (λ next. (without_separators text.now ≡ next.0 ∷ without_separators next.1.now)
-        × (length next.1.now < length text.now)) }
-{
-    let mut rest = text;
-    while !rest.is_empty() {
-        if begins_prefix(rest) {
-            rest = &rest[2..];
-        } else {
-            let symbol = rest[0];
-            rest = &rest[1..];
-            if !may_separate(symbol) {
-                return Some((symbol, rest));
+/// The symbols of a text without its separators, and without what may stand before two digits.
+#[derive(Drop)]
+pub struct Symbols<'a>(pub &'a [u8]);
+
+impl Iterator for Symbols<'_> {
+    type Item = u8;
+
+    ghost next_gives = { YieldsFirst symbols_left };
+
+    ghost remaining = { item_count symbols_left };
+
+    fn next(&mut self) -> Option<u8> {
+        while !self.0.is_empty() {
+            if begins_prefix(self.0) {
+                self.0 = &self.0[2..];
+            } else {
+                let symbol = self.0[0];
+                self.0 = &self.0[1..];
+                if !may_separate(symbol) {
+                    return Some(symbol);
+                }
             }
         }
+        None
     }
-    None
 }
 
-/// Whether the text begins with what may stand before two digits.
-pub fn begins_prefix(text: &[u8]) -> bool
+// Whether the text begins with what may stand before two digits.
+fn begins_prefix(text: &[u8]) -> bool
     ensures { result ≡ begins_prefix text.now }
 {
     text.starts_with(b"0x") || text.starts_with(b"\\x")
 }
 
-/// Whether the octet may stand between digits.
-pub fn may_separate(b: u8) -> bool
+// Whether the octet may stand between digits.
+fn may_separate(b: u8) -> bool
     ensures { result ≡ is_separator b }
 {
-    b.is_ascii_whitespace() || b == b':' || b == b',' || b == b'-' || b == b'{' || b == b'}'
+    b.is_ascii_whitespace() || matches!(b, b':' | b',' | b'-' | b'{' | b'}')
 }

@@ -1,5 +1,5 @@
 // Parts of a text: how it begins, and what stands before them.
-ghost use Rattle.std.specs.Prelude.{◌≡◌};
+ghost use Rattle.std.specs.Prelude.{◌≡◌, drop};
 ghost use Rattle.der_digits.specs.Search.{contains, up_to, without_indent};
 
 /// The line without the white space at its front.
@@ -20,12 +20,20 @@ pub fn contains(part: &[u8], text: &[u8]) -> bool
 pub fn part_before<'a>(part: &[u8], text: &'a [u8]) -> &'a [u8]
     ensures { result.now ≡ up_to part.now text.now }
 {
-    let mut end = 0;
-    while end < text.len() {
-        if text[end..].starts_with(part) {
-            return &text[..end];
+    let mut rest = text;
+    while !rest.is_empty() {
+        if rest.starts_with(part) {
+            return &text[..text.len() - rest.len()];
         }
-        end += 1;
+        (_, rest) = rest.split_at(1);
     }
     text
+}
+
+/// What stands behind so many octets.
+pub fn behind(count: usize, text: &[u8]) -> &[u8]
+    ensures { result.now ≡ drop count text.now }
+{
+    let (_, after) = text.split_at(text.len().min(count));
+    after
 }

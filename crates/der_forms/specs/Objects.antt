@@ -1,5 +1,5 @@
 -- The objects of PEM (RFC 7468), one after another.
-use Rattle.std.specs.Prelude.{◌≡◌, ◌⊎◌, ℕ, Bool, true, false, ◌==◌, ◌&&◌, List, [], ◌∷◌, ◌++◌, drop, length, if◌then◌else◌, codes, Option, Some, None}
+use Rattle.std.specs.Prelude.{◌≡◌, ◌⊎◌, ℕ, Bool, true, false, ◌==◌, List, [], ◌∷◌, ◌++◌, drop, length, if◌then◌else◌, codes, Option, Some, None}
 use Rattle.std.specs.List.{list_any}
 use Rattle.std.specs.Option.{option_and_then}
 use Rattle.std.specs.Result.{result_ok}
@@ -47,7 +47,7 @@ symbols_in (line ∷ lines) = if ends_object line then [] else symbols_of line +
 
 -- the octets of a private key in the form of OpenSSH, which is not DER
 abbrev pub is_openssh : List ℕ → Bool
-is_openssh octets = begins (codes "openssh-key-v1") octets && begins (0 ∷ []) (drop 14 octets)
+is_openssh octets = begins (codes "openssh-key-v1" ++ 0 ∷ []) octets
 
 abbrev pub unless_openssh : List ℕ → Option (List ℕ)
 unless_openssh octets = if is_openssh octets then None else Some octets

@@ -1,5 +1,5 @@
 // Text in base 64.
-ghost use Rattle.std.specs.Prelude.{◌≡◌, ◌++◌, Err, IfOk, MatchOption, MatchResult, None, Ok, OnOk, Some};
+ghost use Rattle.std.specs.Prelude.{◌≡◌, Err, IfOk, MatchOption, MatchResult, None, Ok, Some};
 ghost use Rattle.std.specs.Result.{result_ok};
 ghost use Rattle.base64.specs.Engines.{standard};
 ghost use Rattle.base64.specs.GeneralPurpose.{IsBytes, decode_of, encode_of};
@@ -14,20 +14,12 @@ pub fn without_spaces(alloc: Global, text: &[u8]) -> Result<Vec<u8>, AllocError>
     ensures { IfOk result (λ symbols. symbols.items ≡ without_spaces text.now) }
 {
     let mut symbols = Vec::new(alloc);
-    push_symbols(text, &mut symbols)?;
-    Ok(symbols)
-}
-
-// Puts a text without its white space.
-pub fn push_symbols(text: &[u8], symbols: &mut Vec<u8>) -> Result<(), AllocError>
-    ensures { OnOk result (symbols.new.items ≡ symbols.old.items ++ without_spaces text.now) }
-{
     for b in text {
         if !b.is_ascii_whitespace() {
             symbols.push(*b)?;
         }
     }
-    Ok(())
+    Ok(symbols)
 }
 
 // The symbols that spell the octets.

@@ -2,6 +2,7 @@
 ghost use Rattle.std.specs.Prelude.{◌≡◌, ◌++◌, ◌||◌, codes, true, IfOk, OnOk};
 ghost use Rattle.std.specs.Char.{is_ascii_whitespace};
 ghost use Rattle.der_digits.specs.Search.{begins, begins_by};
+ghost use Rattle.der_forms.specs.Forms.{without_mark};
 ghost use Rattle.der_forms.specs.Texts.{behind_label as behind_label_is, behind_words as behind_words_is, broken, lacks_break as lacks_break_is, more_hyphens as more_hyphens_is, octet_or_break, place_behind as place_behind_is, unfolded as unfolded_is, with_breaks as with_breaks_are};
 ghost use Rattle.der_forms.specs.declared.breaks.Place.TheVariants.{Blank as blank};
 
@@ -24,27 +25,23 @@ pub enum Place {
     Ended,
 }
 
-// The text with a line feed for each line break that is spelled, and for each carriage return alone. Text that has
-// neither is not copied.
-pub fn with_breaks(alloc: Global, text: Vec<u8>) -> Result<Vec<u8>, AllocError>
-    ensures { IfOk result (λ broken. broken.items ≡ with_breaks_are text.items) }
+// Whether the text has no byte order mark, no line break but line feeds, and none is wanting.
+pub fn is_in_lines(text: &[u8]) -> bool
+    ensures { result ≡ true → unfolded_is blank (with_breaks_are (without_mark text.now)) ≡ text.now }
 {
-    if has_line_feeds_alone(&text) {
-        Ok(text)
-    } else {
-        breaks_put(alloc, &text)
+    if text.starts_with(&[0xEF, 0xBB, 0xBF]) {
+        return false;
     }
-}
-
-// Whether no line break is spelled, and no carriage return is alone.
-fn has_line_feeds_alone(text: &[u8]) -> bool
-    ensures { result ≡ true → with_breaks_are text.now ≡ text.now }
-{
+    let mut place = Place::Blank;
     let mut rest = text;
     while !rest.is_empty() {
-        if is_break_spelled(rest) || octet_or_break(rest[0], &rest[1..]) != rest[0] {
+        if is_break_spelled(rest)
+            || octet_or_break(rest[0], &rest[1..]) != rest[0]
+            || lacks_break(place, rest)
+        {
             return false;
         }
+        place = place_behind(place, rest);
         rest = &rest[1..];
     }
     true
@@ -58,8 +55,8 @@ fn is_break_spelled(text: &[u8]) -> bool
     text.starts_with(b"\\n") || text.starts_with(b"\\r") || text.starts_with(b"\\/")
 }
 
-// A copy of the text, with these line breaks.
-fn breaks_put(alloc: Global, text: &[u8]) -> Result<Vec<u8>, AllocError>
+// The text with a line feed for each line break that is spelled, and for each carriage return alone.
+pub fn with_breaks(alloc: Global, text: &[u8]) -> Result<Vec<u8>, AllocError>
     ensures { IfOk result (λ broken. broken.items ≡ with_breaks_are text.now) }
 {
     let mut broken = Vec::new(alloc);
@@ -91,35 +88,8 @@ fn octet_or_break(b: u8, text: &[u8]) -> u8
     }
 }
 
-// The text with each line break that PEM wants. Text that has them all is not copied.
-pub fn unfolded(alloc: Global, text: Vec<u8>) -> Result<Vec<u8>, AllocError>
-    ensures { IfOk result (λ whole. whole.items ≡ unfolded_is blank text.items) }
-{
-    if has_all_breaks(&text) {
-        Ok(text)
-    } else {
-        wanting_put(alloc, &text)
-    }
-}
-
-// Whether no line break is wanting.
-fn has_all_breaks(text: &[u8]) -> bool
-    ensures { result ≡ true → unfolded_is blank text.now ≡ text.now }
-{
-    let mut place = Place::Blank;
-    let mut rest = text;
-    while !rest.is_empty() {
-        if lacks_break(place, rest) {
-            return false;
-        }
-        place = place_behind(place, rest);
-        rest = &rest[1..];
-    }
-    true
-}
-
-// A copy of the text, with each line break that is wanting.
-fn wanting_put(alloc: Global, text: &[u8]) -> Result<Vec<u8>, AllocError>
+// The text with each line break that PEM wants.
+pub fn unfolded(alloc: Global, text: &[u8]) -> Result<Vec<u8>, AllocError>
     ensures { IfOk result (λ whole. whole.items ≡ unfolded_is blank text.now) }
 {
     let mut whole = Vec::new(alloc);

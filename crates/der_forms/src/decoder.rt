@@ -5,12 +5,12 @@ ghost use Rattle.base64.specs.Engines.{standard};
 ghost use Rattle.base64.specs.GeneralPurpose.{IsBytes, decode_of};
 ghost use Rattle.der_forms.specs.Forms.{without_spaces};
 
-use crate::base64_text::{decode, push_symbols, symbols_of_octets};
+use crate::base64_text::{decode, symbols_of_octets};
 use base64::DecodeError;
 use std::alloc::{AllocError, Global};
 
-// How many symbols are decoded at once, at least.
-const LEAST_SYMBOLS: usize = 4096;
+// How many symbols are decoded at once, in whole groups of four.
+const MOST_SYMBOLS: usize = 4096;
 
 // What the first symbols spell, in whole groups, and the symbols behind them.
 #[derive(Drop)]
@@ -23,9 +23,8 @@ pub struct Decoder {
 }
 
 impl Decoder {
-    ghost use Rattle.std.specs.Prelude.{◌++◌, [], MatchResult, OnOk};
+    ghost use Rattle.std.specs.Prelude.{◌++◌, ◌∷◌, [], MatchResult, OnOk};
     ghost use Rattle.der_forms.specs.Decoded.{symbols_read};
-    ghost use Rattle.der_forms.specs.Objects.{symbols_of};
 
     // A decoder that has read no symbols.
     pub fn new(alloc: Global) -> Decoder
@@ -38,22 +37,23 @@ impl Decoder {
         }
     }
 
-    // Reads the symbols of a line. One with a colon is a header of the object (RFC 1421).
-    pub fn read_line(&mut self, alloc: Global, line: &[u8]) -> Result<(), AllocError>
-        ensures { OnOk result (symbols_read self.new ≡ symbols_read self.old ++ symbols_of line.now) }
+    // Reads the symbols of a text.
+    pub fn read(&mut self, alloc: Global, text: &[u8]) -> Result<(), AllocError>
+        ensures { OnOk result (symbols_read self.new ≡ symbols_read self.old ++ without_spaces text.now) }
     {
-        if line.contains(&b':') {
-            return Ok(());
+        for b in text {
+            if !b.is_ascii_whitespace() {
+                self.read_symbol(alloc, *b)?;
+            }
         }
-        self.read(alloc, line)
+        Ok(())
     }
 
-    // Reads the symbols of a part of a text.
-    fn read(&mut self, alloc: Global, part: &[u8]) -> Result<(), AllocError>
-        ensures { OnOk result (symbols_read self.new ≡ symbols_read self.old ++ without_spaces part.now) }
+    fn read_symbol(&mut self, alloc: Global, symbol: u8) -> Result<(), AllocError>
+        ensures { OnOk result (symbols_read self.new ≡ symbols_read self.old ++ symbol ∷ []) }
     {
-        push_symbols(part, &mut self.symbols)?;
-        if self.is_early && self.symbols.len() >= LEAST_SYMBOLS && self.symbols.len() % 4 == 0 {
+        self.symbols.push(symbol)?;
+        if self.is_early && self.symbols.len() == MOST_SYMBOLS {
             self.decode_front(alloc)?;
         }
         Ok(())
@@ -96,8 +96,8 @@ impl Decoder {
 // How many symbols stand before the one at fault, the last one where their number is at fault.
 fn place_of(fault: &DecodeError, count: usize) -> usize {
     match fault {
-        DecodeError::InvalidByte(offset, _) => *offset,
-        DecodeError::InvalidLastSymbol { offset, .. } => *offset,
+        DecodeError::InvalidByte(offset, _) | DecodeError::InvalidLastSymbol { offset, .. } =>
+            *offset,
         DecodeError::InvalidLength(_) | DecodeError::InvalidPadding => count.saturating_sub(1),
     }
 }
@@ -109,12 +109,7 @@ pub fn octets_in(alloc: Global, text: &[u8]) -> Result<Option<Vec<u8>>, AllocErr
         (λ v. decode_of standard (without_spaces text.now) ≡ Ok v.items)) }
 {
     let mut decoder = Decoder::new(alloc);
-    let mut rest = text;
-    while !rest.is_empty() {
-        let (part, after) = rest.split_at(rest.len().min(LEAST_SYMBOLS));
-        decoder.read(alloc, part)?;
-        rest = after;
-    }
+    decoder.read(alloc, text)?;
     match decoder.finish(alloc)? {
         Ok(octets) => Ok(Some(octets)),
         Err(_) => Ok(None),

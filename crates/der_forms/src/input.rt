@@ -66,19 +66,12 @@ fn text_form(alloc: Global, text: &[u8]) -> Result<InputForm, AllocError>
     if hex_text::has_other_columns(text) {
         Ok(InputForm::OtherColumns)
     } else if hex_text::is_in_columns(text) && layouts::are_some_left_out(text) {
-        columns_form(alloc, text)
+        match layouts::columns_octets(alloc, text)? {
+            Some(octets) => Ok(InputForm::LaidOut(octets)),
+            None => Ok(form_left_out(text)),
+        }
     } else {
         symbols_form(alloc, text)
-    }
-}
-
-// The form of columns with lines left out.
-fn columns_form(alloc: Global, text: &[u8]) -> Result<InputForm, AllocError>
-    ensures { IfOk result (λ form. shown form ≡ unknown_text) }
-{
-    match layouts::columns_spelling(alloc, text)? {
-        Spelling::Octets(octets) => Ok(InputForm::LaidOut(octets)),
-        Spelling::Odd | Spelling::Nothing => Ok(form_left_out(text)),
     }
 }
 
@@ -98,20 +91,12 @@ fn form_without_digits(alloc: Global, text: &[u8]) -> Result<InputForm, AllocErr
     ensures { IfOk result (λ form. shown form ≡ (if has_value text.now then unknown_text
         else of_base64 (decode_base64 standard (without_spaces text.now)) (without_spaces text.now))) }
 {
-    if layouts::has_value(text) {
-        source_form(alloc, text)
-    } else {
-        base64_form(alloc, text)
+    if !layouts::has_value(text) {
+        return base64_form(alloc, text);
     }
-}
-
-// The form of a source of C.
-fn source_form(alloc: Global, text: &[u8]) -> Result<InputForm, AllocError>
-    ensures { IfOk result (λ form. shown form ≡ unknown_text) }
-{
-    match layouts::source_spelling(alloc, text)? {
-        Spelling::Octets(octets) => Ok(InputForm::LaidOut(octets)),
-        Spelling::Odd | Spelling::Nothing => Ok(form_unknown(text)),
+    match layouts::source_octets(alloc, text)? {
+        Some(octets) => Ok(InputForm::LaidOut(octets)),
+        None => Ok(form_unknown(text)),
     }
 }
 
@@ -122,28 +107,21 @@ fn base64_form(alloc: Global, text: &[u8]) -> Result<InputForm, AllocError>
     match decoder::octets_in(alloc, text)? {
         Some(octets) if octets.starts_with(&[0x30]) => Ok(InputForm::Spelled(octets)),
         Some(_) => Ok(form_unknown(text)),
-        None => unpadded_form(alloc, text),
+        None => loose_base64_form(alloc, text),
     }
 }
 
-// The form of text that is no base64 with its padding.
-fn unpadded_form(alloc: Global, text: &[u8]) -> Result<InputForm, AllocError>
+// The form of base64 without its padding, or of base64url.
+fn loose_base64_form(alloc: Global, text: &[u8]) -> Result<InputForm, AllocError>
     ensures { IfOk result (λ form. shown form ≡ of_loose_base64 (without_spaces text.now)) }
 {
     let symbols = base64_text::without_spaces(alloc, text)?;
-    loose_base64_form(alloc, &symbols, text)
-}
-
-// The form of base64 without its padding, or of base64url.
-fn loose_base64_form(alloc: Global, symbols: &[u8], text: &[u8]) -> Result<InputForm, AllocError>
-    ensures { IfOk result (λ form. shown form ≡ of_loose_base64 symbols.now) }
-{
-    if let Some(octets) = base64_text::decode_by(alloc, &STANDARD_PAD_INDIFFERENT, symbols)?
+    if let Some(octets) = base64_text::decode_by(alloc, &STANDARD_PAD_INDIFFERENT, &symbols)?
         && is_sequence(&octets)
     {
         return Ok(InputForm::Spelled(octets));
     }
-    if let Some(octets) = base64_text::decode_by(alloc, &URL_SAFE_PAD_INDIFFERENT, symbols)?
+    if let Some(octets) = base64_text::decode_by(alloc, &URL_SAFE_PAD_INDIFFERENT, &symbols)?
         && is_sequence(&octets)
     {
         return Ok(InputForm::Spelled(octets));
@@ -363,10 +341,8 @@ fn first_object(alloc: Global, input: &[u8]) -> Result<LabelledDocument, FormFau
     if let Some((line, what)) = bad_end {
         return Err(FormFault::BadEnd(line, what));
     }
-    let mut copy = Vec::new(alloc);
-    copy.extend_from_slice(label)?;
     Ok(LabelledDocument {
-        label: Some(copy),
+        label: Some(Vec::from_slice(alloc, label)?),
         octets,
     })
 }

@@ -6,16 +6,14 @@ ghost use Rattle.der_forms.specs.Forms.{begins_object, has_object, is_text_octet
 ghost use Rattle.der_forms.specs.Objects.{end_label_in, ends_object, label_in};
 ghost use Rattle.der_io.specs.Lines.{lines_of};
 
-use der_digits::search::{part_before, without_indent};
-use der_io::split_line;
+use der_digits::lines::LineIter;
+use der_digits::search::{behind, part_before, without_indent};
 
 /// How a line begins that begins an object.
 pub const BEGIN: &[u8] = b"-----BEGIN ";
 
 /// How a line begins that ends an object.
 pub const END: &[u8] = b"-----END ";
-
-const END_SIZE: usize = END.len();
 
 // How the rest of such a line begins, behind the label.
 const HYPHENS: &[u8] = b"-----";
@@ -56,16 +54,13 @@ pub fn without_mark(input: &[u8]) -> &[u8]
 pub fn is_pem(text: &[u8]) -> bool
     ensures { result ≡ has_object (lines_of text.now) }
 {
-    let mut rest = text;
-    while !rest.is_empty() {
-        let (line, after) = split_line(rest);
+    for line in LineIter(text) {
         if is_begin(line) {
             return true;
         }
         if !is_text(line) {
             return false;
         }
-        rest = after;
     }
     false
 }
@@ -96,17 +91,15 @@ pub fn label_of(line: &[u8]) -> Option<&[u8]>
     ensures { MatchOption result (begins_object line.now ≡ false)
         (λ label. (begins_object line.now ≡ true) × (label.now ≡ label_in line.now)) }
 {
-    let behind = without_indent(line).strip_prefix(BEGIN)?;
-    Some(part_before(HYPHENS, behind))
+    let label = without_indent(line).strip_prefix(BEGIN)?;
+    Some(part_before(HYPHENS, label))
 }
 
 // The label in a line that ends an object.
 pub fn end_label_of(line: &[u8]) -> &[u8]
     ensures { result.now ≡ end_label_in line.now }
 {
-    let text = without_indent(line);
-    let (_, behind) = text.split_at(text.len().min(END_SIZE));
-    part_before(HYPHENS, behind)
+    part_before(HYPHENS, behind(END.len(), without_indent(line)))
 }
 
 pub fn is_text(line: &[u8]) -> bool

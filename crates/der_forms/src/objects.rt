@@ -3,13 +3,15 @@ ghost use Rattle.std.specs.Prelude.{◌≡◌, ◌≢◌, ◌∷◌, ◌<◌, �
 ghost use Rattle.std.specs.Option.{option_map};
 ghost use Rattle.std.specs.Result.{result_ok};
 ghost use Rattle.der_forms.specs.Decoded.{symbols_read};
-ghost use Rattle.der_forms.specs.Objects.{ending_by, ending_in, ends_object, is_encrypted, is_openssh, object_in, objects_in, octets_in, symbols_in, unless_openssh};
+ghost use Rattle.der_forms.specs.Forms.{without_spaces};
+ghost use Rattle.der_forms.specs.Objects.{ending_by, ending_in, ends_object, is_encrypted, object_in, objects_in, octets_in, symbols_in, symbols_of, unless_openssh};
 ghost use Rattle.der_forms.specs.Shown.{shown_object};
 ghost use Rattle.der_forms.specs.declared.objects.Ending.TheVariants.{Closed};
 ghost use Rattle.der_io.specs.Lines.{lines_of};
 
 use crate::decoder::Decoder;
 use crate::lines::{BEGIN, Lines, end_label_of, is_end, label_of, tells_encryption};
+use der_digits::lines::LineIter;
 use der_digits::search::{contains, part_before};
 use der_io::split_line;
 use std::alloc::{AllocError, Global};
@@ -134,27 +136,27 @@ fn read_body<'a>(alloc: Global, label: &[u8], lines: Lines<'a>) -> Result<Body<'
 {
     let mut decoder = Decoder::new(alloc);
     let mut is_encrypted = false;
-    let mut is_ended = false;
-    let mut ending = Ending::Missing;
     let mut rest = lines.rest;
     let mut before = lines.before;
-    while !is_ended && !rest.is_empty() {
+    while !rest.is_empty() {
         let (line, after) = split_line(rest);
         if is_end(line) {
-            is_ended = true;
-            ending = ending_of(label, line);
-            Lines { rest, before } = behind_end(Lines { rest, before });
-        } else {
-            is_encrypted = is_encrypted || tells_encryption(line);
-            decoder.read_line(alloc, line)?;
-            rest = after;
-            before = before.saturating_add(1);
+            return Ok(Body {
+                decoder,
+                is_encrypted,
+                ending: ending_of(label, line),
+                after: behind_end(Lines { rest, before }),
+            });
         }
+        is_encrypted = is_encrypted || tells_encryption(line);
+        decoder.read(alloc, base64_in(line))?;
+        rest = after;
+        before = before.saturating_add(1);
     }
     Ok(Body {
         decoder,
         is_encrypted,
-        ending,
+        ending: Ending::Missing,
         after: Lines { rest, before },
     })
 }
@@ -171,10 +173,7 @@ fn behind_end<'a>(lines: Lines<'a>) -> Lines<'a>
     let begun = part_before(BEGIN, line).len();
     if begun < line.len() {
         let (_, rest) = lines.rest.split_at(begun);
-        return Lines {
-            rest,
-            before: lines.before,
-        };
+        return Lines { rest, ..lines };
     }
     Lines {
         rest: after,
@@ -218,41 +217,31 @@ fn octets_of(
 fn unless_openssh(octets: Vec<u8>) -> Result<Vec<u8>, PemFault>
     ensures { option_map (λ v. v.items) (result_ok result) ≡ unless_openssh octets.items }
 {
-    if is_openssh(&octets) {
+    if octets.starts_with(b"openssh-key-v1\0") {
         Err(PemFault::OpenSsh)
     } else {
         Ok(octets)
     }
 }
 
-// Whether the octets are a private key in the form of OpenSSH.
-fn is_openssh(octets: &[u8]) -> bool
-    ensures { result ≡ is_openssh octets.now }
+// The part of a line that has symbols of base 64. One with a colon is a header of the object (RFC 1421).
+fn base64_in(line: &[u8]) -> &[u8]
+    ensures { without_spaces result.now ≡ symbols_of line.now }
 {
-    octets.starts_with(b"openssh-key-v1") && octets[14..].starts_with(&[0])
+    if line.contains(&b':') { &[] } else { line }
 }
 
 // The number of the line in which so many symbols stand before another.
 fn line_of(lines: Lines<'_>, place: usize) -> usize {
-    let mut rest = lines.rest;
     let mut number = lines.before;
     let mut left = place;
-    while !rest.is_empty() {
-        let (line, after) = split_line(rest);
+    for line in LineIter(lines.rest) {
         number = number.saturating_add(1);
-        let count = symbol_count(line);
-        if left < count {
-            return number;
+        let symbols = base64_in(line).iter().filter(|b| !b.is_ascii_whitespace());
+        match left.checked_sub(symbols.count()) {
+            Some(fewer) => left = fewer,
+            None => break,
         }
-        left -= count;
-        rest = after;
     }
     number
-}
-
-fn symbol_count(line: &[u8]) -> usize {
-    if line.contains(&b':') {
-        return 0;
-    }
-    line.iter().filter(|b| !b.is_ascii_whitespace()).count()
 }

@@ -1,10 +1,9 @@
 // An input as text.
-ghost use Rattle.std.specs.Prelude.{◌≡◌, ◌+◌, ◌*◌, ◌<◌, ◌∷◌, if◌then◌else◌, length, string_bytes, IfOk};
-ghost use Rattle.der_forms.specs.Forms.{without_mark};
+ghost use Rattle.std.specs.Prelude.{◌≡◌, ◌+◌, ◌*◌, if◌then◌else◌, string_bytes, IfOk};
 ghost use Rattle.der_forms.specs.Texts.{has_begin, if_text as if_text_is, in_utf8 as in_utf8_is, text_of as text_is, units_of};
 
-use crate::breaks::{unfolded, with_breaks};
-use crate::lines::{BEGIN, is_text};
+use crate::breaks::{is_in_lines, unfolded, with_breaks};
+use crate::lines::{BEGIN, is_text, without_mark};
 use der_digits::hex_text::is_in_columns;
 use der_digits::search::contains;
 use std::alloc::{AllocError, Global};
@@ -18,24 +17,14 @@ pub fn text_of(alloc: Global, input: Vec<u8>) -> Result<Vec<u8>, AllocError>
     ensures { IfOk result (λ text. text.items ≡ text_is input.items) }
 {
     let text = in_utf8(alloc, input)?;
-    if has_begin(&text) {
-        let unmarked = unmarked(alloc, text)?;
-        let broken = with_breaks(alloc, unmarked)?;
-        unfolded(alloc, broken)
-    } else {
-        Ok(text)
+    if !has_begin(&text) {
+        return Ok(text);
     }
-}
-
-// The text without a byte order mark. Text that has none is not copied.
-fn unmarked(alloc: Global, text: Vec<u8>) -> Result<Vec<u8>, AllocError>
-    ensures { IfOk result (λ unmarked. unmarked.items ≡ without_mark text.items) }
-{
-    if text.starts_with(&[0xEF, 0xBB, 0xBF]) {
-        Vec::from_slice(alloc, &text[3..])
-    } else {
-        Ok(text)
+    if is_in_lines(&text) {
+        return Ok(text);
     }
+    let broken = with_breaks(alloc, without_mark(&text))?;
+    unfolded(alloc, &broken)
 }
 
 // Whether an object of PEM begins somewhere in a text.
@@ -75,24 +64,16 @@ fn units_of(alloc: Global, is_first: bool, octets: &[u8]) -> Result<Vec<u16>, Al
 {
     let mut units = Vec::new(alloc);
     let mut rest = octets;
-    while !rest.is_empty() {
-        let (unit, after) = first_unit(is_first, rest);
-        units.push(unit)?;
+    while let [a, b, after @ ..] = rest {
+        units.push(unit_of(is_first, *a, *b))?;
         rest = after;
     }
-    Ok(units)
-}
-
-// The first unit and the octets behind it.
-fn first_unit(is_first: bool, octets: &[u8]) -> (u16, &[u8])
-    requires { 0 < length octets.now }
-    ensures first { units_of is_first octets.now ≡ result.0 ∷ units_of is_first result.1.now }
-    ensures shorter { length result.1.now < length octets.now }
-{
-    match octets {
-        [a, b, after @ ..] => (unit_of(is_first, *a, *b), after),
-        [a] => (u16::from(*a), &[]),
-        [] => unreachable!(),
+    match rest {
+        [a, ..] => {
+            units.push(u16::from(*a))?;
+            Ok(units)
+        }
+        [] => Ok(units),
     }
 }
 

@@ -4,12 +4,10 @@ ghost use Rattle.der_forms.specs.Forms.{unknown_text};
 ghost use Rattle.der_forms.specs.Shown.{shown};
 
 use crate::input::InputForm;
-use der_digits::hex_text::{
-    begins_prefix, digits_column, digits_part, is_in_columns, may_separate,
-};
+use der_digits::hex_text::{Symbols, digits_column, digits_part, is_in_columns};
 use der_digits::layouts::leaves_out;
+use der_digits::lines::LineIter;
 use der_digits::search::contains;
-use der_io::split_line;
 
 // Text, with the first line that is in no form.
 pub fn form_unknown(text: &[u8]) -> InputForm
@@ -17,10 +15,9 @@ pub fn form_unknown(text: &[u8]) -> InputForm
 {
     let in_columns = is_in_columns(text);
     let is_source = contains(b"= {", text) || contains(b"= \"", text);
-    let mut rest = text;
-    let mut number: usize = 1;
-    while !rest.is_empty() {
-        let (line, after) = split_line(rest);
+    let mut number: usize = 0;
+    for line in LineIter(text) {
+        number = number.saturating_add(1);
         if leaves_out(line) {
             return InputForm::LeftOut(number);
         }
@@ -28,11 +25,7 @@ pub fn form_unknown(text: &[u8]) -> InputForm
             && !has_symbols_alone(line)
             && !(is_source && may_be_in_source(line))
         {
-            return InputForm::Text(number);
-        }
-        rest = after;
-        if !rest.is_empty() {
-            number = number.saturating_add(1);
+            break;
         }
     }
     InputForm::Text(number)
@@ -42,14 +35,11 @@ pub fn form_unknown(text: &[u8]) -> InputForm
 pub fn form_left_out(text: &[u8]) -> InputForm
     ensures { shown result ≡ unknown_text }
 {
-    let mut rest = text;
     let mut number: usize = 1;
-    while !rest.is_empty() {
-        let (line, after) = split_line(rest);
+    for line in LineIter(text) {
         if leaves_out(line) || !has_digits_alone(digits_column(line)) {
             break;
         }
-        rest = after;
         number = number.saturating_add(1);
     }
     InputForm::LeftOut(number)
@@ -57,17 +47,7 @@ pub fn form_left_out(text: &[u8]) -> InputForm
 
 // Whether hex digits, and what may stand between them, are all of the line.
 fn has_digits_alone(line: &[u8]) -> bool {
-    let mut rest = line;
-    while !rest.is_empty() {
-        if begins_prefix(rest) {
-            rest = &rest[2..];
-        } else if rest[0].is_ascii_hexdigit() || may_separate(rest[0]) {
-            rest = &rest[1..];
-        } else {
-            return false;
-        }
-    }
-    true
+    Symbols(line).all(|symbol| symbol.is_ascii_hexdigit())
 }
 
 // Whether symbols of base64 or base64url, and white space, are all of the line.

@@ -1,13 +1,13 @@
 -- Characters, and digits of numbers.
-use Rattle.std.proofs.Common.{◌≡◌, ◌≢◌, ◌≤◌, ◌<◌, ◌+◌, ◌^◌, ℕ, zero, suc, Bool, true, ◌&&◌, not, nat_le, nat_lt, List, [], ◌∷◌, get_or, map, decimal, arith, subst, sym}
-use Rattle.std.specs.Prelude.{nat_eq}
+use Rattle.std.proofs.Common.{◌≡◌, ◌≢◌, ◌≤◌, ◌<◌, ◌+◌, ◌^◌, ℕ, zero, suc, true, List, [], ◌∷◌, get_or, map, decimal, arith, inl, inr, subst, sym}
+use Rattle.std.specs.Prelude.{EachIndex}
 use Rattle.std.proofs.lemmas.Str.{encode_ascii}
 use Rattle.std.proofs.lemmas.Fmt.{decimal_digit, decimal-digits_of}
 use Rattle.std.proofs.lemmas.Int.Digits.{all_below_base_digits_of, first_digits_of}
 use Rattle.std.specs.Int.Digits.{AllBelowBase, digits_of}
 use Rattle.std.specs.List.{AllByRecursion}
 use Rattle.der_io.specs.Escaped.{is_shown}
-use Rattle.dump_json.specs.Grammar.{AreChars, IsChar, IsDigit, IsInt}
+use Rattle.dump_json.specs.Grammar.{AreChars, IsChar, IsDigit, IsHexDigit, IsInt, is_plain}
 use Rattle.dump_json.proofs.Texts.{AreChars-append, AreChars-one}
 
 -- a character that is shown is no control character
@@ -23,10 +23,6 @@ AreChars-ascii b low high quote backslash =
     subst AreChars (encode_ascii b (omega (arith, high)))
     (AreChars-one _ (IsChar.unescaped b (low, quote, backslash, omega (arith, high), is_shown-ascii b low high)))
 
--- the character of ASCII stands for itself
-abbrev pub is_plain : ℕ → Bool
-is_plain b = nat_le 0x20 b && (nat_lt b 0x7F && (not (nat_eq b 0x22) && not (nat_eq b 0x5C)))
-
 AreChars-plain_one : (b : ℕ) → is_plain b ≡ true → AreChars (b ∷ [])
 AreChars-plain_one b e =
     AreChars-ascii b (grind (arith, e)) (grind (arith, e)) (grind (arith, e)) (grind (arith, e))
@@ -35,6 +31,19 @@ AreChars-plain_one b e =
 pub AreChars-plain : (t : List ℕ) → AllByRecursion (λ b. is_plain b ≡ true) t → AreChars t
 AreChars-plain [] h = AreChars.none
 AreChars-plain (b ∷ t) (e, h) = AreChars-append (b ∷ []) t (AreChars-plain_one b e) (AreChars-plain t h)
+
+pub AreChars-each : (t : List ℕ) → EachIndex t (λ k. is_plain (get_or t k 0) ≡ true) → AreChars t
+AreChars-each [] h = AreChars.none
+AreChars-each (b ∷ t) h =
+    AreChars-append (b ∷ []) t (AreChars-plain_one b (h 0 (omega arith)))
+    (AreChars-each t (λ k l. h (suc k) (omega (arith, l))))
+
+-- a hex digit
+pub AreChars-digit : (b : ℕ) → IsHexDigit b → AreChars (b ∷ [])
+AreChars-digit b (inl (low, high)) =
+    AreChars-ascii b (omega (arith, low)) (omega (arith, high)) (omega (arith, low)) (omega (arith, high))
+AreChars-digit b (inr (low, high)) =
+    AreChars-ascii b (omega (arith, low)) (omega (arith, high)) (omega (arith, low)) (omega (arith, low))
 
 AreDigits-below : (ds : List ℕ) → AllBelowBase 10 ds → AllByRecursion IsDigit (map (λ d. 48 + d) ds)
 AreDigits-below [] h = h

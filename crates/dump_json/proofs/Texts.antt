@@ -1,7 +1,8 @@
 -- Texts that are put after others.
-use Rattle.std.proofs.Common.{◌≡◌, ◌∙◌, ◌⊎◌, inl, inr, ℕ, List, [], ◌++◌, ap, append_assoc, append-nil, codes, refl, subst, sym, drop}
+use Rattle.std.proofs.Common.{◌≡◌, ◌∙◌, ℕ, Bool, true, List, [], ◌++◌, ap, append_assoc, append-nil, codes, subst, sym}
 use Rattle.dump_walk.specs.Texts.{Adds}
-use Rattle.dump_json.specs.Grammar.{AreChars, IsChar, IsString, IsValue, IsMember, AreMoreMembers, AreMoreItems}
+use Rattle.dump_json.specs.Grammar.{AreChars, IsChar, IsMember, IsOpenObject, IsString, IsValue, comma_if}
+use Rattle.dump_json.specs.Lines.{IsLine, Turns}
 
 -- texts of a kind that is closed under putting one after another
 pub Adds-trans :
@@ -22,6 +23,30 @@ append-three a x y z b c d e f g =
     g ∙ (ap (λ s. s ++ z) (f ∙ (ap (λ s. s ++ y) e ∙ append_assoc a x y))
     ∙ (append_assoc a (x ++ y) z ∙ ap (λ s. a ++ s) (append_assoc x y z)))
 
+-- a text put after none
+pub Adds-alone : (Is : List ℕ → Type 0) (a b : List ℕ) → a ≡ [] → Adds Is a b → Is b
+Adds-alone Is a b none (t, e, h) = subst Is (sym (e ∙ ap (λ z. z ++ t) none)) h
+
+-- a text put after one of the kind that it goes on with
+pub Adds-turned : (P Q : List ℕ → Type 0) (t a b : List ℕ) → P t → a ≡ t → Adds (Turns P Q) a b → Q b
+Adds-turned P Q t a b h e (s, f, turn) = subst Q (sym (f ∙ ap (λ z. z ++ s) e)) (turn t h)
+
+-- a text of a kind, and one that goes on with it
+pub Adds-then : (P Q : List ℕ → Type 0) (a b c : List ℕ) → Adds P a b → Adds (Turns P Q) b c → Adds Q a c
+Adds-then P Q a b c (s, e, h) (t, f, turn) = (s ++ t, f ∙ (ap (λ z. z ++ t) e ∙ append_assoc a s t), turn s h)
+
+pub Turns-then : (P Q R : List ℕ → Type 0) (s t : List ℕ) → Turns P Q s → Turns Q R t → Turns P R (s ++ t)
+Turns-then P Q R s t turn again u h = subst R (append_assoc u s t) (again (u ++ s) (turn u h))
+
+pub Turns-none : (P : List ℕ → Type 0) → Turns P P []
+Turns-none P t h = subst P (sym (append-nil t)) h
+
+-- two texts, the second of which goes on with what the first makes
+pub Adds-again :
+    (P Q R : List ℕ → Type 0) (a b c : List ℕ) → Adds (Turns P Q) a b → Adds (Turns Q R) b c → Adds (Turns P R) a c
+Adds-again P Q R a b c (s, e, turn) (t, f, again) =
+    (s ++ t, f ∙ (ap (λ z. z ++ t) e ∙ append_assoc a s t), Turns-then P Q R s t turn again)
+
 pub AreChars-append : (s t : List ℕ) → AreChars s → AreChars t → AreChars (s ++ t)
 AreChars-append s _ h AreChars.none = subst AreChars (sym (append-nil s)) h
 AreChars-append s _ h (AreChars.more cs c k x) =
@@ -30,113 +55,31 @@ AreChars-append s _ h (AreChars.more cs c k x) =
 pub AreChars-one : (c : List ℕ) → IsChar c → AreChars c
 AreChars-one c x = AreChars.more [] c AreChars.none x
 
-pub AreMoreMembers-append : (s t : List ℕ) → AreMoreMembers s → AreMoreMembers t → AreMoreMembers (s ++ t)
-AreMoreMembers-append s _ h AreMoreMembers.no_more_members = subst AreMoreMembers (sym (append-nil s)) h
-AreMoreMembers-append s _ h (AreMoreMembers.more_members ms m k x) =
-    subst AreMoreMembers (append_assoc s ms (codes "," ++ m))
-    (AreMoreMembers.more_members (s ++ ms) m (AreMoreMembers-append s ms h k) x)
+-- characters between quotation marks
+pub Adds-string :
+    (a b c d : List ℕ) → b ≡ a ++ codes "\"" → Adds AreChars b c → d ≡ c ++ codes "\"" → Adds IsString a d
+Adds-string a b c d e (t, f, h) g =
+    (codes "\"" ++ (t ++ codes "\""), append-three a (codes "\"") t (codes "\"") b c d e f g, IsString.quoted t h)
 
-AreMoreMembers-next :
-    (s n : List ℕ) → IsMember n →
-    (s ≡ []) ⊎ ((m ms : List ℕ) × (s ≡ codes "," ++ (m ++ ms)) × IsMember m × AreMoreMembers ms) →
-    (s ++ (codes "," ++ n) ≡ [])
-    ⊎ ((m ms : List ℕ) × (s ++ (codes "," ++ n) ≡ codes "," ++ (m ++ ms)) × IsMember m × AreMoreMembers ms)
-AreMoreMembers-next s n x (inl e) =
-    inr (
-      n,
-      [],
-      ap (λ z. z ++ (codes "," ++ n)) e ∙ ap (λ z. codes "," ++ z) (sym (append-nil n)),
-      x,
-      AreMoreMembers.no_more_members,
-    )
-AreMoreMembers-next s n x (inr (m, ms, e, y, h)) =
-    inr (
-      m,
-      ms ++ (codes "," ++ n),
-      ap (λ z. z ++ (codes "," ++ n)) e ∙ ap (λ z. codes "," ++ z) (append_assoc m ms (codes "," ++ n)),
-      y,
-      AreMoreMembers.more_members ms n h x,
-    )
+-- a comma, if others stand before; a name, a colon and a value
+pub Adds-member :
+    (later : Bool) (a b c d e : List ℕ) → b ≡ a ++ comma_if later → Adds IsString b c → d ≡ c ++ codes ":" →
+    Adds IsValue d e → Adds (Turns (IsOpenObject later) (IsOpenObject true)) a e
+Adds-member later a b c d e f (name, g, h) i (v, j, k) = (
+  comma_if later ++ (name ++ (codes ":" ++ v)),
+  append-three b name (codes ":") v c d e g i j
+      ∙ (ap (λ z. z ++ (name ++ (codes ":" ++ v))) f ∙ append_assoc a (comma_if later) (name ++ (codes ":" ++ v))),
+  λ t o. IsOpenObject.with_member later t (name ++ (codes ":" ++ v)) o (IsMember.member name v h k),
+)
 
--- members behind a comma each: none, or a first one and more
-pub AreMoreMembers-first :
-    (t : List ℕ) → AreMoreMembers t →
-    (t ≡ []) ⊎ ((m ms : List ℕ) × (t ≡ codes "," ++ (m ++ ms)) × IsMember m × AreMoreMembers ms)
-AreMoreMembers-first _ AreMoreMembers.no_more_members = inl refl
-AreMoreMembers-first _ (AreMoreMembers.more_members ms m h x) = AreMoreMembers-next ms m x (AreMoreMembers-first ms h)
+-- the end of an object
+pub Adds-end : (later : Bool) (a b : List ℕ) → b ≡ a ++ codes "}" → Adds (Turns (IsOpenObject later) IsValue) a b
+Adds-end later a b e = (codes "}", e, λ t o. IsValue.object later t o)
 
-IsValue-of_first :
-    (t : List ℕ) →
-    (t ≡ []) ⊎ ((m ms : List ℕ) × (t ≡ codes "," ++ (m ++ ms)) × IsMember m × AreMoreMembers ms) →
-    IsValue (codes "{" ++ (drop 1 t ++ codes "}"))
-IsValue-of_first t (inl e) =
-    subst (λ z. IsValue (codes "{" ++ (drop 1 z ++ codes "}"))) (sym e) IsValue.no_members
-IsValue-of_first t (inr (m, ms, e, x, h)) =
-    subst (λ z. IsValue (codes "{" ++ (drop 1 z ++ codes "}"))) (sym e)
-    (subst (λ z. IsValue (codes "{" ++ z)) (sym (append_assoc m ms (codes "}"))) (IsValue.object m ms x h))
-
-AreMoreItems-next :
-    (s n : List ℕ) → IsValue n →
-    (s ≡ []) ⊎ ((v vs : List ℕ) × (s ≡ codes "," ++ (v ++ vs)) × IsValue v × AreMoreItems vs) →
-    (s ++ (codes "," ++ n) ≡ [])
-    ⊎ ((v vs : List ℕ) × (s ++ (codes "," ++ n) ≡ codes "," ++ (v ++ vs)) × IsValue v × AreMoreItems vs)
-AreMoreItems-next s n x (inl e) =
-    inr (
-      n,
-      [],
-      ap (λ z. z ++ (codes "," ++ n)) e ∙ ap (λ z. codes "," ++ z) (sym (append-nil n)),
-      x,
-      AreMoreItems.no_more_items,
-    )
-AreMoreItems-next s n x (inr (v, vs, e, y, h)) =
-    inr (
-      v,
-      vs ++ (codes "," ++ n),
-      ap (λ z. z ++ (codes "," ++ n)) e ∙ ap (λ z. codes "," ++ z) (append_assoc v vs (codes "," ++ n)),
-      y,
-      AreMoreItems.more_items vs n h x,
-    )
-
--- the object of members behind a comma each
-pub IsValue-members : (t : List ℕ) → AreMoreMembers t → IsValue (codes "{" ++ (drop 1 t ++ codes "}"))
-IsValue-members t h = IsValue-of_first t (AreMoreMembers-first t h)
-
--- items behind a comma each: none, or a first one and more
-pub AreMoreItems-first :
-    (t : List ℕ) → AreMoreItems t →
-    (t ≡ []) ⊎ ((v vs : List ℕ) × (t ≡ codes "," ++ (v ++ vs)) × IsValue v × AreMoreItems vs)
-AreMoreItems-first _ AreMoreItems.no_more_items = inl refl
-AreMoreItems-first _ (AreMoreItems.more_items vs v h x) = AreMoreItems-next vs v x (AreMoreItems-first vs h)
-
-IsValue-of_first_item :
-    (t : List ℕ) →
-    (t ≡ []) ⊎ ((v vs : List ℕ) × (t ≡ codes "," ++ (v ++ vs)) × IsValue v × AreMoreItems vs) →
-    IsValue (codes "[" ++ (drop 1 t ++ codes "]"))
-IsValue-of_first_item t (inl e) =
-    subst (λ z. IsValue (codes "[" ++ (drop 1 z ++ codes "]"))) (sym e) IsValue.no_items
-IsValue-of_first_item t (inr (v, vs, e, x, h)) =
-    subst (λ z. IsValue (codes "[" ++ (drop 1 z ++ codes "]"))) (sym e)
-    (subst (λ z. IsValue (codes "[" ++ z)) (sym (append_assoc v vs (codes "]"))) (IsValue.array v vs x h))
-
--- the array of items behind a comma each
-pub IsValue-items : (t : List ℕ) → AreMoreItems t → IsValue (codes "[" ++ (drop 1 t ++ codes "]"))
-IsValue-items t h = IsValue-of_first_item t (AreMoreItems-first t h)
-
--- members, and a name behind them: a value completes one more
-pub members-name :
-    (ms b c d : List ℕ) → AreMoreMembers ms → b ≡ ms ++ codes "," → Adds IsString b c → d ≡ c ++ codes ":" →
-    (v : List ℕ) → IsValue v → AreMoreMembers (d ++ v)
-members-name ms b c d h e (name, f, k) g v x =
-    subst AreMoreMembers
-    (sym (ap (λ z. z ++ v) (append-three ms (codes ",") name (codes ":") b c d e f g)
-    ∙ (append_assoc ms (codes "," ++ (name ++ codes ":")) v
-    ∙ ap (λ z. ms ++ z) (append_assoc (codes ",") (name ++ codes ":") v
-    ∙ ap (λ z. codes "," ++ z) (append_assoc name (codes ":") v)))))
-    (AreMoreMembers.more_members ms (name ++ (codes ":" ++ v)) h (IsMember.member name v k x))
-
--- items, and a value behind them
-pub items-value :
-    (vs b c : List ℕ) → AreMoreItems vs → b ≡ vs ++ codes "," → Adds IsValue b c → AreMoreItems c
-items-value vs b c h e (v, f, k) =
-    subst AreMoreItems (sym (f ∙ (ap (λ z. z ++ v) e ∙ append_assoc vs (codes ",") v)))
-    (AreMoreItems.more_items vs v h k)
+-- the end of an object, and of its line
+pub Adds-end_line : (later : Bool) (a b : List ℕ) → b ≡ a ++ codes "}\n" → Adds (Turns (IsOpenObject later) IsLine) a b
+Adds-end_line later a b e = (
+  codes "}\n",
+  e,
+  λ t o. (t ++ codes "}", sym (append_assoc t (codes "}") (codes "\n")), IsValue.object later t o),
+)

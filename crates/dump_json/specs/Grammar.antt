@@ -1,6 +1,6 @@
 -- The grammar of RFC 8259, in UTF-8 (section 8.1), but for white space around its structural characters (section 2) and
 -- for fractions and exponents of numbers (section 6), which are never written. Each rule has its name there.
-use Rattle.std.specs.Prelude.{◌≡◌, ◌≢◌, ◌⊎◌, ◌≤◌, ◌==◌, ◌||◌, ℕ, Bool, true, List, [], ◌∷◌, ◌++◌, codes}
+use Rattle.std.specs.Prelude.{◌≡◌, ◌≢◌, ◌⊎◌, ◌≤◌, ◌==◌, ◌&&◌, ◌||◌, ℕ, Bool, false, true, not, nat_le, nat_eq, List, [], ◌∷◌, ◌++◌, codes, if◌then◌else◌}
 use Rattle.std.specs.Char.{encode_utf8}
 use Rattle.std.specs.List.{AllByRecursion}
 use Rattle.der_io.specs.Escaped.{is_shown}
@@ -25,6 +25,10 @@ pub data IsNumber : List ℕ → Type 0 where
 abbrev pub IsUnescaped : ℕ → Type 0
 IsUnescaped c = (0x20 ≤ c) × (c ≢ 0x22) × (c ≢ 0x5C) × (c ≤ 0x10FFFF) × (is_shown c ≡ true)
 
+-- of one octet, unescaped
+abbrev pub is_plain : ℕ → Bool
+is_plain b = nat_le 0x20 b && (nat_le b 0x7E && (not (nat_eq b 0x22) && not (nat_eq b 0x5C)))
+
 -- behind a reverse solidus: %x22 / %x5C / %x2F / %x62 / %x66 / %x6E / %x72 / %x74, or %x75 4HEXDIG
 abbrev pub is_escape : ℕ → Bool
 is_escape c =
@@ -44,7 +48,12 @@ pub data AreChars : List ℕ → Type 0 where
 pub data IsString : List ℕ → Type 0 where
   quoted : (cs : List ℕ) → AreChars cs → IsString (codes "\"" ++ (cs ++ codes "\""))
 
--- sections 3, 4 and 5; AreMoreMembers is *( value-separator member ), and AreMoreItems *( value-separator value )
+-- value-separator, where something stands before
+abbrev pub comma_if : Bool → List ℕ
+comma_if later = if later then codes "," else []
+
+-- sections 3, 4 and 5. An object or an array up to its end is `begin-object [ member *( value-separator member ) ]` or
+-- `begin-array [ value *( value-separator value ) ]`; the first argument says whether something stands in it
 mutual
   pub data IsValue : List ℕ → Type 0 where
     false_name : IsValue (codes "false")
@@ -52,18 +61,20 @@ mutual
     true_name : IsValue (codes "true")
     number : (t : List ℕ) → IsNumber t → IsValue t
     string : (t : List ℕ) → IsString t → IsValue t
-    no_members : IsValue (codes "{}")
-    object : (m ms : List ℕ) → IsMember m → AreMoreMembers ms → IsValue (codes "{" ++ (m ++ (ms ++ codes "}")))
-    no_items : IsValue (codes "[]")
-    array : (v vs : List ℕ) → IsValue v → AreMoreItems vs → IsValue (codes "[" ++ (v ++ (vs ++ codes "]")))
+    object : (later : Bool) (t : List ℕ) → IsOpenObject later t → IsValue (t ++ codes "}")
+    array : (later : Bool) (t : List ℕ) → IsOpenArray later t → IsValue (t ++ codes "]")
 
   pub data IsMember : List ℕ → Type 0 where
     member : (name v : List ℕ) → IsString name → IsValue v → IsMember (name ++ (codes ":" ++ v))
 
-  pub data AreMoreMembers : List ℕ → Type 0 where
-    no_more_members : AreMoreMembers []
-    more_members : (ms m : List ℕ) → AreMoreMembers ms → IsMember m → AreMoreMembers (ms ++ (codes "," ++ m))
+  pub data IsOpenObject : Bool → List ℕ → Type 0 where
+    begin_object : IsOpenObject false (codes "{")
+    with_member :
+        (later : Bool) (t m : List ℕ) → IsOpenObject later t → IsMember m →
+        IsOpenObject true (t ++ (comma_if later ++ m))
 
-  pub data AreMoreItems : List ℕ → Type 0 where
-    no_more_items : AreMoreItems []
-    more_items : (vs v : List ℕ) → AreMoreItems vs → IsValue v → AreMoreItems (vs ++ (codes "," ++ v))
+  pub data IsOpenArray : Bool → List ℕ → Type 0 where
+    begin_array : IsOpenArray false (codes "[")
+    with_item :
+        (later : Bool) (t v : List ℕ) → IsOpenArray later t → IsValue v →
+        IsOpenArray true (t ++ (comma_if later ++ v))

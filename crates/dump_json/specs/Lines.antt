@@ -1,5 +1,5 @@
--- Lines of JSON.
-use Rattle.std.specs.Prelude.{◌≡◌, ◌⊎◌, ℕ, List, [], ◌++◌, codes}
+-- Lines of JSON, and texts that go on with others.
+use Rattle.std.specs.Prelude.{◌≡◌, ℕ, List, ◌++◌, codes}
 use Rattle.dump_json.specs.Grammar.{IsValue}
 
 -- a JSON text of RFC 8259 (section 2) in one line: a value, and one line feed behind it
@@ -11,6 +11,6 @@ pub data AreLines : List ℕ → Type 0 where
   one : (line : List ℕ) → IsLine line → AreLines line
   more : (lines line : List ℕ) → AreLines lines → IsLine line → AreLines (lines ++ line)
 
--- a line, or nothing
-abbrev pub IsLineOrNone : List ℕ → Type 0
-IsLineOrNone text = IsLine text ⊎ (text ≡ [])
+-- behind a text of one kind, it makes one of another
+abbrev pub Turns : (List ℕ → Type 0) → (List ℕ → Type 0) → List ℕ → Type 0
+Turns From To s = (t : List ℕ) → From t → To (t ++ s)

@@ -1,7 +1,6 @@
-// The members `value` and `octets`, of what has a value.
-use crate::members::Members;
+// The values of contents octets.
+use crate::json::Json;
 use crate::value::Value;
-use asn1_leaves::oid::OID;
 use asn1_numbers::number::big_int::BigInt;
 use asn1_numbers::number::big_uint::BigUint;
 use dump_values::value::{Bits, Identifier, LeafValue};
@@ -14,94 +13,77 @@ const GREATEST_NUMBER: u64 = 9_007_199_254_740_991;
 // square of how many they are.
 pub const MOST_DECIMAL: usize = 1024;
 
-// With a tag number; null if it has too many octets to be written in decimal.
-pub fn with_natural(
-    alloc: Global,
-    members: Members,
-    name: &str,
-    number: &BigUint,
-) -> Result<Members, AllocError> {
-    if number.base128_size() > MOST_DECIMAL {
-        return members.with(name, Value::Null);
-    }
+// A tag number; null if it has too many octets to be written in decimal.
+pub fn tag_value(alloc: Global, number: &BigUint) -> Result<Value<'static>, AllocError> {
     match number.to_u64() {
-        Some(n) if n <= GREATEST_NUMBER => members.with(name, Value::Natural(n)),
-        _ => members.with(name, Value::Text(&format!(in alloc; "{number}")?)),
+        Some(n) if n <= GREATEST_NUMBER => Ok(Value::Natural(n)),
+        _ if number.base128_size() > MOST_DECIMAL => Ok(Value::Null),
+        _ => Ok(Value::Made(format!(in alloc; "{number}")?)),
     }
 }
 
-// With a whole number; null if it has too many octets to be written in decimal.
-fn with_integer(alloc: Global, members: Members, number: &BigInt) -> Result<Members, AllocError> {
-    if number.octets().len() > MOST_DECIMAL {
-        return members.with("value", Value::Null);
-    }
+// A whole number; null if it has too many octets to be written in decimal.
+fn integer_value<'a>(alloc: Global, number: &BigInt) -> Result<Value<'a>, AllocError> {
     match number.to_i64() {
-        Some(n) if n.unsigned_abs() <= GREATEST_NUMBER => members.with("value", Value::Integer(n)),
-        _ => members.with("value", Value::Text(&format!(in alloc; "{number}")?)),
+        Some(n) if n.unsigned_abs() <= GREATEST_NUMBER => Ok(Value::Integer(n)),
+        _ if number.octets().len() > MOST_DECIMAL => Ok(Value::Null),
+        _ => Ok(Value::Made(format!(in alloc; "{number}")?)),
     }
 }
 
-// With octets in hex digits.
-pub fn with_octets(
-    alloc: Global,
-    members: Members,
-    name: &str,
-    octets: &[u8],
-) -> Result<Members, AllocError> {
-    members.with(name, Value::Text(&hex::encode(alloc, octets)?))
+// How many bits there are, and these.
+fn bits_value<'a>(alloc: Global, bits: &Bits) -> Result<Value<'a>, AllocError> {
+    let members = [
+        ("bits", Some(Value::count(bits.count))),
+        ("octets", Some(Value::Octets(&bits.octets))),
+    ];
+    Ok(Value::Written(Json::object(alloc, &members)?))
 }
 
-fn with_bits(alloc: Global, members: Members, bits: &Bits) -> Result<Members, AllocError> {
-    let count = Members::new(alloc).with("bits", Value::Natural(bits.count as u64))?;
-    let object = with_octets(alloc, count, "octets", &bits.octets)?;
-    members.with("value", Value::Object(&object))
-}
-
-// With an object identifier of these contents octets; null if they are too many to be written in decimal.
-fn with_identifier(
+// Of these contents octets; null if they are too many to be written in decimal.
+fn identifier_value<'a>(
     alloc: Global,
-    members: Members,
     contents: &[u8],
-    identifier: &Identifier,
-) -> Result<Members, AllocError> {
+    identifier: &'a Identifier,
+) -> Result<Value<'a>, AllocError> {
     if contents.len() > MOST_DECIMAL {
-        return members.with("value", Value::Null);
+        return Ok(Value::Null);
     }
+    let components = &identifier.components;
     match &identifier.dotted {
-        Some(dotted) => members.with("value", Value::Text(dotted)),
-        None => with_components(alloc, members, &identifier.components),
+        Some(dotted) => Ok(Value::Text(dotted)),
+        None => Ok(Value::Made(format!(in alloc; "{components}")?)),
     }
 }
 
-fn with_components(
-    alloc: Global,
-    members: Members,
-    components: &OID,
-) -> Result<Members, AllocError> {
-    members.with("value", Value::Text(&format!(in alloc; "{components}")?))
-}
-
-// With the value of these contents octets of class Universal; null where they are no text of their type.
-pub fn with_value(
-    alloc: Global,
-    members: Members,
-    contents: &[u8],
-    value: &LeafValue,
-) -> Result<Members, AllocError> {
+// The text that a value is.
+fn text_of(value: &LeafValue) -> Option<&str> {
     match value {
-        LeafValue::Boolean(is_true) => members.with("value", Value::Boolean(*is_true)),
-        LeafValue::Integer(number) => with_integer(alloc, members, number),
-        LeafValue::Bits(bits) => with_bits(alloc, members, bits),
-        LeafValue::Identifier(identifier) => with_identifier(alloc, members, contents, identifier),
         LeafValue::Text(text)
         | LeafValue::WideText(_, text)
         | LeafValue::OtherText(text)
-        | LeafValue::Notation(text) => members.with("value", Value::Text(text)),
-        LeafValue::Moment(time) | LeafValue::BerTime(time) => {
-            members.with("value", Value::Text(&time.text))
-        }
+        | LeafValue::Notation(text) => Some(text),
+        LeafValue::Moment(time) | LeafValue::BerTime(time) => Some(&time.text),
+        _ => None,
+    }
+}
+
+// The value of these contents octets of class Universal; null where they are no text of their type.
+pub fn value_in<'a>(
+    alloc: Global,
+    contents: &'a [u8],
+    value: &'a LeafValue,
+) -> Result<Value<'a>, AllocError> {
+    if let Some(text) = text_of(value) {
+        return Ok(Value::Text(text));
+    }
+    match value {
+        LeafValue::Boolean(is_true) => Ok(Value::Boolean(*is_true)),
+        LeafValue::Integer(number) => integer_value(alloc, number),
+        LeafValue::Bits(bits) => bits_value(alloc, bits),
+        LeafValue::Identifier(identifier) => identifier_value(alloc, contents, identifier),
         LeafValue::Octets(_) | LeafValue::Other(_) | LeafValue::Tagged(_) | LeafValue::Address(_) =>
-            with_octets(alloc, members, "value", contents),
-        LeafValue::Null | LeafValue::NoText(_) => members.with("value", Value::Null),
+            { Ok(Value::Octets(contents)) }
+        _ => Ok(Value::Null),
     }
 }

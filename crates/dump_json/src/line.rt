@@ -1,14 +1,14 @@
 // A document as lines of JSON.
-ghost use Rattle.std.specs.Prelude.{IfOk, OnOk};
+ghost use Rattle.std.specs.Prelude.{OnOk};
 ghost use Rattle.der_io.specs.Output.{IsWritten};
-ghost use Rattle.dump_json.specs.Lines.{AreLines, IsLine, IsLineOrNone};
+ghost use Rattle.dump_walk.specs.Texts.{Adds};
+ghost use Rattle.dump_json.specs.Grammar.{IsOpenObject};
+ghost use Rattle.dump_json.specs.Lines.{AreLines, IsLine, Turns};
 
-use crate::fault_object::fault_members;
-use crate::items::Items;
-use crate::members::Members;
-use crate::piece::with_rule;
-use crate::rows::Departure;
-use crate::value::{Value, push_value};
+use crate::json::{Items, Json};
+use crate::members::{Member, push_members};
+use crate::piece::fault_object;
+use crate::value::Value;
 use asn1_headers::error::ASN1DecodeErr;
 use der_io::{StreamFault, write_part};
 use dump_names::Names;
@@ -28,11 +28,12 @@ pub struct Origin<'a> {
     pub label: Option<&'a str>,
 }
 
-impl Origin<'_> {
-    fn add_to(self, members: Members) -> Result<Members, AllocError> {
-        members
-            .with_text("file", self.file)?
-            .with_text("label", self.label)
+impl<'a> Origin<'a> {
+    fn members(self) -> [Member<'a>; 2] {
+        [
+            ("file", self.file.map(Value::Text)),
+            ("label", self.label.map(Value::Text)),
+        ]
     }
 }
 
@@ -71,14 +72,20 @@ impl Dumper<'_> {
     {
         if octets.is_empty() {
             let fault = fault_at(self.alloc, 0, &ASN1DecodeErr::EmptyBuffer)?;
-            self.write_fault(&fault, out)?;
+            self.write_line("fault", fault_object(self.alloc, &fault, 0)?, out)?;
             return Ok(false);
         }
-        let mut departures = Vec::new(self.alloc);
+        let mut departures = Items::new(self.alloc)?;
         let first = self.write_blocks(style, octets, &mut departures, out)?;
-        self.write_departures(&departures, out)?;
-        self.write_first(&first, out)?;
-        Ok(first.is_none() && departures.is_empty())
+        let not_der = departures.if_some()?;
+        let is_right = first.is_none() && not_der.is_none();
+        let fault = match &first {
+            Some(fault) => Some(fault_object(self.alloc, fault, fault.offset)?),
+            None => None,
+        };
+        self.write_some("not_der", not_der, out)?;
+        self.write_some("fault", fault, out)?;
+        Ok(is_right)
     }
 
     // Writes the line of the objects of octets, and returns the first fault.
@@ -86,56 +93,17 @@ impl Dumper<'_> {
         &self,
         style: Style,
         octets: &[u8],
-        departures: &mut Vec<Departure>,
+        departures: &mut Items,
         out: &mut W,
     ) -> Result<Option<Fault>, StreamFault>
         ensures { OnOk result (IsWritten IsLine (W.contents out.old) (W.contents out.new)) }
     {
-        let place = outermost(all_of(style));
-        let members = self.origin.add_to(Members::new(self.alloc))?;
+        let mut end = Vec::new(self.alloc);
+        self.push_end(true, &mut end)?;
         write_part(out, b"{\"blocks\":")?;
-        let first = self.write_rows(octets, place, departures, out)?;
-        write_part(out, members.as_bytes())?;
-        write_part(out, b"}\n")?;
+        let first = self.write_rows(octets, outermost(all_of(style)), departures, out)?;
+        write_part(out, &end)?;
         Ok(first)
-    }
-
-    // Writes the line of what is not DER, if anything is.
-    fn write_departures<W: Write>(
-        &self,
-        departures: &[Departure],
-        out: &mut W,
-    ) -> Result<(), StreamFault>
-        ensures { OnOk result (IsWritten IsLineOrNone (W.contents out.old) (W.contents out.new)) }
-    {
-        if departures.is_empty() {
-            return Ok(());
-        }
-        let items = items_of(self.alloc, departures)?;
-        let members = Members::new(self.alloc).with("not_der", Value::Array(&items))?;
-        self.write_line(members, out)?;
-        Ok(())
-    }
-
-    // Writes the line of the first fault, if there is one.
-    fn write_first<W: Write>(&self, first: &Option<Fault>, out: &mut W) -> Result<(), StreamFault>
-        ensures { OnOk result (IsWritten IsLineOrNone (W.contents out.old) (W.contents out.new)) }
-    {
-        match first {
-            Some(fault) => {
-                self.write_fault(fault, out)?;
-                Ok(())
-            }
-            None => Ok(()),
-        }
-    }
-
-    fn write_fault<W: Write>(&self, fault: &Fault, out: &mut W) -> Result<(), StreamFault>
-        ensures { OnOk result (IsWritten IsLine (W.contents out.old) (W.contents out.new)) }
-    {
-        let object = fault_members(self.alloc, fault.code, Some(fault.offset), &fault.message)?;
-        let members = Members::new(self.alloc).with("fault", Value::Object(&object))?;
-        self.write_line(members, out)
     }
 
     /// Writes a line of JSON that says why octets are not read: `{"fault":{"text":".."}}`. Where the octets are from
@@ -146,17 +114,43 @@ impl Dumper<'_> {
     pub fn push_refusal<W: Write>(&self, why: &str, out: &mut W) -> Result<(), StreamFault>
         ensures { OnOk result (IsWritten IsLine (W.contents out.old) (W.contents out.new)) }
     {
-        let object = fault_members(self.alloc, None, None, why)?;
-        let members = Members::new(self.alloc).with("fault", Value::Object(&object))?;
-        self.write_line(members, out)
+        let fault = Json::object(self.alloc, &[("text", Some(Value::Text(why)))])?;
+        self.write_line("fault", fault, out)
     }
 
-    // Writes the line of an object with these members, and with where octets are from.
-    fn write_line<W: Write>(&self, members: Members, out: &mut W) -> Result<(), StreamFault>
+    // Writes the line of an object with this member, if it is there.
+    fn write_some<W: Write>(
+        &self,
+        name: &str,
+        value: Option<Json>,
+        out: &mut W,
+    ) -> Result<(), StreamFault>
+        ensures { OnOk result (IsWritten (Turns AreLines AreLines) (W.contents out.old) (W.contents out.new)) }
+    {
+        let Some(value) = value else {
+            return Ok(());
+        };
+        self.write_line(name, value, out)?;
+        Ok(())
+    }
+
+    // Writes the line of an object with this member, and with where octets are from.
+    fn write_line<W: Write>(&self, name: &str, value: Json, out: &mut W) -> Result<(), StreamFault>
         ensures { OnOk result (IsWritten IsLine (W.contents out.old) (W.contents out.new)) }
     {
-        let line = line_of(self.alloc, &self.origin.add_to(members)?)?;
+        let mut line = Vec::from_slice(self.alloc, b"{")?;
+        let is_later = push_members(&[(name, Some(Value::Written(value)))], false, &mut line)?;
+        self.push_end(is_later, &mut line)?;
         write_part(out, &line)?;
+        Ok(())
+    }
+
+    // Puts the end of a line: the members of where octets are from, and the end of its object.
+    fn push_end(&self, is_later: bool, line: &mut Vec<u8>) -> Result<(), AllocError>
+        ensures { OnOk result (Adds (Turns (IsOpenObject is_later) IsLine) line.old.items line.new.items) }
+    {
+        push_members(&self.origin.members(), is_later, line)?;
+        line.extend_from_slice(b"}\n")?;
         Ok(())
     }
 }
@@ -169,23 +163,4 @@ fn all_of(style: Style) -> Style {
         most_depth: None,
         ..style
     }
-}
-
-fn items_of(alloc: Global, departures: &[Departure]) -> Result<Items, AllocError> {
-    let mut items = Items::new(alloc);
-    for departure in departures {
-        let members = Members::new(alloc).with("offset", Value::Natural(departure.offset as u64))?;
-        let object = with_rule(members, &departure.rule)?;
-        items = items.with(Value::Object(&object))?;
-    }
-    Ok(items)
-}
-
-fn line_of(alloc: Global, members: &Members) -> Result<Vec<u8>, AllocError>
-    ensures { IfOk result (λ line. IsLine line.items) }
-{
-    let mut line = Vec::new(alloc);
-    push_value(Value::Object(members), &mut line)?;
-    line.push(b'\n')?;
-    Ok(line)
 }

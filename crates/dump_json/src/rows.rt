@@ -1,27 +1,21 @@
 // The objects of a document, in the order of its lines.
-ghost use Rattle.std.specs.Prelude.{◌≡◌, ◌<◌, [], IfSome, OnOk, codes, if◌then◌else◌};
+ghost use Rattle.std.specs.Prelude.{◌<◌, IfOk, IfSome, OnOk};
 ghost use Rattle.der_io.specs.Output.{IsWritten};
-ghost use Rattle.dump_json.specs.Grammar.{AreMoreMembers, IsInt, IsValue};
+ghost use Rattle.dump_json.specs.Grammar.{IsOpenObject, IsValue};
+ghost use Rattle.dump_json.specs.Lines.{Turns};
 
+use crate::json::{Items, Json};
 use crate::line::Dumper;
-use crate::piece::members_of;
+use crate::members::comma;
+use crate::piece::{push_piece, rule_members};
 use der_io::{StreamFault, write_part};
 use dump_values::faults::Fault;
-use dump_walk::marks::BrokenRule;
 use dump_walk::piece::Piece;
 use dump_walk::place::Place;
 use dump_walk::sum::checked_sum;
 use dump_walk::walk::Walk;
-use itoa::Buffer;
 use std::alloc::AllocError;
 use std::io::Write;
-
-// A rule that is broken, by an encoding at the offset of the document.
-#[derive(Drop)]
-pub struct Departure {
-    pub offset: usize,
-    pub rule: BrokenRule,
-}
 
 impl Dumper<'_> {
     // Writes the objects of octets, as an array, and adds the rules that are broken, also inside octets of strings,
@@ -31,7 +25,7 @@ impl Dumper<'_> {
         &self,
         octets: &[u8],
         place: Place,
-        departures: &mut Vec<Departure>,
+        departures: &mut Items,
         out: &mut W,
     ) -> Result<Option<Fault>, StreamFault>
         ensures { OnOk result (IsWritten IsValue (W.contents out.old) (W.contents out.new)) }
@@ -42,7 +36,7 @@ impl Dumper<'_> {
         let mut walk = Walk::over(self.alloc, &self.names.shapes, octets, place)?;
         'pieces: while let Some(piece) = walk.next(self.alloc)? {
             write_part(out, comma(is_later))?;
-            first = first.or(self.write_piece(piece, departures, out)?);
+            first = first.or(self.write_row(piece, departures, out)?);
             is_later = true;
         }
         write_part(out, b"]")?;
@@ -51,92 +45,77 @@ impl Dumper<'_> {
 
     // Writes the object of a piece, and returns its fault.
     #[cycle(rows)]
-    fn write_piece<W: Write>(
+    fn write_row<W: Write>(
         &self,
         piece: Piece<'_>,
-        departures: &mut Vec<Departure>,
+        departures: &mut Items,
         out: &mut W,
     ) -> Result<Option<Fault>, StreamFault>
         requires { IfSome piece.nested (λ _. 0 < piece.place.documents) }
         ensures { OnOk result (IsWritten IsValue (W.contents out.old) (W.contents out.new)) }
     {
-        self.write_row(&piece, departures, out)?;
+        let is_later = self.write_members(&piece, departures, out)?;
+        self.write_end(&piece, is_later, departures, out)?;
         Ok(piece.fault)
     }
 
-    #[cycle(rows)]
-    fn write_row<W: Write>(
+    // Writes the object of a piece up to its member of blocks. Returns whether a member stands in it.
+    fn write_members<W: Write>(
         &self,
         piece: &Piece<'_>,
-        departures: &mut Vec<Departure>,
+        departures: &mut Items,
         out: &mut W,
-    ) -> Result<(), StreamFault>
-        requires { IfSome piece.now.nested (λ _. 0 < piece.now.place.documents) }
-        ensures { OnOk result (IsWritten IsValue (W.contents out.old) (W.contents out.new)) }
+    ) -> Result<bool, StreamFault>
+        ensures { IfOk result (λ later. IsWritten (IsOpenObject later) (W.contents out.old) (W.contents out.new)) }
     {
         let offset = piece.document_offset()?;
-        let rules = piece.breaches.describe(self.alloc)?;
-        let members = members_of(self.alloc, self.names, piece, offset, &rules)?;
-        self.add_departures(offset, &rules, departures)?;
-        write_part(out, b"{\"offset\":")?;
-        write_natural(offset, out)?;
-        write_part(out, members.as_bytes())?;
-        self.write_nested(piece, departures, out)?;
-        write_part(out, b"}")?;
-        Ok(())
+        let rules = self.rules_of(piece, offset, departures)?;
+        let mut text = Vec::from_slice(self.alloc, b"{")?;
+        let is_later = push_piece(self.alloc, self.names, piece, offset, rules, &mut text)?;
+        write_part(out, &text)?;
+        Ok(is_later)
     }
 
-    // Writes the member of the blocks inside contents octets, if there are any.
-    #[cycle(rows)]
-    fn write_nested<W: Write>(
+    // The rules that a piece at the offset breaks. They are added where octets have to be DER.
+    fn rules_of(
         &self,
         piece: &Piece<'_>,
-        departures: &mut Vec<Departure>,
+        offset: usize,
+        departures: &mut Items,
+    ) -> Result<Option<Json>, AllocError> {
+        let mut rules = Items::new(self.alloc)?;
+        for rule in &piece.breaches.describe(self.alloc)? {
+            rules.push_object(self.alloc, &rule_members(None, rule))?;
+            if self.is_strict {
+                departures.push_object(self.alloc, &rule_members(Some(offset), rule))?;
+            }
+        }
+        rules.if_some()
+    }
+
+    // Writes the member of the blocks inside contents octets, if there are any, and the end of the object.
+    #[cycle(rows)]
+    fn write_end<W: Write>(
+        &self,
+        piece: &Piece<'_>,
+        is_later: bool,
+        departures: &mut Items,
         out: &mut W,
     ) -> Result<(), StreamFault>
         requires { IfSome piece.now.nested (λ _. 0 < piece.now.place.documents) }
-        ensures { OnOk result (IsWritten AreMoreMembers (W.contents out.old) (W.contents out.new)) }
+        ensures { OnOk result (IsWritten (Turns (IsOpenObject is_later) IsValue)
+            (W.contents out.old) (W.contents out.new)) }
     {
         let Some(nested) = piece.nested else {
+            write_part(out, b"}")?;
             return Ok(());
         };
         let before = checked_sum(piece.document_offset()?, piece.header_size())?;
         let inside = piece.place.inside(checked_sum(before, nested.before)?)?;
-        write_part(out, b",\"blocks\":")?;
+        write_part(out, comma(is_later))?;
+        write_part(out, b"\"blocks\":")?;
         self.write_rows(nested.octets, inside, departures, out)?;
+        write_part(out, b"}")?;
         Ok(())
     }
-
-    // Adds the rules that an encoding at the offset breaks, where octets have to be DER.
-    fn add_departures(
-        &self,
-        offset: usize,
-        rules: &[BrokenRule],
-        departures: &mut Vec<Departure>,
-    ) -> Result<(), AllocError> {
-        if self.is_strict {
-            for rule in rules {
-                departures.push(Departure {
-                    offset,
-                    rule: *rule,
-                })?;
-            }
-        }
-        Ok(())
-    }
-}
-
-// A comma, unless nothing stands before it.
-fn comma(is_later: bool) -> &'static [u8]
-    ensures { result.now ≡ (if is_later then codes "," else []) }
-{
-    if is_later { b"," } else { &[] }
-}
-
-fn write_natural<W: Write>(number: usize, out: &mut W) -> Result<(), StreamFault>
-    ensures { OnOk result (IsWritten IsInt (W.contents out.old) (W.contents out.new)) }
-{
-    let mut digits = Buffer::new();
-    write_part(out, digits.format(number).as_bytes())?;
-    Ok(())
 }

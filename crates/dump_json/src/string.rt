@@ -1,8 +1,8 @@
 // Strings, with an escape in the place of each character that a dump does not show.
-ghost use Rattle.std.specs.Prelude.{◌≡◌, ◌≢◌, ◌∷◌, ◌<◌, [], OnOk, true};
+ghost use Rattle.std.specs.Prelude.{◌≡◌, ◌≢◌, ◌↔◌, ◌<◌, EachIndex, IsTrue, OnOk, slice_index, true};
 ghost use Rattle.der_io.specs.Escaped.{is_shown};
 ghost use Rattle.dump_walk.specs.Texts.{Adds};
-ghost use Rattle.dump_json.specs.Grammar.{AreChars, IsHexDigit, IsString, is_escape};
+ghost use Rattle.dump_json.specs.Grammar.{AreChars, IsHexDigit, IsString, is_escape, is_plain};
 
 use der_io::is_shown;
 use std::alloc::AllocError;
@@ -20,8 +20,9 @@ pub fn push_string(text: &str, out: &mut Vec<u8>) -> Result<(), AllocError>
 fn push_chars(text: &str, out: &mut Vec<u8>) -> Result<(), AllocError>
     ensures { OnOk result (Adds AreChars out.old.items out.new.items) }
 {
-    if is_plain(text.as_bytes()) {
-        out.extend_from_slice(text.as_bytes())?;
+    let octets = text.as_bytes();
+    if are_plain(octets) {
+        out.extend_from_slice(octets)?;
         return Ok(());
     }
     for c in text.chars() {
@@ -30,25 +31,36 @@ fn push_chars(text: &str, out: &mut Vec<u8>) -> Result<(), AllocError>
     Ok(())
 }
 
-// Whether each octet is a character of ASCII that stands for itself.
-fn is_plain(text: &[u8]) -> bool
-    ensures { result ≡ true → AreChars text.now }
+fn are_plain(text: &[u8]) -> bool
+    ensures { IsTrue result ↔ EachIndex text.now (λ k. is_plain (slice_index text.now k) ≡ true) }
 {
-    for b in text {
-        if !stands_for_itself(*b) {
-            return false;
-        }
-    }
-    true
+    text.iter().all(|b| is_plain(*b))
 }
 
-fn stands_for_itself(b: u8) -> bool
-    ensures { result ≡ true → AreChars (b ∷ []) }
+// Whether the octet is a character of ASCII that stands for itself.
+fn is_plain(b: u8) -> bool
+    ensures { result ≡ is_plain b }
 {
-    if b < b' ' || b > b'~' || b == b'"' || b == b'\\' {
-        return false;
+    matches!(b, b' '..=b'~') && b != b'"' && b != b'\\'
+}
+
+// Puts octets as a string of hex digits.
+pub fn push_hex(octets: &[u8], out: &mut Vec<u8>) -> Result<(), AllocError>
+    ensures { OnOk result (Adds IsString out.old.items out.new.items) }
+{
+    out.push(b'"')?;
+    push_digits(octets, out)?;
+    out.push(b'"')?;
+    Ok(())
+}
+
+fn push_digits(octets: &[u8], out: &mut Vec<u8>) -> Result<(), AllocError>
+    ensures { OnOk result (Adds AreChars out.old.items out.new.items) }
+{
+    for b in octets {
+        out.extend_from_slice(&[hex_digit(u32::from(b / 16)), hex_digit(u32::from(b % 16))])?;
     }
-    true
+    Ok(())
 }
 
 fn push_char(c: char, out: &mut Vec<u8>) -> Result<(), AllocError>

@@ -1,5 +1,5 @@
 -- Lists that are made of others, for `encodings::texts_of`.
-use Rattle.std.proofs.Common.{◌≡◌, ◌+◌, ◌<◌, ◌++◌, ◌∷◌, ℕ, List, [], map, sym, ap, ◌∙◌, get_or, length, take, refl}
+use Rattle.std.proofs.Common.{◌≡◌, ◌+◌, ◌<◌, ◌++◌, ◌∷◌, ℕ, List, [], map, sym, ap, ◌∙◌, get_or, length, take}
 use Rattle.std.proofs.lemmas.List.{map-append, take_more}
 
 -- where an item was made of the one at an index, items were made of all up to this one
@@ -14,8 +14,3 @@ map-more f g xs i d old new y within is e before =
     ∙ (ap (λ z. z ++ g y ∷ []) before
     ∙ (ap (λ z. map f (take i xs) ++ z ∷ []) is
     ∙ sym (ap (map f) (take_more xs i d within) ∙ map-append f (take i xs) (x ∷ [])))))
-
--- items of items of a list are items of the list
-pub map-of_map : {A B C : Type 0} (f : B → C) (g : A → B) (xs : List A) → map f (map g xs) ≡ map (λ x. f (g x)) xs
-map-of_map f g [] = refl
-map-of_map f g (x ∷ xs) = ap (λ z. f (g x) ∷ z) (map-of_map f g xs)

@@ -7,9 +7,8 @@ use Rattle.std.proofs.lemmas.Grind.{flat_map-append}
 use Rattle.dump_lines.specs.Dump.{AreShown, AreTextsOf, Shown, marks_of, none_shown, one_shown, shown_at, string_shown}
 use Rattle.dump_lines.specs.Steps.{AreInside, ArePut, IsInner, IsOwn, IsWhole, first_of, shown_piece}
 use Rattle.dump_values.specs.declared.faults.Fault.{Fault}
-use Rattle.dump_walk.specs.Fronts.{AreFrontsOf, Front, StandAt}
-use Rattle.dump_walk.specs.Pieces.{Passes, fault_offset, front_of, kind_contents, kind_front, kind_header}
-use Rattle.dump_walk.specs.PieceSteps.{IsAhead}
+use Rattle.dump_walk.specs.Fronts.{Front, StandAt}
+use Rattle.dump_walk.specs.Pieces.{HasEnded, IsAt, Passes, fault_offset, front_of, kind_contents, kind_front, kind_header}
 use Rattle.dump_walk.specs.declared.piece.Piece.{Piece}
 use Rattle.dump_walk.specs.declared.place.Place.{Place}
 use Rattle.dump_walk.specs.declared.walk.Walk.{Walk}
@@ -69,10 +68,8 @@ pub record ShownTo (strict : Bool) (place : Place) (octets : List ℕ) (walk : W
   pub fronts : List Front
   pub faults : List ℕ
   pub shown : List Shown
-  pub same_octets : walk.cursor.octets.now ≡ octets
+  pub at : IsAt octets fronts faults walk.cursor
   pub same_place : walk.place ≡ place
-  pub goes_on : (later : List Front) (more : List ℕ) → IsAhead walk.cursor later more
-      → AreFrontsOf octets (fronts ++ later) (faults ++ more)
   pub first_is : fault_offset first ≡ first_of faults
   pub are : AreShown place.is_inside place.base place.depth octets fronts shown
   pub put : ArePut strict place.style.most_depth shown before after text
@@ -80,16 +77,13 @@ pub record ShownTo (strict : Bool) (place : Place) (octets : List ℕ) (walk : W
 -- before the first step of a walk, nothing was put
 pub ShownTo-none :
     (strict : Bool) (place : Place) (octets : List ℕ) (walk : Walk) (marks : List ℕ) →
-    walk.cursor.octets.now ≡ octets → walk.place ≡ place →
-    ((fronts : List Front) (faults : List ℕ) → IsAhead walk.cursor fronts faults → AreFrontsOf octets fronts faults) →
-    ShownTo strict place octets walk None marks marks []
-ShownTo-none strict place octets walk marks o p ahead = record {
+    IsAt octets [] [] walk.cursor → walk.place ≡ place → ShownTo strict place octets walk None marks marks []
+ShownTo-none strict place octets walk marks at p = record {
   fronts = [];
   faults = [];
   shown = [];
-  same_octets = o;
+  at = at;
   same_place = p;
-  goes_on = ahead;
   first_is = refl;
   are = none_shown refl refl;
   put = (sym (append-nil marks), refl);
@@ -157,16 +151,11 @@ ShownTo-append strict place octets old new piece first before middle after text 
       fronts = s.fronts ++ f ∷ [];
       faults = s.faults ++ faults;
       shown = s.shown ++ more;
-      same_octets = p.same_octets ∙ s.same_octets;
+      at = p.ahead octets s.fronts s.faults s.at;
       same_place = p.same_place ∙ s.same_place;
-      goes_on = λ later others ahead.
-          subst (λ x. AreFrontsOf octets x ((s.faults ++ faults) ++ others))
-          (sym (append_assoc s.fronts (f ∷ []) later))
-          (subst (AreFrontsOf octets (s.fronts ++ f ∷ later)) (sym (append_assoc s.faults faults others))
-          (s.goes_on (f ∷ later) (faults ++ others) (p.ahead later others ahead)));
       first_is = fault_offset-or first piece.fault s.faults s.first_is;
       are = AreShown-append place.is_inside place.base place.depth octets s.fronts (f ∷ []) s.shown more s.are
-          (AreShown-piece strict place octets old new piece p s.same_place s.same_octets inner inside);
+          (AreShown-piece strict place octets old new piece p s.same_place s.at.same_octets inner inside);
       put = ArePut-append strict place.style.most_depth s.shown more before middle after text own s.put
           (subst (λ z. ArePut strict z more middle after own) most put);
     }
@@ -174,15 +163,14 @@ ShownTo-append strict place octets old new piece first before middle after text 
 -- where the walk is at its end, what was put is all of the octets
 pub IsWhole-shown :
     (strict : Bool) (place : Place) (octets : List ℕ) (walk : Walk) (first : Option Fault)
-    (before after text : List ℕ) → IsAhead walk.cursor [] [] →
+    (before after text : List ℕ) → HasEnded walk →
     ShownTo strict place octets walk first before after text →
     IsWhole strict place octets (fault_offset first) before after text
 IsWhole-shown strict place octets walk first before after text ended s = record {
   fronts = s.fronts;
   faults = s.faults;
   shown = s.shown;
-  read = subst (λ x. AreFrontsOf octets x s.faults) (append-nil s.fronts)
-      (subst (AreFrontsOf octets (s.fronts ++ [])) (append-nil s.faults) (s.goes_on [] [] ended));
+  read = ended octets s.fronts s.faults s.at;
   first_is = s.first_is;
   are = s.are;
   put = s.put;

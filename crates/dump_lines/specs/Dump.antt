@@ -43,7 +43,7 @@ pub data AreShown : Bool → ℕ → ℕ → List ℕ → List Front → List Sh
 
 -- the rules of DER that an encoding breaks, in words
 abbrev pub rules_of : Shown → List (List ℕ)
-rules_of shown = map (λ b. b.text) (breaches_of shown.front.rules shown.front.has_spare_bits)
+rules_of shown = breaches_of shown.front.rules shown.front.has_spare_bits
 
 -- the row of an encoding: its offset, sizes, depth and tag, where it stands, and the rules of DER that it breaks
 pub record IsRowOf (shown : Shown) (row : Row) : Type 0 where

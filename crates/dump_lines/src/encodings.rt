@@ -7,7 +7,7 @@ ghost use Rattle.dump_walk.specs.Marks.{breaches_of};
 ghost use Rattle.dump_walk.specs.Pieces.{fault_offset, kind_type_name};
 
 use crate::document::Dumper;
-use crate::values::{is_known_constructed, value_in, value_text};
+use crate::values::{is_known_constructed, value_text};
 use der_io::StreamFault;
 use dump_rows::{Inside, Printer, Row, RowFault, RowValue};
 use dump_shapes::{Named, bits_text};
@@ -195,8 +195,8 @@ impl Dumper<'_> {
 
     // The name of the object identifier that a piece is, if it has one, and the standard that has it.
     fn identifier_of<'a>(&'a self, piece: &'a Piece<'_>) -> Option<(&'a str, &'a str)> {
-        let (_, value) = value_in(piece)?;
-        self.names.of(value.identifier()?.dotted.as_deref()?)
+        self.names
+            .of(piece.value()?.identifier()?.dotted.as_deref()?)
     }
 }
 
@@ -221,7 +221,7 @@ fn add_mark(
 // The rules of DER that are broken, in words.
 fn texts_of(alloc: Global, breaches: &Breaches) -> Result<Vec<&'static str>, AllocError>
     ensures { IfOk result (λ texts. map (λ r. r.now) texts.items
-        ≡ map (λ b. b.text) (breaches_of breaches.now.rules.items breaches.now.has_spare_bits)) }
+        ≡ breaches_of breaches.now.rules.items breaches.now.has_spare_bits) }
 {
     let mut texts = Vec::new(alloc);
     let rules = breaches.describe(alloc)?;

@@ -16,7 +16,7 @@
 //! well-formed, and each of them a line. Encodings inside the bytes of a string have lines that begin with `>`. What is
 //! wrong with an encoding is said on its line, and the first fault again on the last line, which begins with `!`; what
 //! came of it is the [`Verdict`]. Where the library reads otherwise than X.690, on purpose, lines show what X.690 has.
-//! What breaks a rule of DER has a mark at the end of its line, with the rules that `asn1_departures` finds; where
+//! What breaks a rule of DER has a mark at the end of its line, with the rules that `asn1_der` finds; where
 //! documents have to be DER, it is listed behind the lines. [`push_refusal`] prints why there is no document.
 //!
 //! The errors are that memory ran out, and that a write failed. What was written before stays.

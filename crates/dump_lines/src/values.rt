@@ -23,21 +23,13 @@ pub fn is_known_constructed(header: &Header) -> bool {
     }
 }
 
-// The value of a piece, with the contents octets that it is of, those of segments joined, if it has one.
-pub fn value_in<'a>(piece: &'a Piece<'_>) -> Option<(&'a [u8], &'a LeafValue)> {
-    match &piece.kind {
-        PieceKind::Leaf(_, contents, Some(value)) => Some((contents, value)),
-        PieceKind::Opened(_, _, Some(joined)) => Some((&joined.contents, &joined.value)),
-        _ => None,
-    }
-}
-
 // What a piece holds in words: its value, or its octets, if it has none; nothing where encodings inside it are shown.
 pub fn value_text(alloc: Global, piece: &Piece<'_>) -> Result<String, AllocError> {
     let mut text = String::new(alloc);
     let is_full = piece.place.style.is_full;
-    match (value_in(piece), &piece.kind) {
-        (Some((contents, value)), _) => {
+    match (piece.value(), &piece.kind) {
+        (Some(value), _) => {
+            let contents = piece.contents();
             let is_opened = piece.nested.is_some();
             write_value(alloc, &mut text, contents, value, is_opened, is_full)?;
         }

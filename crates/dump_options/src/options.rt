@@ -7,17 +7,22 @@ use clap::parser::ValueSource;
 use std::alloc::{AllocError, Global};
 use std::convert::AsStr;
 
-// The arguments that say what is written in place of lines, of which one may be given.
-const OUTPUTS: [&str; 6] = ["text", "html", "json", "extract", "contents", "value"];
+// The arguments that say what is written in place of lines, of which one may be given, and those that do not go with
+// it.
+const OUTPUTS: [(&str, &[&str]); 6] = [
+    ("text", &NOT_WITH_JSON),
+    ("html", &["color"]),
+    ("json", &NOT_WITH_JSON),
+    ("extract", &NOT_WITH_OCTETS),
+    ("contents", &NOT_WITH_OCTETS),
+    ("value", &NOT_WITH_OCTETS),
+];
 
 // JSON has all blocks whole, and an account has no blocks.
-const REFUSED_WITH_JSON: [&str; 4] = ["color", "full", "flat", "depth"];
-
-// Only lines have colors.
-const REFUSED_WITH_PAGE: [&str; 1] = ["color"];
+const NOT_WITH_JSON: [&str; 4] = ["color", "full", "flat", "depth"];
 
 // Bytes are shown in no way.
-const REFUSED_WITH_OCTETS: [&str; 9] = [
+const NOT_WITH_OCTETS: [&str; 9] = [
     "at", "strict", "full", "flat", "depth", "oids", "color", "plain", "as",
 ];
 
@@ -99,15 +104,14 @@ pub fn options_of<'a, S: AsStr>(
 
 // The options that the matches ask for.
 fn asked_for<'a>(alloc: Global, matches: &ArgMatches<'a>) -> Result<Options<'a>, OptionsFault<'a>> {
-    let chosen = chosen(matches)?;
-    refuse_exclusions(matches, chosen)?;
+    refuse_exclusions(matches)?;
     Ok(Options {
         inputs: inputs_of(alloc, matches)?,
         task: task_of(matches)?,
         is_strict: matches.get_flag("strict"),
         is_full: matches.get_flag("full"),
         is_flat: matches.get_flag("flat"),
-        output: output_of(chosen),
+        output: output_of(matches),
         most_depth: number_of(matches, "depth")?,
         oids: matches.get_str("oids"),
         is_plain: matches.get_flag("plain"),
@@ -116,55 +120,42 @@ fn asked_for<'a>(alloc: Global, matches: &ArgMatches<'a>) -> Result<Options<'a>,
     })
 }
 
-// The argument that says what is written in place of lines, if one is given. Two are refused.
-fn chosen<'a>(matches: &ArgMatches<'a>) -> Result<Option<&'static str>, OptionsFault<'a>> {
-    let mut chosen = None;
-    for name in OUTPUTS {
-        if is_given(matches, name) {
-            if let Some(first) = chosen {
-                return Err(OptionsFault::NotTogether(first, name));
-            }
-            chosen = Some(name);
+// Refuses two arguments that say what is written, and those that do not go with the one that does; and the type of a
+// document with no names of fields.
+fn refuse_exclusions<'a>(matches: &ArgMatches<'a>) -> Result<(), OptionsFault<'a>> {
+    let mut given = OUTPUTS.iter().filter(|(name, _)| is_given(matches, name));
+    if let Some((name, others)) = given.next() {
+        if let Some((second, _)) = given.next() {
+            return Err(OptionsFault::NotTogether(name, second));
+        }
+        for other in *others {
+            refuse_both(matches, other, name)?;
         }
     }
-    Ok(chosen)
+    refuse_both(matches, "as", "plain")
 }
 
-// As what documents are written, by the argument that says what is.
-fn output_of(chosen: Option<&str>) -> Output {
-    match chosen {
-        Some("json") => Output::Json,
-        Some("html") => Output::Page,
-        Some("text") => Output::Accounts,
-        _ => Output::Lines,
-    }
-}
-
-// Refuses arguments that do not go with the one that says what is written; and the type of a document with no names of
-// fields.
-fn refuse_exclusions<'a>(
+fn refuse_both<'a>(
     matches: &ArgMatches<'a>,
-    chosen: Option<&'static str>,
+    first: &'static str,
+    second: &'static str,
 ) -> Result<(), OptionsFault<'a>> {
-    if let Some(name) = chosen {
-        for other in refused_with(name) {
-            if is_given(matches, other) {
-                return Err(OptionsFault::NotTogether(other, name));
-            }
-        }
-    }
-    if is_given(matches, "as") && is_given(matches, "plain") {
-        return Err(OptionsFault::NotTogether("as", "plain"));
+    if is_given(matches, first) && is_given(matches, second) {
+        return Err(OptionsFault::NotTogether(first, second));
     }
     Ok(())
 }
 
-// The arguments that do not go with the one that says what is written.
-fn refused_with(name: &str) -> &'static [&'static str] {
-    match name {
-        "json" | "text" => &REFUSED_WITH_JSON,
-        "html" => &REFUSED_WITH_PAGE,
-        _ => &REFUSED_WITH_OCTETS,
+// As what documents are written.
+fn output_of(matches: &ArgMatches<'_>) -> Output {
+    if matches.get_flag("json") {
+        Output::Json
+    } else if matches.get_flag("html") {
+        Output::Page
+    } else if matches.get_flag("text") {
+        Output::Accounts
+    } else {
+        Output::Lines
     }
 }
 
@@ -212,10 +203,9 @@ fn number_of<'a>(
         Some(digits) => usize::from_str_radix(digits, 16),
         None => text.parse::<usize>(),
     };
-    match number {
-        Ok(number) => Ok(Some(number)),
-        Err(_) => Err(OptionsFault::NoNumber(name, text)),
-    }
+    number
+        .map(Some)
+        .map_err(|_| OptionsFault::NoNumber(name, text))
 }
 
 // When lines are colored.

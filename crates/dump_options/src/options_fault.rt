@@ -1,35 +1,32 @@
 // Why arguments are no command line.
 
-use clap::Error;
 use clap::error::ErrorKind;
 use std::alloc::{AllocError, Global};
-use std::fmt;
+use thiserror::Error;
 
 // What stands before the argument in a tip of `clap`.
 const TIP: &str = "\n\n  tip: a similar argument exists: ";
 
 /// Why there are no options.
-#[derive(Debug, Drop)]
+#[derive(Debug, Drop, Error)]
 pub enum OptionsFault<'a> {
     /// What `clap` says of the arguments: help, the version, a mistake in them, or that memory ran out.
-    Command(Error),
+    #[error("{0}")]
+    Command(#[from] clap::Error),
     /// The value of the argument is not a 64-bit number.
+    #[error("error: invalid value '{1}' for '--{0}': not a 64-bit number")]
     NoNumber(&'static str, &'a str),
     /// The value of `--color` is none of the three.
+    #[error("error: invalid value '{0}' for '--color': not auto, always or never")]
     NoColor(&'a str),
     /// Two arguments that do not go together.
+    #[error("error: the argument '--{0}' cannot be used with '--{1}'")]
     NotTogether(&'static str, &'static str),
-}
-
-impl From<Error> for OptionsFault<'_> {
-    fn from(e: Error) -> Self {
-        OptionsFault::Command(e)
-    }
 }
 
 impl From<AllocError> for OptionsFault<'_> {
     fn from(e: AllocError) -> Self {
-        OptionsFault::Command(Error::from(e))
+        OptionsFault::Command(e.into())
     }
 }
 
@@ -62,30 +59,4 @@ impl OptionsFault<'_> {
 // The text up to the end of its first line.
 fn first_line(text: &str) -> &str {
     text.lines().next().unwrap_or("")
-}
-
-impl fmt::Display for OptionsFault<'_> {
-    fn fmt<W: fmt::Write>(&self, f: &mut fmt::Formatter<W>) -> fmt::Result {
-        match self {
-            OptionsFault::Command(e) => write!(f, "{e}"),
-            OptionsFault::NoNumber(name, value) => {
-                write!(
-                    f,
-                    "error: invalid value '{value}' for '--{name}': not a 64-bit number"
-                )
-            }
-            OptionsFault::NoColor(value) => {
-                write!(
-                    f,
-                    "error: invalid value '{value}' for '--color': not auto, always or never"
-                )
-            }
-            OptionsFault::NotTogether(first, second) => {
-                write!(
-                    f,
-                    "error: the argument '--{first}' cannot be used with '--{second}'"
-                )
-            }
-        }
-    }
 }

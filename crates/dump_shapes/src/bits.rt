@@ -1,8 +1,6 @@
 // Bits that are set, with the names that their type has for them.
-ghost use Rattle.std.specs.Prelude.{◌≡◌, ◌+◌, ◌*◌, ◌<◌, [], length, IfOk};
-
 use crate::named::LeafType;
-use crate::shapes::{Shape, Shapes};
+use crate::shapes::Shapes;
 use asn1_headers::tags;
 use std::alloc::{AllocError, Global};
 
@@ -34,16 +32,15 @@ impl Shapes {
         leaf: LeafType,
         count: usize,
         octets: &[u8],
-    ) -> Result<Vec<SetBit>, AllocError>
-        ensures unused { IfOk result (λ bits. count + 7 < 8 * length octets.now → bits.items ≡ []) }
-    {
+    ) -> Result<Vec<SetBit>, AllocError> {
         let mut bits = Vec::new(alloc);
-        if count > MOST_BITS || count.div_ceil(8) < octets.len() {
-            return Ok(bits);
-        }
-        let Some(shape) = self.shape_of_bits(leaf) else {
+        let Some(shape) = self.shape(leaf.shape) else {
             return Ok(bits);
         };
+        let has_names = leaf.tag == BIT_STRING && shape.first < shape.end;
+        if !has_names || count > MOST_BITS || count.div_ceil(8) < octets.len() {
+            return Ok(bits);
+        }
         for number in 0..count {
             if is_set(octets, number) {
                 let name = self.number_name(shape, number as u128);
@@ -51,16 +48,6 @@ impl Shapes {
             }
         }
         Ok(bits)
-    }
-
-    // The shape of a type whose bits have names.
-    fn shape_of_bits(&self, leaf: LeafType) -> Option<Shape> {
-        let shape = self.shape(leaf.shape)?;
-        if leaf.tag == BIT_STRING && shape.first < shape.end {
-            Some(shape)
-        } else {
-            None
-        }
     }
 }
 

@@ -1,9 +1,4 @@
 // Going over the elements of a document, one behind another, with the fields that they are.
-ghost use Rattle.std.specs.Prelude.{◌≡◌, ◌≤◌, ◌∷◌, length, IfOk, IfSome, OnOk};
-ghost use Rattle.dump_shapes.specs.Spots.{IsPath, StandsIn, around_alone, document_of};
-ghost use Rattle.dump_shapes.specs.Walks.{GoesOn, IsReached, path_of};
-ghost use Rattle.dump_shapes.specs.declared.take.Inside.TheVariants.{Fields as FieldsOf};
-
 use crate::shapes::{Shapes, Tag};
 use crate::take::{Inside, Spot, is_universal};
 use asn1_headers::tags;
@@ -51,54 +46,41 @@ pub struct FieldWalk<'a> {
     frames: Vec<Frame>,
     // how far the innermost of them was gone over
     progress: Progress,
-    ghost path: { ∥ IsPath shapes.now all (path_of frames.items) ∥₁ },
 }
 
 impl<'a> FieldWalk<'a> {
     /// Before the first element of a document, which is of the shape.
-    pub fn over(alloc: Global, shapes: &'a Shapes, root: Option<u16>) -> FieldWalk<'a>
-        ensures shapes { result.shapes.now ≡ shapes.now }
-        ensures all { result.all ≡ document_of root }
-    {
-        let all = match root {
-            Some(root) => Inside::Whole(root),
-            None => Inside::Nothing,
-        };
-        FieldWalk {
-            shapes,
-            all,
-            frames: Vec::new(alloc),
-            progress: Progress::start(None),
-        }
+    pub fn over(alloc: Global, shapes: &'a Shapes, root: Option<u16>) -> FieldWalk<'a> {
+        let all = root.map_or(Inside::Nothing, |root| Inside::Whole(root));
+        FieldWalk::around(alloc, shapes, all, None)
     }
 
     /// Before the first of the elements that the octets of a string hold, which is this field.
-    pub fn inside(alloc: Global, shapes: &'a Shapes, string: Spot) -> FieldWalk<'a>
-        ensures shapes { result.shapes.now ≡ shapes.now }
-        ensures all { result.all ≡ string.of.inside }
-    {
-        FieldWalk {
-            shapes,
-            all: string.of.inside,
-            frames: Vec::new(alloc),
-            progress: Progress::start(string.identifier),
-        }
+    pub fn inside(alloc: Global, shapes: &'a Shapes, string: Spot) -> FieldWalk<'a> {
+        FieldWalk::around(alloc, shapes, string.of.inside, string.identifier)
     }
 
     /// Before an element that is this field, and shown alone.
-    pub fn alone(alloc: Global, shapes: &'a Shapes, spot: Spot) -> FieldWalk<'a>
-        ensures shapes { result.shapes.now ≡ shapes.now }
-        ensures all { result.all ≡ around_alone spot.field spot.of.shape }
-    {
+    pub fn alone(alloc: Global, shapes: &'a Shapes, spot: Spot) -> FieldWalk<'a> {
         let all = match spot.field {
             Some(field) => Inside::Each(field),
             None => Inside::Whole(spot.of.shape),
         };
+        FieldWalk::around(alloc, shapes, all, spot.identifier)
+    }
+
+    // Before the first of elements around which this stands, where the identifier was seen.
+    fn around(
+        alloc: Global,
+        shapes: &'a Shapes,
+        all: Inside,
+        identifier: Option<u16>,
+    ) -> FieldWalk<'a> {
         FieldWalk {
             shapes,
             all,
             frames: Vec::new(alloc),
-            progress: Progress::start(spot.identifier),
+            progress: Progress::start(identifier),
         }
     }
 
@@ -108,12 +90,7 @@ impl<'a> FieldWalk<'a> {
     ///
     /// # Errors
     /// Memory ran out.
-    pub fn next(&mut self, depth: usize, tag: Option<Tag>) -> Result<Option<Spot>, AllocError>
-        ensures shapes { self.new.shapes.now ≡ self.old.shapes.now }
-        ensures all { self.new.all ≡ self.old.all }
-        ensures reached { IfOk result (λ found. IfSome found
-            (IsReached self.old.shapes.now self.old.all depth self.new.frames.items)) }
-    {
+    pub fn next(&mut self, depth: usize, tag: Option<Tag>) -> Result<Option<Spot>, AllocError> {
         self.leave(depth);
         let Some(tag) = tag else {
             return Ok(None);
@@ -135,10 +112,7 @@ impl<'a> FieldWalk<'a> {
 
     /// Sees the contents octets of the element that was gone on to: those of an OBJECT IDENTIFIER may say what stands
     /// behind it.
-    pub fn see(&mut self, contents: &[u8])
-        ensures shapes { self.new.shapes.now ≡ self.old.shapes.now }
-        ensures all { self.new.all ≡ self.old.all }
-    {
+    pub fn see(&mut self, contents: &[u8]) {
         // the tag of an OBJECT IDENTIFIER (X.690 8.19)
         if let Some(frame) = self.frames.last()
             && is_universal(OBJECT_IDENTIFIER, frame.spot.tag)
@@ -149,11 +123,7 @@ impl<'a> FieldWalk<'a> {
 
     // Leaves the elements that are not around one of the depth, and hands the first identifier of each to the one
     // around it.
-    pub(crate) fn leave(&mut self, depth: usize)
-        ensures shapes { self.new.shapes.now ≡ self.old.shapes.now }
-        ensures all { self.new.all ≡ self.old.all }
-        ensures left { length self.new.frames.items ≤ depth }
-    {
+    pub(crate) fn leave(&mut self, depth: usize) {
         while self.frames.len() > depth {
             let Some(inner) = self.frames.pop() else {
                 return;
@@ -167,10 +137,7 @@ impl<'a> FieldWalk<'a> {
     }
 
     // What stands inside the innermost element that is open.
-    fn innermost(&self) -> Inside
-        ensures { (spot : Spot) → StandsIn self.now.shapes.now result spot
-            → GoesOn self.now.shapes.now self.now.all self.now.frames.items spot }
-    {
+    fn innermost(&self) -> Inside {
         match self.frames.last() {
             Some(frame) => frame.spot.of.inside,
             None => self.all,
@@ -179,13 +146,7 @@ impl<'a> FieldWalk<'a> {
 
     // Goes into an element. In a record of fields no identifier was seen yet; in any other element that of the one
     // around it says what stands there.
-    fn enter(&mut self, frame: Frame) -> Result<(), AllocError>
-        requires { GoesOn self.old.shapes.now self.old.all self.old.frames.items frame.spot }
-        ensures shapes { self.new.shapes.now ≡ self.old.shapes.now }
-        ensures all { self.new.all ≡ self.old.all }
-        ensures path { OnOk result (path_of self.new.frames.items
-            ≡ frame.spot ∷ path_of self.old.frames.items) }
-    {
+    fn enter(&mut self, frame: Frame) -> Result<(), AllocError> {
         self.frames.push(frame)?;
         self.progress = Progress::start(match frame.spot.of.inside {
             Inside::Fields(_, _) => None,
@@ -207,9 +168,7 @@ impl<'a> FieldWalk<'a> {
 
 impl Shapes {
     // What the next element is inside one that is open.
-    fn taken_in(&self, inside: Inside, progress: Progress, tag: Tag) -> Option<Frame>
-        ensures { IfSome result (λ frame. StandsIn self.now inside frame.spot) }
-    {
+    fn taken_in(&self, inside: Inside, progress: Progress, tag: Tag) -> Option<Frame> {
         let identifier = progress.identifier;
         match inside {
             Inside::Nothing => None,
@@ -231,9 +190,7 @@ impl Shapes {
 
     // The next field of an element, among those from the first to before the end. Behind an element that is no field,
     // and where a field is missing that has to be there, only a tag of its own shows which field one is.
-    fn next_field(&self, progress: Progress, first: u16, end: u16, tag: Tag) -> Option<Frame>
-        ensures { IfSome result (λ frame. StandsIn self.now (FieldsOf first end) frame.spot) }
-    {
+    fn next_field(&self, progress: Progress, first: u16, end: u16, tag: Tag) -> Option<Frame> {
         let mut is_sure = progress.is_sure;
         for i in progress.next.max(first)..end {
             let field = self.part(i)?;

@@ -48,5 +48,4 @@ pub use field_walk::FieldWalk;
 pub use fit::{DocumentType, TypeSource};
 pub use named::{Held, LeafType, Named};
 pub use shapes::{Shapes, Tag, ValueRule};
-pub use shapes_text::ShapesFault;
 pub use take::Spot;

@@ -1,7 +1,4 @@
 // The names of an element, by which field it is, and what its type says of its contents octets.
-ghost use Rattle.std.specs.Prelude.{IfSome};
-ghost use Rattle.dump_shapes.specs.Names.{IsNameAt, IsNameOf, IsNamed};
-
 use crate::shapes::{Shape, ShapeKind, Shapes, ValueRule};
 use crate::take::{Inside, Spot};
 use asn1_headers::tags;
@@ -46,9 +43,7 @@ pub enum Held {
 
 impl Shapes {
     /// The names of an element, by which field it is and its contents octets.
-    pub fn names_of(&self, spot: Spot, contents: &[u8]) -> Option<Named>
-        ensures { IfSome result (IsNamed self.now spot) }
-    {
+    pub fn names_of(&self, spot: Spot, contents: &[u8]) -> Option<Named> {
         let shape = self.shape(spot.of.shape)?;
         Some(Named {
             field: self.field_name(spot),
@@ -100,25 +95,20 @@ impl Shapes {
         let shape = self.shape(self.part(item)?.shape)?;
         match shape.kind {
             ShapeKind::Open | ShapeKind::Known => {
-                let row = self.row(shape, spot.identifier?)?;
-                self.shape(row.shape)
+                self.shape(self.row(shape, spot.identifier)?.shape)
             }
             _ => Some(shape),
         }
     }
 
     // The name of the field, or else of the alternative. `None` where they have none.
-    fn field_name(&self, spot: Spot) -> Option<&'static str>
-        ensures { IfSome result (λ name. IsNameOf self.now spot name.now) }
-    {
+    fn field_name(&self, spot: Spot) -> Option<&'static str> {
         self.name_at(spot.field)
             .or(self.name_at(spot.of.alternative))
     }
 
     // The name of a field that has one.
-    fn name_at(&self, place: Option<u16>) -> Option<&'static str>
-        ensures { IfSome result (λ name. IsNameAt self.now place name.now) }
-    {
+    fn name_at(&self, place: Option<u16>) -> Option<&'static str> {
         let field = self.part(place?)?;
         if field.name.is_empty() {
             None
@@ -128,9 +118,7 @@ impl Shapes {
     }
 
     // The name of an alternative that has a tag of its own, where the field has a name.
-    fn alternative_name(&self, spot: Spot) -> Option<&'static str>
-        ensures { IfSome result (λ name. IsNameAt self.now spot.of.alternative name.now) }
-    {
+    fn alternative_name(&self, spot: Spot) -> Option<&'static str> {
         self.name_at(spot.field)?;
         self.part(spot.of.alternative?)?.tag?;
         self.name_at(spot.of.alternative)

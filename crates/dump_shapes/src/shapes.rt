@@ -1,6 +1,4 @@
 // Shapes: which fields a type of ASN.1 has, and what the octets of a string hold.
-ghost use Rattle.std.specs.Prelude.{◌≡◌, slice_get};
-
 use crate::identifier::number_of;
 use crate::take::{Inside, Spot};
 use asn1_headers::header::ASN1Class;
@@ -154,16 +152,19 @@ impl Shapes {
         }
     }
 
-    pub(crate) fn shape(&self, i: u16) -> Option<Shape>
-        ensures { result ≡ slice_get self.now.shapes.items i }
-    {
+    pub(crate) fn shape(&self, i: u16) -> Option<Shape> {
         self.shapes.get(i as usize).copied()
     }
 
-    pub(crate) fn part(&self, i: u16) -> Option<Part>
-        ensures { result ≡ slice_get self.now.parts.items i }
-    {
+    pub(crate) fn part(&self, i: u16) -> Option<Part> {
         self.parts.get(i as usize).copied()
+    }
+
+    // The parts of a shape.
+    pub(crate) fn parts_of(&self, shape: Shape) -> &[Part] {
+        self.parts
+            .get(shape.first as usize..shape.end as usize)
+            .unwrap_or(&[])
     }
 
     // Where an object identifier stands among those that say shapes, by its contents octets; 65535 where it is none.
@@ -176,12 +177,12 @@ impl Shapes {
 
     // The part of a shape with this number.
     pub(crate) fn numbered(&self, shape: Shape, number: u128) -> Option<Part> {
-        let parts = self.parts.get(shape.first as usize..shape.end as usize)?;
-        parts.iter().find(|part| part.number == number).copied()
+        let mut parts = self.parts_of(shape).iter();
+        parts.find(|part| part.number == number).copied()
     }
 
     // The name of a number in a shape.
-    pub(crate) fn number_name(&self, shape: Shape, value: u128) -> Option<&'static str> {
-        Some(self.numbered(shape, value)?.name)
+    pub(crate) fn number_name(&self, shape: Shape, number: u128) -> Option<&'static str> {
+        Some(self.numbered(shape, number)?.name)
     }
 }

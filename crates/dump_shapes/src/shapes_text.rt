@@ -1,41 +1,35 @@
-// Shapes in text, which has a line for each shape and each of its parts.
+// The tables of shapes, which are text: a line for each shape and each of its parts.
 use crate::identifier::written_number;
 use crate::shapes::{Candidate, Part, Shape, ShapeKind, Shapes, Tag, ValueRule};
 use crate::tables::{FITS, TABLES};
 use asn1_headers::header::ASN1Class;
-use std::alloc::{AllocError, AllocFailed, Global};
+use std::alloc::{AllocError, Global};
 use std::collections::HashMap;
-
-/// Why a text has no shapes.
-#[derive(Clone, Copy, Debug, Drop, PartialEq)]
-pub enum ShapesFault {
-    /// Memory ran out.
-    Memory,
-    /// This line has another form, or no shape has this name.
-    Line(&'static str),
-}
-
-impl<T: Drop> From<AllocFailed<T>> for ShapesFault {
-    fn from(_e: AllocFailed<T>) -> ShapesFault {
-        ShapesFault::Memory
-    }
-}
 
 // The places of shapes by their names.
 type Places = HashMap<&'static str, u16>;
 
 impl Shapes {
-    /// The shapes of this crate.
+    /// The shapes of this crate, as `docs/MAINTAINING.md` says how they are written. A line in another form, or with a
+    /// name that no shape has, names nothing; `checks/run links` says that no line is so.
     ///
     /// # Errors
     /// Memory ran out.
     pub fn new(alloc: Global) -> Result<Shapes, AllocError> {
-        match Shapes::read(alloc, &TABLES, FITS) {
-            Ok(shapes) => Ok(shapes),
-            Err(ShapesFault::Memory) => Err(AllocError),
-            // a test says that no line of the crate has another form
-            Err(ShapesFault::Line(_)) => Ok(Shapes::none(alloc)),
+        let places = places_of(alloc)?;
+        let mut shapes = Shapes::none(alloc);
+        for text in TABLES {
+            for line in text.lines() {
+                shapes.read_line(&places, line)?;
+            }
         }
+        shapes.identifiers.sort_unstable();
+        for line in FITS.lines() {
+            if let Some(candidate) = candidate_of(&places, line) {
+                shapes.candidates.push(candidate)?;
+            }
+        }
+        Ok(shapes)
     }
 
     /// No shapes: no element has a name.
@@ -48,91 +42,76 @@ impl Shapes {
         }
     }
 
-    /// The shapes of texts, as `docs/MAINTAINING.md` says how they are written, and those of them that may fit a
-    /// document: a line for each, with its name, the depth down to which it has to fit, and the least number of
-    /// elements.
-    ///
-    /// # Errors
-    /// `Line` for the first line of another form, and `Memory`.
-    pub fn read(
-        alloc: Global,
-        texts: &[&'static str],
-        fits: &'static str,
-    ) -> Result<Shapes, ShapesFault> {
-        let places = places_of(alloc, texts)?;
-        let mut shapes = Shapes::none(alloc);
-        for text in texts {
-            for line in text.lines() {
-                shapes.read_line(&places, line)?;
+    // Reads a line: of a part of the last shape, or of a shape.
+    fn read_line(&mut self, places: &Places, line: &'static str) -> Result<(), AllocError> {
+        if let Some(text) = line.strip_prefix("  ") {
+            let kind = self
+                .shapes
+                .last()
+                .map_or(ShapeKind::Known, |shape| shape.kind);
+            let part = part_of(places, kind, text);
+            if let Some(Part { number, .. }) = part
+                && matches!(kind, ShapeKind::Open | ShapeKind::Known)
+            {
+                self.identifiers.push(number)?;
             }
+            return self.push(part);
         }
-        shapes.identifiers.sort_unstable();
-        for line in fits.lines() {
-            let candidate = candidate_of(&places, line).ok_or(ShapesFault::Line(line))?;
-            shapes.candidates.push(candidate)?;
+        match name_and_text(line) {
+            Some((name, text)) => self.read_shape(places, name, text),
+            None => Ok(()),
         }
-        Ok(shapes)
     }
 
-    // Reads a line, of a part of the last shape or of a shape. A list has one part, which is its item.
-    fn read_line(&mut self, places: &Places, line: &'static str) -> Result<(), ShapesFault> {
-        let fault = ShapesFault::Line(line);
-        if let Some(text) = line.strip_prefix("  ") {
-            let part = self.part_of(places, text).ok_or(fault)?;
-            if part.name.is_empty() {
-                self.identifiers.push(part.number)?;
-            }
-            return self.push(part, fault);
-        }
-        let Some((name, text)) = name_and_text(line) else {
-            return Ok(());
-        };
-        let (text, item) = item_behind(text);
-        let (kind, rule) = self.kind_of(places, text, item.is_some()).ok_or(fault)?;
-        let end = u16::try_from(self.parts.len()).ok().ok_or(fault)?;
+    // Reads a shape with this name and text. A list has one part, which is its item.
+    fn read_shape(
+        &mut self,
+        places: &Places,
+        name: &'static str,
+        text: &'static str,
+    ) -> Result<(), AllocError> {
+        let (words, item) = item_behind(text);
+        let (of, rule) = rule_behind(words);
+        let kind = self.kind_of(places, of, item.is_some());
+        // what stands before a point is not shown, by which types of one name differ
+        let shown = name.split_once('.').unwrap_or(("", name)).1;
+        let end = place(self.parts.len());
         self.shapes.push(Shape {
             full_name: name,
-            // what stands before a point is not shown, by which types of one name differ
-            name: name.split_once('.').unwrap_or(("", name)).1,
-            kind,
+            name: shown,
+            kind: kind.unwrap_or(ShapeKind::Known),
             rule,
             first: end,
             end,
         })?;
         match item {
-            Some(item) => self.push(field_of(places, "", item).ok_or(fault)?, fault),
+            Some(item) => self.push(field_of(places, "", item)),
             None => Ok(()),
         }
     }
 
     // Takes one more part into the last shape.
-    fn push(&mut self, part: Part, fault: ShapesFault) -> Result<(), ShapesFault> {
-        self.parts.push(part)?;
-        let end = u16::try_from(self.parts.len()).ok().ok_or(fault)?;
-        self.shapes.last_mut().ok_or(fault)?.end = end;
+    fn push(&mut self, part: Option<Part>) -> Result<(), AllocError> {
+        self.parts.push(part.unwrap_or_default())?;
+        let end = place(self.parts.len());
+        if let Some(shape) = self.shapes.last_mut() {
+            shape.end = end;
+        }
         Ok(())
     }
 
-    // What elements of a shape are by words, which are those before an item if it is a list, and a word behind the type
-    // of a leaf says of its values.
-    fn kind_of(
-        &self,
-        places: &Places,
-        text: &'static str,
-        is_list: bool,
-    ) -> Option<(ShapeKind, ValueRule)> {
-        let (text, rule) = rule_behind(text);
-        let kind = match (text, tag_before(text)?) {
-            _ if is_list => ShapeKind::Items(self.tag_of(places, text)?),
-            ("CHOICE", _) => ShapeKind::Choice,
-            ("OPEN", _) => ShapeKind::Open,
-            ("KNOWN", _) => ShapeKind::Known,
-            ("SEQUENCE" | "SET", _) => ShapeKind::Record(self.tag_of(places, text)?),
+    // What elements of a shape are by words, which are those before an item if it is a list.
+    fn kind_of(&self, places: &Places, words: &'static str, is_list: bool) -> Option<ShapeKind> {
+        match (words, tag_before(words)?) {
+            _ if is_list => Some(ShapeKind::Items(self.tag_of(places, words)?)),
+            ("CHOICE", _) => Some(ShapeKind::Choice),
+            ("OPEN", _) => Some(ShapeKind::Open),
+            ("KNOWN", _) => Some(ShapeKind::Known),
+            ("SEQUENCE" | "SET", _) => Some(ShapeKind::Record(self.tag_of(places, words)?)),
             // the tag that a SEQUENCE has in place of its own (X.680 8.4)
-            (_, (Some(tag), "SEQUENCE")) => ShapeKind::Record(tag.number),
-            _ => ShapeKind::Leaf(text.parse::<u8>().ok().or(self.tag_of(places, text))?),
-        };
-        Some((kind, rule))
+            (_, (Some(tag), "SEQUENCE")) => Some(ShapeKind::Record(tag.number)),
+            _ => Some(ShapeKind::Leaf(words.parse::<u8>().ok().or(self.tag_of(places, words))?)),
+        }
     }
 
     // The tag of a leaf with this name, which was read before.
@@ -142,41 +121,21 @@ impl Shapes {
             _ => None,
         }
     }
+}
 
-    // A part of the last shape: a field; a number, of a value or of a bit, and its name; or an object identifier and
-    // what it says.
-    fn part_of(&self, places: &Places, line: &'static str) -> Option<Part> {
-        let (first, text) = line.split_once(' ')?;
-        if !first.starts_with(|c: char| c.is_ascii_digit()) {
-            return field_of(places, first, text);
-        }
-        if let Ok(number) = first.parse::<u64>() {
-            return Some(Part {
-                name: text,
-                number: number as u128,
-                ..Part::default()
-            });
-        }
-        Some(Part {
-            number: written_number(first)?,
-            shape: *places.get(&text)?,
-            ..Part::default()
-        })
-    }
+// A place among shapes or parts. There are fewer than 65,536.
+fn place(count: usize) -> u16 {
+    u16::try_from(count).unwrap_or(u16::MAX)
 }
 
 // The places of all shapes, each of which has a name of its own.
-fn places_of(alloc: Global, texts: &[&'static str]) -> Result<Places, ShapesFault> {
+fn places_of(alloc: Global) -> Result<Places, AllocError> {
     let mut places = HashMap::new(alloc);
-    for text in texts {
+    for text in TABLES {
         for line in text.lines() {
-            let Some((name, _)) = name_and_text(line) else {
-                continue;
-            };
-            let fault = ShapesFault::Line(line);
-            let place = u16::try_from(places.len()).ok().ok_or(fault)?;
-            if places.insert(name, place)?.is_some() {
-                return Err(fault);
+            if let Some((name, _)) = name_and_text(line) {
+                let behind = place(places.len());
+                places.insert(name, behind)?;
             }
         }
     }
@@ -195,8 +154,29 @@ fn name_and_text(line: &'static str) -> Option<(&'static str, &'static str)> {
 // The words before the item of a list, and the item, if it is one.
 fn item_behind(text: &'static str) -> (&'static str, Option<&'static str>) {
     match text.split_once(" OF ").or(text.split_once(" CONTAINING ")) {
-        Some((text, item)) => (text, Some(item)),
+        Some((words, item)) => (words, Some(item)),
         None => (text, None),
+    }
+}
+
+// A part of a shape of the kind: a number, of a value or of a bit, and its name; an object identifier and what it says;
+// or a field.
+fn part_of(places: &Places, kind: ShapeKind, line: &'static str) -> Option<Part> {
+    let (first, text) = line.split_once(' ')?;
+    match kind {
+        ShapeKind::Leaf(_) => Some(Part {
+            name: text,
+            number: first.parse::<u64>().ok()? as u128,
+            ..Part::default()
+        }),
+        ShapeKind::Open | ShapeKind::Known => Some(Part {
+            number: written_number(first)?,
+            shape: *places.get(&text)?,
+            ..Part::default()
+        }),
+        ShapeKind::Record(_) | ShapeKind::Items(_) | ShapeKind::Choice => {
+            field_of(places, first, text)
+        }
     }
 }
 

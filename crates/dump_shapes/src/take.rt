@@ -1,7 +1,4 @@
 // Which elements a field or a shape takes by their tags, and what stands inside them.
-ghost use Rattle.std.specs.Prelude.{◌≡◌, ◌⊎◌, IfSome, None, Some};
-ghost use Rattle.dump_shapes.specs.Spots.{IsField};
-
 use crate::shapes::{Part, Shape, ShapeKind, Shapes, Tag};
 use asn1_headers::header::ASN1Class;
 
@@ -38,14 +35,27 @@ pub(crate) struct OfShape {
     pub inside: Inside,
 }
 
+impl OfShape {
+    // What an element is in which this stands, as one of a shape.
+    fn of(shape: u16, inside: Inside) -> OfShape {
+        OfShape {
+            shape,
+            alternative: None,
+            inside,
+        }
+    }
+}
+
 impl Shapes {
     // What an element with the tag is as a field, where the identifier was seen. `None` where the field takes none
     // with this tag.
     #[inline(always)]
-    pub(crate) fn field_spot(&self, i: u16, tag: Tag, identifier: Option<u16>) -> Option<Spot>
-        ensures { IfSome result (IsField self.now i) }
-    {
-        let of = self.of_field(self.part(i)?, tag, identifier)?;
+    pub(crate) fn field_spot(&self, i: u16, tag: Tag, identifier: Option<u16>) -> Option<Spot> {
+        let field = self.part(i)?;
+        let of = match field.tag {
+            Some(_) => OfShape::of(field.shape, self.tagged_inside(field, tag)?),
+            None => self.of_shape(field.shape, tag, identifier)?,
+        };
         Some(Spot {
             tag,
             field: Some(i),
@@ -56,9 +66,7 @@ impl Shapes {
 
     // What an element with the tag is as all that stands somewhere, which is of the shape.
     #[inline(always)]
-    pub(crate) fn whole_spot(&self, shape: u16, tag: Tag, identifier: Option<u16>) -> Option<Spot>
-        ensures { IfSome result (λ spot. spot.field ≡ None) }
-    {
+    pub(crate) fn whole_spot(&self, shape: u16, tag: Tag, identifier: Option<u16>) -> Option<Spot> {
         let of = self.of_shape(shape, tag, identifier)?;
         Some(Spot {
             tag,
@@ -68,83 +76,52 @@ impl Shapes {
         })
     }
 
-    // What an element with the tag is as the field.
-    #[inline(always)]
-    fn of_field(&self, field: Part, tag: Tag, identifier: Option<u16>) -> Option<OfShape>
-        ensures { IfSome result (λ _. (field.tag ≡ None) ⊎ (field.tag ≡ Some tag)) }
-    {
-        if field.tag.is_none() {
-            return self.of_shape(field.shape, tag, identifier);
-        }
-        Some(OfShape {
-            shape: field.shape,
-            alternative: None,
-            inside: self.tagged_inside(field, tag)?,
-        })
-    }
-
     // What an element with the tag is as one of a shape, where the identifier was seen. `None` where the shape has none
     // with this tag.
     #[inline(always)]
-    fn of_shape(&self, shape: u16, tag: Tag, identifier: Option<u16>) -> Option<OfShape> {
-        if let Some(of) = self.one_of(shape, tag) {
+    fn of_shape(&self, place: u16, tag: Tag, identifier: Option<u16>) -> Option<OfShape> {
+        let shape = self.shape(place)?;
+        if !matches!(shape.kind, ShapeKind::Open | ShapeKind::Known) {
+            return self.one_of(place, tag);
+        }
+        if let Some(row) = self.row(shape, identifier)
+            && let Some(of) = self.one_of(row.shape, tag)
+        {
             return Some(of);
         }
-        match self.one_said(shape, tag, identifier) {
-            Some(of) => Some(of),
-            None => self.anything(shape),
-        }
-    }
-
-    // What an element is as one of an open shape that is what the identifier says.
-    fn one_said(&self, shape: u16, tag: Tag, identifier: Option<u16>) -> Option<OfShape> {
-        let row = self.row(self.shape(shape)?, identifier?)?;
-        self.one_of(row.shape, tag)
-    }
-
-    // What an element is as one of an open shape that is anything.
-    fn anything(&self, shape: u16) -> Option<OfShape> {
-        match self.shape(shape)?.kind {
-            ShapeKind::Open => Some(OfShape {
-                shape,
-                alternative: None,
-                inside: Inside::Nothing,
-            }),
+        match shape.kind {
+            ShapeKind::Open => Some(OfShape::of(place, Inside::Nothing)),
             _ => None,
         }
     }
 
-    // The row of a shape for the identifier.
-    pub(crate) fn row(&self, shape: Shape, identifier: u16) -> Option<Part> {
-        if !matches!(shape.kind, ShapeKind::Open | ShapeKind::Known) {
-            return None;
-        }
-        self.numbered(shape, *self.identifiers.get(identifier as usize)?)
+    // The row of an open shape for the identifier.
+    pub(crate) fn row(&self, shape: Shape, identifier: Option<u16>) -> Option<Part> {
+        let number = *self.identifiers.get(identifier? as usize)?;
+        self.numbered(shape, number)
     }
 
     // What an element with the tag is as one of a shape that is not open.
     #[inline(always)]
-    fn one_of(&self, shape: u16, tag: Tag) -> Option<OfShape> {
-        match self.plain_inside(shape, tag) {
-            Some(inside) => Some(OfShape {
-                shape,
-                alternative: None,
-                inside,
-            }),
-            None => self.chosen(shape, tag),
+    fn one_of(&self, place: u16, tag: Tag) -> Option<OfShape> {
+        let shape = self.shape(place)?;
+        match shape.kind {
+            ShapeKind::Choice => self.chosen(place, shape, tag),
+            _ => Some(OfShape::of(place, plain_inside(shape, tag)?)),
         }
     }
 
     // What an element with the tag is as one of a choice.
-    fn chosen(&self, shape: u16, tag: Tag) -> Option<OfShape> {
-        let found = self.shape(shape)?;
-        if !matches!(found.kind, ShapeKind::Choice) {
-            return None;
-        }
-        for i in found.first..found.end {
-            if let Some(inside) = self.alternative_inside(self.part(i)?, tag) {
+    fn chosen(&self, place: u16, choice: Shape, tag: Tag) -> Option<OfShape> {
+        for i in choice.first..choice.end {
+            let alternative = self.part(i)?;
+            let inside = match alternative.tag {
+                Some(_) => self.tagged_inside(alternative, tag),
+                None => plain_inside(self.shape(alternative.shape)?, tag),
+            };
+            if let Some(inside) = inside {
                 return Some(OfShape {
-                    shape,
+                    shape: place,
                     alternative: Some(i),
                     inside,
                 });
@@ -153,39 +130,26 @@ impl Shapes {
         None
     }
 
-    // What stands inside an element with the tag that is the alternative.
-    #[inline(always)]
-    fn alternative_inside(&self, alternative: Part, tag: Tag) -> Option<Inside> {
-        match alternative.tag {
-            Some(_) => self.tagged_inside(alternative, tag),
-            None => self.plain_inside(alternative.shape, tag),
-        }
-    }
-
     // What stands inside an element with the tag that is the field by the tag of its own.
     #[inline(always)]
-    fn tagged_inside(&self, field: Part, tag: Tag) -> Option<Inside>
-        ensures { IfSome result (λ _. field.tag ≡ Some tag) }
-    {
+    fn tagged_inside(&self, field: Part, tag: Tag) -> Option<Inside> {
         if field.tag? != tag {
             return None;
         }
         if field.is_explicit {
             return Some(Inside::Whole(field.shape));
         }
-        let found = self.shape(field.shape)?;
-        Some(inside_of(found))
+        Some(inside_of(self.shape(field.shape)?))
     }
+}
 
-    // What stands inside an element with the tag that is of the shape.
-    #[inline(always)]
-    fn plain_inside(&self, shape: u16, tag: Tag) -> Option<Inside> {
-        let found = self.shape(shape)?;
-        match found.kind {
-            ShapeKind::Leaf(number) | ShapeKind::Record(number) | ShapeKind::Items(number)
-                if is_universal(number, tag) => { Some(inside_of(found)) }
-            _ => None,
-        }
+// What stands inside an element with the tag that is of the shape.
+#[inline(always)]
+fn plain_inside(shape: Shape, tag: Tag) -> Option<Inside> {
+    match shape.kind {
+        ShapeKind::Leaf(number) | ShapeKind::Record(number) | ShapeKind::Items(number)
+            if is_universal(number, tag) => { Some(inside_of(shape)) }
+        _ => None,
     }
 }
 

@@ -29,28 +29,15 @@ pub struct Leaf<'p> {
 
 impl<'p> Leaf<'p> {
     pub fn of(piece: &'p Piece<'_>) -> Leaf<'p> {
-        match &piece.kind {
-            PieceKind::Leaf(_, contents, value) => Leaf {
-                contents,
-                value: value.as_ref(),
-            },
-            PieceKind::Opened(_, _, Some(joined)) => Leaf {
-                contents: &joined.contents,
-                value: Some(&joined.value),
-            },
-            _ => Leaf {
-                contents: &[],
-                value: None,
-            },
+        Leaf {
+            contents: piece.contents(),
+            value: piece.value(),
         }
     }
 
     // The components of an object identifier in decimal.
     pub fn number(self) -> Option<&'p str> {
-        match self.value? {
-            LeafValue::Identifier(identifier) => identifier.dotted.as_deref(),
-            _ => None,
-        }
+        self.value?.identifier()?.dotted.as_deref()
     }
 
     // The name of an object identifier, if it has one.
@@ -102,7 +89,7 @@ impl<'p> Leaf<'p> {
 
 // The characters of a string: also those that a PrintableString may not have.
 pub fn characters_of<'p>(piece: &'p Piece<'_>) -> Option<&'p str> {
-    match (&piece.kind, Leaf::of(piece).value) {
+    match (&piece.kind, piece.value()) {
         (
             _,
             Some(LeafValue::Text(text) | LeafValue::WideText(_, text) | LeafValue::OtherText(text)),

@@ -1,4 +1,3 @@
 pub mod Identifiers
-pub mod Values
 pub mod Wide
 pub mod Strings

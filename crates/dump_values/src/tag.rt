@@ -50,8 +50,10 @@ pub fn universal_header(alloc: Global, tag: u8, announced: usize) -> Result<Head
         class: ASN1Class::Universal,
         constructed: false,
         tag: BigUint::from_u64(alloc, u64::from(tag))?,
+        identifier: 0,
         size: 0,
         announced,
+        has_length_80: false,
         is_indefinite: false,
     })
 }

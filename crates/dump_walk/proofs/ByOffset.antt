@@ -1,14 +1,12 @@
 -- Elements by the offsets of their lines, for `block`.
-use Rattle.std.proofs.Common.{◌≡◌, inl, inr, ℕ, suc, ◌+◌, ◌<◌, ◌≤◌, true, false, List, [], ◌∷◌, ◌++◌, length, slice_range, refl, sym, ap, ◌∙◌, subst, append_assoc, append-nil, arith}
+use Rattle.std.proofs.Common.{◌≡◌, inl, inr, ℕ, suc, ◌+◌, ◌<◌, ◌≤◌, true, false, List, [], ◌∷◌, ◌++◌, length, slice_range, refl, sym, ap, ◌∙◌, subst, append_assoc, arith}
 use Rattle.std.specs.List.{AllByRecursion}
-use Rattle.std.specs.Prelude.{Bool, Err, Option, Result}
-use Rattle.asn1_departures.specs.declared.rule.Rule.{Rule}
-use Rattle.dump_values.specs.declared.faults.Fault.{Fault}
+use Rattle.std.specs.Prelude.{Bool, Err, Result}
+use Rattle.asn1_der.specs.declared.rule.Rule.{Rule}
 use Rattle.dump_walk.specs.ByOffset.{BeginWith, Finds, GoUpTo, HasLineAt, HasNoElementAt, IsElementAt, IsElsewhere, IsEndLine, IsFoundAt, IsLineOf, IsNoEndOf, inside_string, itself, no_line, of_definite_length, of_indefinite_form, of_other, too_short, without_end}
 use Rattle.dump_walk.specs.ByOffsetSteps.{EndsAt, HasCome, HasNoEnd, HasPassed, IsNext, IsWholeKind, StandsInside}
-use Rattle.dump_walk.specs.Fronts.{AreFronts, AreFrontsOf, Front, HoldsBehind}
-use Rattle.dump_walk.specs.PieceSteps.{IsAhead}
-use Rattle.dump_walk.specs.Pieces.{IsKind, Passes, fault_offset, front_of, kind_contents, kind_encoding, kind_front, kind_header, kind_indefinite, kind_type_name}
+use Rattle.dump_walk.specs.Fronts.{Front, HoldsBehind}
+use Rattle.dump_walk.specs.Pieces.{HasEnded, IsSized, Passes, fault_offset, front_of, kind_contents, kind_encoding, kind_front, kind_header, kind_indefinite, kind_type_name}
 use Rattle.dump_walk.specs.Steps.{ends_of}
 use Rattle.dump_walk.specs.declared.block.Block.{Block}
 use Rattle.dump_walk.specs.declared.block.Inside.{Inside}
@@ -28,56 +26,28 @@ AllByRecursion-one_more :
 AllByRecursion-one_more P [] x all one = (one, tt)
 AllByRecursion-one_more P (y ∷ ys) x all one = (all.0, AllByRecursion-one_more P ys x all.1 one)
 
--- before its first step a walk has passed no lines
-pub HasPassed-none :
-    (octets : List ℕ) (walk : Walk) → walk.cursor.octets.now ≡ octets →
-    ((fronts : List Front) (faults : List ℕ) → IsAhead walk.cursor fronts faults → AreFrontsOf octets fronts faults) →
-    HasPassed octets [] walk
-HasPassed-none octets walk same ahead = (
-  same,
-  record {
-    faults = [];
-    follow = λ later more h. ahead later more
-        (subst (λ z. AreFronts z walk.cursor.offset (ends_of walk.cursor) later more) (sym same) h);
-  },
-)
+-- the lines that a walk has passed begin the lines
+BeginWith-passed :
+    (octets : List ℕ) (fronts : List Front) (walk : Walk) → HasPassed octets fronts walk → BeginWith octets fronts
+BeginWith-passed octets fronts walk h = (walk.cursor.offset, ends_of walk.cursor, (h.0, h.1.to))
 
 module _ (octets : List ℕ) (fronts : List Front) (old : Walk) (h : HasPassed octets fronts old) where
-  -- what the walk has yet to come to follows the lines that it has passed
-  AreFrontsOf-ahead : (later : List Front) (more : List ℕ) → IsAhead old.cursor later more →
-      AreFrontsOf octets (fronts ++ later) (h.1.faults ++ more)
-  AreFrontsOf-ahead later more ahead =
-      h.1.follow later more (subst (λ z. AreFronts z old.cursor.offset (ends_of old.cursor) later more) h.0 ahead)
-
   -- where no lines are left, those are all
-  pub GoUpTo-none : (Is : Front → Type 0) → IsAhead old.cursor [] [] → GoUpTo octets fronts Is
-  GoUpTo-none Is ended = inl (
-    h.1.faults ++ [],
-    subst (λ z. AreFrontsOf octets z (h.1.faults ++ [])) (append-nil fronts) (AreFrontsOf-ahead [] [] ended),
-  )
+  pub GoUpTo-none : (Is : Front → Type 0) → HasEnded old → GoUpTo octets fronts Is
+  GoUpTo-none Is ended = inl (h.0, ended octets fronts h.0 h.1)
 
   module _ (new : Walk) (piece : Piece) (p : Passes old new piece) where
     -- the walk passes the line of the next piece
     pub HasPassed-next : HasPassed octets (fronts ++ front_of p.levels piece ∷ []) new
-    HasPassed-next =
-        let f = front_of p.levels piece in
-        let own = fault_offset piece.fault in
-        let same = p.same_octets ∙ h.0 in (
-          same,
-          record {
-            faults = h.1.faults ++ own;
-            follow = λ later more ahead.
-                subst (λ z. AreFrontsOf octets z ((h.1.faults ++ own) ++ more))
-                (sym (append_assoc fronts (f ∷ []) later))
-                (subst (λ z. AreFrontsOf octets (fronts ++ f ∷ later) z) (sym (append_assoc h.1.faults own more))
-                (AreFrontsOf-ahead (f ∷ later) (own ++ more) (p.ahead later more
-                (subst (λ z. AreFronts z new.cursor.offset (ends_of new.cursor) later more) (sym same) ahead))));
-          },
-        )
+    HasPassed-next = (h.0 ++ fault_offset piece.fault, p.ahead octets fronts h.0 h.1)
 
     -- the lines begin with these and with that of the next piece
     pub BeginWith-next : BeginWith octets (fronts ++ front_of p.levels piece ∷ [])
-    BeginWith-next = (new.cursor.offset, ends_of new.cursor, HasPassed-next.1)
+    BeginWith-next = BeginWith-passed octets (fronts ++ front_of p.levels piece ∷ []) new HasPassed-next
+
+    -- what is left of the octets begins with the next piece
+    pub left-next : p.left ≡ slice_range octets piece.offset p.end.offset
+    left-next = p.left_is ∙ ap (λ z. slice_range z piece.offset p.end.offset) h.1.same_octets
 
     -- the walk has come to the next piece
     pub HasCome-next : HasCome octets fronts new piece
@@ -86,15 +56,11 @@ module _ (octets : List ℕ) (fronts : List Front) (old : Walk) (h : HasPassed o
       end = p.end;
       around = p.around;
       left = p.left;
-      come = record {
-        faults = h.1.faults;
-        follow = λ later more here. AreFrontsOf-ahead later more (p.here later more
-            (subst (λ z. AreFronts z piece.offset (p.end ∷ p.around) later more) (sym h.0) here));
-      };
+      come = (h.0, p.here octets fronts h.0 h.1);
       passed = HasPassed-next;
       depth = p.depth ∙ sym (ap (λ z. z.depth + p.levels) p.same_place);
-      left_is = p.left_is ∙ ap (λ z. slice_range z piece.offset p.end.offset) h.0;
-      kind = p.kind;
+      left_is = left-next;
+      sized = p.sized;
     }
 
 -- a piece that holds a string is whole, and so its contents octets in what is left are those in all octets
@@ -118,7 +84,7 @@ pub record SearchedTo (place : Place) (octets : List ℕ) (offset : ℕ) (walk :
 module _ (place : Place) (octets : List ℕ) (offset : ℕ) (old new : Walk) (s : SearchedTo place octets offset old)
   where
     -- nothing stands at the offset where no lines are left
-    pub Finds-none : IsAhead old.cursor [] [] → Finds octets offset (Err Nothing)
+    pub Finds-none : HasEnded old → Finds octets offset (Err Nothing)
     Finds-none ended =
         let all = GoUpTo-none octets s.fronts old s.has_passed (λ next. offset < next.offset) ended in
         (octets, offset, itself refl refl, no_line s.fronts refl s.elsewhere all)
@@ -149,7 +115,7 @@ module _ (place : Place) (octets : List ℕ) (offset : ℕ) (old new : Walk) (s 
           Finds inside.octets.now inside.offset found → Finds octets offset found
       Finds-inside inside found stands (others, further, leads, is) =
           let (whole, skipped, holds, offset_is, within) = stands p.left p.holding in
-          let left_is = p.left_is ∙ ap (λ z. slice_range z piece.offset p.end.offset) s.has_passed.0 in
+          let left_is = left-next octets s.fronts old s.has_passed new piece p in
           let string = HoldsBehind-octets octets p.left inside.octets.now piece.offset p.end.offset
           (kind_header piece.kind) (kind_contents piece.kind) skipped (kind_type_name piece.kind) left_is whole
           holds in (
@@ -173,21 +139,19 @@ module _ (place : Place) (octets : List ℕ) (offset : ℕ) (old new : Walk) (s 
       }
 
 -- a whole encoding is one, and all octets that it announces are there
-IsWhole-kind :
-    (left : List ℕ) (offset : ℕ) (kind : PieceKind) (fault : Option Fault) → IsWholeKind kind →
-    IsKind left offset kind fault →
+IsWhole-kind : (left : List ℕ) (kind : PieceKind) → IsWholeKind kind → IsSized left kind →
     (kind_encoding kind ≡ true) × (kind_header kind + kind_contents kind ≤ length left)
-IsWhole-kind left offset (EndOfContents size) fault whole is = absurd whole
-IsWhole-kind left offset (Unreadable octets) fault whole is = absurd whole
-IsWhole-kind left offset (Cut header contents) fault whole is = absurd whole
-IsWhole-kind left offset (Opened header contents joined) fault whole is = (refl, is.1)
-IsWhole-kind left offset (Leaf header contents value) fault whole is = (refl, is.1)
+IsWhole-kind left (EndOfContents size) whole is = absurd whole
+IsWhole-kind left (Unreadable octets) whole is = absurd whole
+IsWhole-kind left (Cut header contents) whole is = absurd whole
+IsWhole-kind left (Opened header contents joined) whole is = (refl, is)
+IsWhole-kind left (Leaf header contents value) whole is = (refl, is)
 
 module _ (octets : List ℕ) (before : List Front) (walk : Walk) (piece : Piece) (h : HasCome octets before walk piece)
   where
     -- the lines up to that of the piece begin the lines
     BeginWith-piece : BeginWith octets (before ++ front_of h.levels piece ∷ [])
-    BeginWith-piece = (walk.cursor.offset, ends_of walk.cursor, h.passed.1)
+    BeginWith-piece = BeginWith-passed octets (before ++ front_of h.levels piece ∷ []) walk h.passed
 
     -- no whole element has its line where that of the piece says what stands there
     pub HasNoElementAt-line :
@@ -217,7 +181,7 @@ module _ (octets : List ℕ) (before : List Front) (walk : Walk) (piece : Piece)
     module _ (is_whole : IsWholeKind piece.kind) where
       whole : (kind_encoding piece.kind ≡ true)
           × (kind_header piece.kind + kind_contents piece.kind ≤ length h.left)
-      whole = IsWhole-kind h.left piece.offset piece.kind piece.fault is_whole h.kind
+      whole = IsWhole-kind h.left piece.kind is_whole h.sized
 
       -- a whole element of definite length is what its line says
       pub IsElementAt-sized :
@@ -275,7 +239,7 @@ pub record WentOn (start walk : Walk) (depth : ℕ) : Type 0 where
 
 module _ (start old : Walk) (depth : ℕ) (w : WentOn start old depth) where
   -- the element has no end where no lines are left
-  pub HasNoEnd-none : IsAhead old.cursor [] [] → HasNoEnd start depth
+  pub HasNoEnd-none : HasEnded old → HasNoEnd start depth
   HasNoEnd-none ended octets fronts levels h is =
       let (inside, went, are) = w.further octets fronts levels h is in
       (inside, are, GoUpTo-none octets (fronts ++ inside) old went (λ next. next.depth ≤ levels) ended)

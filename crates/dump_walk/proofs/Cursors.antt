@@ -1,8 +1,7 @@
--- Steps of a cursor over octets, each of which leaves less, for `cursor` and `segments::joined_segments`.
-use Rattle.std.proofs.Common.{◌≡◌, ℕ, suc, ◌-◌, ◌<◌, ◌≤◌, min, Bool, true, false, List, [], ◌∷◌, drop, get_or, length, reverse, slice_range, refl, sym, ap, ◌∙◌, subst, arith}
+-- Steps of a cursor over octets, each of which leaves less, for `cursor`, `walk` and `segments`.
+use Rattle.std.proofs.Common.{◌≡◌, ℕ, suc, ◌-◌, ◌<◌, ◌≤◌, min, Bool, false, List, [], ◌∷◌, drop, get_or, length, reverse, slice_range, refl, sym, ap, ◌∙◌, subst, arith}
 use Rattle.std.proofs.lemmas.List.{get_or-reverse, length-drop, length-reverse, length-take}
-use Rattle.dump_walk.specs.Ends.{taken}
-use Rattle.dump_walk.specs.Steps.{Goes, HasLeft, IsLeftOf, Takes, ends_of, none_left, one_left, to_go}
+use Rattle.dump_walk.specs.Steps.{Goes, GoesTo, HasGone, HasLeft, IsLeftOf, Takes, ends_after, ends_of, none_left, one_ended, one_left, one_more, to_go}
 use Rattle.dump_walk.specs.declared.cursor.Cursor.{Cursor}
 use Rattle.dump_walk.specs.declared.cursor.End.{End}
 use Rattle.dump_walk.specs.declared.cursor.Left.{Left}
@@ -69,11 +68,6 @@ offset-before_end m left at some =
     let d : length (drop m.offset octets) ≡ length octets - m.offset = length-drop m.offset octets in
     omega (arith, l, d, some)
 
--- an encoding takes some octets, where it announces some and some are there
-pub taken-some : (indefinite : Bool) (n there : ℕ) → 0 < n → 0 < there → 0 < taken indefinite n there
-taken-some true n there some left = left
-taken-some false n there some left = omega (arith, some, left)
-
 -- each step leaves less
 pub to_go-step_lt :
     (m n : Cursor) (left : Left) (step : Step) → IsLeftOf m left → Takes step left → Goes step m n → to_go n < to_go m
@@ -113,3 +107,51 @@ pub length-ends : (m : Cursor) (left : Left) (at : IsLeftOf m left) → length m
 length-ends m left at =
     let e : length (ends_of m) ≡ suc (length at.around) = ap length at.ends_are in
     omega (arith, e, length-reverse m.ends.items)
+
+module _ {S : Type 0} (Adds : Bool → ℕ → ℕ → List ℕ → Step → S → S → Type 0) (octets : List ℕ) (indefinite : Bool)
+    (first : S) where
+  -- where contents octets that have ended are left, octets were gone over as far
+  GoesTo-left : (offset : ℕ) (old new : List End) (result : S) → HasLeft octets offset old new →
+      GoesTo Adds octets indefinite first offset old result → GoesTo Adds octets indefinite first offset new result
+  GoesTo-left offset old new result (none_left same) h =
+      subst (λ z. GoesTo Adds octets indefinite first offset z result) same h
+  GoesTo-left offset old new result (one_left end around is form none left) h =
+      GoesTo-left offset around new result left
+      (one_ended end (subst (λ z. GoesTo Adds octets indefinite first offset z result) is h) form none)
+
+  -- a cursor that left contents octets has gone as far
+  pub HasGone-left :
+      (k m : Cursor) (result : S) → m.octets.now ≡ k.octets.now → m.offset ≡ k.offset →
+      HasLeft m.octets.now m.offset (ends_of k) (ends_of m) → HasGone Adds octets indefinite first k result →
+      HasGone Adds octets indefinite first m result
+  HasGone-left k m result same_octets offset left h =
+      let same = same_octets ∙ h.same_octets in
+      record {
+        same_octets = same;
+        to = GoesTo-left m.offset (ends_of k) (ends_of m) result
+            (subst (λ z. HasLeft z m.offset (ends_of k) (ends_of m)) same left)
+            (subst (λ z. GoesTo Adds octets indefinite first z (ends_of k) result) (sym offset) h.to);
+      }
+
+  module _ (m : Cursor) (left : Left) (at : IsLeftOf m left) (before : S)
+      (h : HasGone Adds octets indefinite first m before) where
+    -- it has gone into the innermost contents octets
+    pub GoesTo-at : GoesTo Adds octets indefinite first m.offset (at.end ∷ at.around) before
+    GoesTo-at = subst (λ z. GoesTo Adds octets indefinite first m.offset z before) at.ends_are h.to
+
+    -- what is left is a slice of the octets
+    pub slice_range-left : left.octets.now ≡ slice_range octets m.offset at.end.offset
+    slice_range-left = at.octets_are ∙ ap (λ z. slice_range z m.offset at.end.offset) h.same_octets
+
+    -- it goes one step on
+    pub HasGone-next :
+        (n : Cursor) (step : Step) (after : S) →
+        Adds left.is_indefinite m.offset (length at.around) left.octets.now step before after → Goes step m n →
+        HasGone Adds octets indefinite first n after
+    HasGone-next n step after adds (same, offset, ends) = record {
+      same_octets = same ∙ h.same_octets;
+      to = one_more m.offset at.end at.around before step GoesTo-at
+          (subst (λ z. Adds at.end.is_indefinite m.offset (length at.around) z step before after) slice_range-left
+          (subst (λ z. Adds z m.offset (length at.around) left.octets.now step before after) at.form adds)) offset
+          (ends ∙ ap (ends_after step m.offset) at.ends_are);
+    }

@@ -1,18 +1,16 @@
 -- Elements by the offsets of their lines: octets have one for each encoding, and a string may hold octets that do, too.
 use Rattle.std.specs.Prelude.{◌≡◌, ◌≢◌, ◌⊎◌, ℕ, suc, ◌+◌, ◌<◌, ◌≤◌, true, false, List, [], ◌∷◌, ◌++◌, codes, length, slice_range, Result, Ok, Err}
 use Rattle.std.specs.List.{AllByRecursion}
-use Rattle.dump_walk.specs.Fronts.{AreFronts, AreFrontsOf, Front, HoldsBehind}
+use Rattle.dump_walk.specs.Fronts.{AreFrontsOf, Front, HoldsBehind, LinesTo}
 use Rattle.dump_walk.specs.declared.block.Block.{Block}
 use Rattle.dump_walk.specs.declared.block.NoBlock.{NoBlock}
 use Rattle.dump_walk.specs.declared.block.NoBlock.TheVariants.{CutShort, EndOfContents, Nothing, Unreadable}
 use Rattle.dump_walk.specs.declared.cursor.End.{End}
 
--- the lines of octets begin with these, and those of what stands from the offset on follow them, where contents octets
--- that end so are open, the innermost first
-pub record ComeTo (octets : List ℕ) (fronts : List Front) (offset : ℕ) (ends : List End) : Type 0 where
-  pub faults : List ℕ
-  pub follow : (later : List Front) (more : List ℕ) → AreFronts octets offset ends later more
-      → AreFrontsOf octets (fronts ++ later) (faults ++ more)
+-- the lines of octets begin with these, up to the offset, where contents octets that end so are open, the innermost
+-- first
+abbrev pub ComeTo : List ℕ → List Front → ℕ → List End → Type 0
+ComeTo octets fronts offset ends = (faults : List ℕ) × LinesTo octets offset ends fronts faults
 
 -- the lines of octets begin with these; others may follow
 abbrev pub BeginWith : List ℕ → List Front → Type 0

@@ -3,8 +3,7 @@ use Rattle.std.specs.Prelude.{◌≡◌, ℕ, suc, ◌+◌, ◌<◌, ◌≤◌, 
 use Rattle.std.specs.List.{AllByRecursion}
 use Rattle.dump_walk.specs.ByOffset.{BeginWith, ComeTo, GoUpTo, IsEndLine, IsNoEndOf}
 use Rattle.dump_walk.specs.Fronts.{Front, HoldsBehind}
-use Rattle.dump_walk.specs.Pieces.{IsKind, IsHolding, front_of, kind_contents, kind_header, kind_type_name}
-use Rattle.dump_walk.specs.Steps.{ends_of}
+use Rattle.dump_walk.specs.Pieces.{IsAt, IsHolding, IsSized, front_of, kind_contents, kind_header, kind_type_name}
 use Rattle.dump_walk.specs.declared.block.Found.{Found}
 use Rattle.dump_walk.specs.declared.block.Found.TheVariants.{Elsewhere, Passed, Within}
 use Rattle.dump_walk.specs.declared.block.Inside.{Inside}
@@ -18,8 +17,7 @@ use Rattle.dump_walk.specs.declared.walk.Walk.{Walk}
 
 -- the walk has passed the first lines of octets, which are these
 abbrev pub HasPassed : List ℕ → List Front → Walk → Type 0
-HasPassed octets fronts walk =
-    (walk.cursor.octets.now ≡ octets) × ComeTo octets fronts walk.cursor.offset (ends_of walk.cursor)
+HasPassed octets fronts walk = (faults : List ℕ) × IsAt octets fronts faults walk.cursor
 
 -- the last of the lines that the walk has passed is that of the piece
 pub record HasCome (octets : List ℕ) (before : List Front) (walk : Walk) (piece : Piece) : Type 0 where
@@ -31,7 +29,7 @@ pub record HasCome (octets : List ℕ) (before : List Front) (walk : Walk) (piec
   pub passed : HasPassed octets (before ++ front_of levels piece ∷ []) walk
   pub depth : piece.place.depth ≡ walk.place.depth + levels
   pub left_is : left ≡ slice_range octets piece.offset end.offset
-  pub kind : IsKind left piece.offset piece.kind piece.fault
+  pub sized : IsSized left piece.kind
 
 -- a piece is a whole encoding, or a header of one of the indefinite form
 abbrev pub IsWholeKind : PieceKind → Type 0

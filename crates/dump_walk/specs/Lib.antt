@@ -1,10 +1,8 @@
 pub mod Fronts
 pub mod Marks
-pub mod PieceSteps
 pub mod Pieces
 pub mod Texts
 pub mod Headers
-pub mod Ends
 pub mod ByOffset
 pub mod ByOffsetSteps
 pub mod Segments

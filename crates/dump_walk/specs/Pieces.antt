@@ -1,84 +1,24 @@
 -- The pieces in which octets are gone over: encodings, end-of-contents octets, and octets that begin with no header.
--- Private contracts alone name these.
-use Rattle.std.specs.Prelude.{◌≡◌, ◌⊎◌, ℕ, ◌+◌, ◌<◌, ◌≤◌, Bool, true, false, List, [], ◌∷◌, ◌++◌, codes, drop, length, IfSome, Option, None, Some, option_map, slice_range}
-use Rattle.asn1_departures.specs.declared.rule.Rule.{Rule}
-use Rattle.asn1_headers.specs.Fault.{DecodeFault, incomplete}
-use Rattle.asn1_headers.specs.Front.{IsAtFront}
-use Rattle.asn1_headers.specs.declared.whole_header.Header.{Header}
-use Rattle.asn1_headers.specs.declared.header.ASN1Class.TheVariants.{Universal}
-use Rattle.dump_walk.specs.Fronts.{AreFronts, Front, HoldsBehind, Meaning, tag_name}
-use Rattle.dump_walk.specs.Headers.{is_stray_form}
-use Rattle.dump_values.specs.Tags.{is_gone_into}
-use Rattle.dump_walk.specs.Ends.{taken}
-use Rattle.dump_walk.specs.Segments.{AreSegmentsOf}
-use Rattle.dump_values.specs.Faults.{IsFault, IsNamed}
-use Rattle.dump_values.specs.Values.{IsMeaning, IsValue}
-use Rattle.dump_walk.specs.PieceSteps.{IsAhead, StartsNext, StartsWith}
-use Rattle.dump_walk.specs.Steps.{to_go}
-use Rattle.dump_walk.specs.declared.cursor.End.{End}
-use Rattle.dump_walk.specs.declared.cursor.Left.{Left}
-use Rattle.dump_walk.specs.declared.cursor.Step.{Step}
+use Rattle.std.specs.Prelude.{◌≡◌, ℕ, ◌+◌, ◌<◌, ◌≤◌, Bool, true, false, List, [], ◌∷◌, ◌++◌, codes, length, IfSome, Option, None, Some, slice_range, ⊤}
+use Rattle.asn1_der.specs.declared.rule.Rule.{Rule}
 use Rattle.dump_values.specs.declared.faults.Fault.{Fault}
+use Rattle.dump_values.specs.declared.value.LeafValue.{LeafValue}
+use Rattle.dump_walk.specs.Fronts.{AddsLine, AreFrontsOf, Front, HoldsBehind, IsNextLine, LinesTo, tag_name}
+use Rattle.dump_walk.specs.Steps.{HasGone, to_go}
+use Rattle.dump_walk.specs.declared.cursor.Cursor.{Cursor}
+use Rattle.dump_walk.specs.declared.cursor.End.{End}
 use Rattle.dump_walk.specs.declared.nested.Nested.{Nested}
+use Rattle.dump_walk.specs.declared.piece.Here.{Here}
+use Rattle.dump_walk.specs.declared.piece.Piece.{Piece}
 use Rattle.dump_walk.specs.declared.piece.PieceKind.{PieceKind}
 use Rattle.dump_walk.specs.declared.piece.PieceKind.TheVariants.{Cut, EndOfContents, Leaf, Opened, Unreadable}
-use Rattle.dump_walk.specs.declared.piece.Piece.{Piece}
 use Rattle.dump_walk.specs.declared.place.Place.{Place}
-use Rattle.dump_walk.specs.declared.strings.Joined.{Joined}
-use Rattle.dump_values.specs.declared.value.LeafValue.{LeafValue}
 use Rattle.dump_walk.specs.declared.walk.Walk.{Walk}
-
--- the fault stands at the offset and has no name
-abbrev pub IsNameless : ℕ → Fault → Type 0
-IsNameless offset fault = (fault.offset ≡ offset) × (fault.code ≡ None)
 
 -- the offset of what is wrong, if anything is
 abbrev pub fault_offset : Option Fault → List ℕ
 fault_offset None = []
 fault_offset (Some fault) = fault.offset ∷ []
-
--- the value of the contents octets of an encoding that is not gone into, or what is wrong with it: it has the header,
--- these length octets, begins the octets, and stands at the offset
-abbrev pub IsLeafMeaning : List ℕ → Header → List ℕ → ℕ → Option LeafValue → Option Fault → Type 0
-IsLeafMeaning left header len offset value fault =
-    ((is_stray_form header.constructed len ≡ true) × (value ≡ None) × IsFault (IsNameless offset) fault)
-    ⊎ ((is_stray_form header.constructed len ≡ false)
-    × IsMeaning header.class header.tag (slice_range left header.size (header.size + header.announced)) offset value
-    fault)
-
--- the segments in contents octets of a constructed string, joined, and their value
-abbrev pub IsJoined : Header → List ℕ → Joined → Type 0
-IsJoined header contents joined =
-    (header.class ≡ Universal) × AreSegmentsOf header.tag contents header.is_indefinite joined.contents.items
-    × (is_gone_into header.class false header.tag ≡ false)
-    × IsValue header.class header.tag joined.contents.items joined.value
-
--- what is wrong with an encoding that is gone into
-abbrev pub IsOpenedFault : Bool → ℕ → Option Fault → Type 0
-IsOpenedFault stray offset fault =
-    ((stray ≡ true) × IsFault (IsNameless offset) fault) ⊎ ((stray ≡ false) × (fault ≡ None))
-
--- a piece of the kind begins the octets, which stand at the offset, and this fault is what is wrong with it
-abbrev pub IsKind : List ℕ → ℕ → PieceKind → Option Fault → Type 0
-IsKind left offset (EndOfContents size) fault =
-    ((size ≡ 2) × (fault ≡ None)) ⊎ ((size ≡ 0) × IsFault (IsNamed offset incomplete) fault)
-IsKind left offset (Unreadable octets) fault =
-    (octets.now ≡ left) × ((found : DecodeFault) × IsFault (IsNamed offset found) fault)
-IsKind left offset (Cut header contents) fault =
-    IsAtFront left header × (length left < header.size + header.announced)
-    × (contents.now ≡ drop header.size left) × IsFault (IsNamed offset incomplete) fault
-IsKind left offset (Opened header contents joined) fault =
-    (front : IsAtFront left header) × (header.size + header.announced ≤ length left)
-    × (is_gone_into header.class header.constructed header.tag ≡ true)
-    × (contents.now
-    ≡ slice_range left header.size (taken header.is_indefinite (header.size + header.announced) (length left)))
-    × IfSome joined (IsJoined header contents.now)
-    × IsOpenedFault (is_stray_form header.constructed front.len) offset fault
-IsKind left offset (Leaf header contents value) fault =
-    (front : IsAtFront left header) × (header.size + header.announced ≤ length left)
-    × (is_gone_into header.class header.constructed header.tag ≡ false)
-    × (contents.now ≡ slice_range left header.size (header.size + header.announced))
-    × IsLeafMeaning left header front.len offset value fault
 
 -- how many octets the header of a piece has, or how many are end-of-contents octets
 abbrev pub kind_header : PieceKind → ℕ
@@ -120,16 +60,13 @@ kind_type_name (Cut header contents) = tag_name header.class header.tag
 kind_type_name (Opened header contents joined) = tag_name header.class header.tag
 kind_type_name (Leaf header contents value) = tag_name header.class header.tag
 
--- contents octets with their value, if they have one
-abbrev pub meaning_of : List ℕ → Option LeafValue → Option Meaning
-meaning_of octets value = option_map (λ v. record { octets = octets; value = v }) value
-
-abbrev pub kind_meaning : PieceKind → Option Meaning
+-- the value of a primitive encoding, if it has one
+abbrev pub kind_meaning : PieceKind → Option LeafValue
 kind_meaning (EndOfContents size) = None
 kind_meaning (Unreadable octets) = None
 kind_meaning (Cut header contents) = None
 kind_meaning (Opened header contents joined) = None
-kind_meaning (Leaf header contents value) = meaning_of contents.now value
+kind_meaning (Leaf header contents value) = value
 
 -- what the line of a piece of the kind begins with, at the offset, inside so many encodings
 abbrev pub kind_front : ℕ → ℕ → List Rule → Bool → PieceKind → Front
@@ -151,6 +88,14 @@ abbrev pub front_of : ℕ → Piece → Front
 front_of depth piece =
     kind_front piece.offset depth piece.breaches.rules.items piece.breaches.has_spare_bits piece.kind
 
+-- an encoding that is cut short announces more than is left, and a whole one no more
+abbrev pub IsSized : List ℕ → PieceKind → Type 0
+IsSized left (EndOfContents size) = ⊤
+IsSized left (Unreadable octets) = ⊤
+IsSized left (Cut header contents) = length left < header.size + header.announced
+IsSized left (Opened header contents joined) = header.size + header.announced ≤ length left
+IsSized left (Leaf header contents value) = header.size + header.announced ≤ length left
+
 -- the encodings that a piece holds are the octets of a string, which is whole
 abbrev pub IsHolding : List ℕ → PieceKind → Place → Option Nested → Type 0
 IsHolding left kind place nested =
@@ -158,20 +103,24 @@ IsHolding left kind place nested =
     × HoldsBehind (kind_type_name kind)
     (slice_range left (kind_header kind) (kind_header kind + kind_contents kind)) n.before n.octets.now)
 
--- the piece begins octets that stand at the offset, and a line of the piece starts as this says
-pub record IsPieceAs (Starts : ℕ → Front → Step → List ℕ → Type 0) (left : List ℕ) (offset : ℕ)
-    (place : Place) (piece : Piece) : Type 0 where
-  pub starts : (depth : ℕ) → Starts depth (front_of depth piece) piece.step (fault_offset piece.fault)
-  pub kind : IsKind left offset piece.kind piece.fault
-  pub offset_is : piece.offset ≡ offset
-  pub place_is : piece.place ≡ place
-  pub holding : IsHolding left piece.kind place piece.nested
+-- the piece begins what is left here
+pub record IsPiece (here : Here) (piece : Piece) : Type 0 where
+  pub line : (depth : ℕ) → IsNextLine here.left.is_indefinite here.offset depth here.left.octets.now piece.step
+      (front_of depth piece) (fault_offset piece.fault)
+  pub sized : IsSized here.left.octets.now piece.kind
+  pub offset_is : piece.offset ≡ here.offset
+  pub place_is : piece.place ≡ here.place
+  pub holding : IsHolding here.left.octets.now piece.kind here.place piece.nested
 
-abbrev pub IsFirstPiece : List ℕ → ℕ → Place → Piece → Type 0
-IsFirstPiece left offset = IsPieceAs (StartsWith left offset) left offset
+-- the lines of octets begin with these, up to the cursor, and these are the offsets of faults
+abbrev pub IsAt : List ℕ → List Front → List ℕ → Cursor → Type 0
+IsAt octets fronts faults cursor = HasGone AddsLine octets false ([], []) cursor (fronts, faults)
 
-abbrev pub IsPiece : Left → ℕ → Place → Piece → Type 0
-IsPiece left offset = IsPieceAs (StartsNext left offset) left.octets.now offset
+-- no lines are left for the walk
+abbrev pub HasEnded : Walk → Type 0
+HasEnded walk =
+    (octets : List ℕ) (fronts : List Front) (faults : List ℕ) → IsAt octets fronts faults walk.cursor →
+    AreFrontsOf octets fronts faults
 
 -- a walk came from one place to the next by the piece, which begins what is left of the contents octets around it
 pub record Passes (old new : Walk) (piece : Piece) : Type 0 where
@@ -179,12 +128,12 @@ pub record Passes (old new : Walk) (piece : Piece) : Type 0 where
   pub end : End
   pub around : List End
   pub left : List ℕ
-  pub here : (fronts : List Front) (faults : List ℕ)
-      → AreFronts old.cursor.octets.now piece.offset (end ∷ around) fronts faults → IsAhead old.cursor fronts faults
-  pub ahead : (later : List Front) (more : List ℕ) → IsAhead new.cursor later more
-      → IsAhead old.cursor (front_of levels piece ∷ later) (fault_offset piece.fault ++ more)
+  pub here : (octets : List ℕ) (fronts : List Front) (faults : List ℕ) → IsAt octets fronts faults old.cursor
+      → LinesTo octets piece.offset (end ∷ around) fronts faults
+  pub ahead : (octets : List ℕ) (fronts : List Front) (faults : List ℕ) → IsAt octets fronts faults old.cursor
+      → IsAt octets (fronts ++ front_of levels piece ∷ []) (faults ++ fault_offset piece.fault) new.cursor
   pub left_is : left ≡ slice_range old.cursor.octets.now piece.offset end.offset
-  pub kind : IsKind left piece.offset piece.kind piece.fault
+  pub sized : IsSized left piece.kind
   pub inside : piece.place.is_inside ≡ old.place.is_inside
   pub base : piece.place.base ≡ old.place.base
   pub depth : piece.place.depth ≡ old.place.depth + levels
@@ -192,5 +141,4 @@ pub record Passes (old new : Walk) (piece : Piece) : Type 0 where
   pub style : piece.place.style ≡ old.place.style
   pub holding : IsHolding left piece.kind piece.place piece.nested
   pub less : to_go new.cursor < to_go old.cursor
-  pub same_octets : new.cursor.octets.now ≡ old.cursor.octets.now
   pub same_place : new.place ≡ old.place

@@ -1,13 +1,11 @@
 -- The segments of a constructed string, and the contents octets that it has when they are joined.
-use Rattle.std.specs.Prelude.{◌≡◌, ◌↔◌, ◌==◌, ◌⊎◌, ◌&&◌, ℕ, ◌+◌, ◌<◌, ◌≤◌, Bool, true, false, IsTrue, if◌then◌else◌, List, [], ◌∷◌, ◌++◌, length, slice_range}
-use Rattle.asn1_headers.specs.declared.tags.TheConstants.{BIT_STRING, OCTET_STRING}
-use Rattle.asn1_headers.specs.Front.{HasIndefiniteForm, IsAtFront}
-use Rattle.asn1_headers.specs.declared.header.ASN1Class.TheVariants.{Universal}
-use Rattle.dump_walk.specs.Ends.{end_at, taken}
+use Rattle.std.specs.Prelude.{◌≡◌, ◌==◌, ◌⊎◌, ◌&&◌, ℕ, ◌+◌, ◌<◌, ◌≤◌, Bool, true, false, if◌then◌else◌, List, [], ◌∷◌, ◌++◌, length, slice_range}
 use Rattle.asn1_headers.specs.Indefinite.{begins_with_end}
-use Rattle.dump_walk.specs.Headers.{is_stray_form}
+use Rattle.asn1_headers.specs.declared.header.ASN1Class.TheVariants.{Universal}
+use Rattle.asn1_headers.specs.declared.tags.TheConstants.{BIT_STRING, OCTET_STRING}
 use Rattle.asn1_headers.specs.declared.whole_header.Header.{Header}
-use Rattle.dump_walk.specs.Steps.{ends_after, offset_after}
+use Rattle.dump_walk.specs.Headers.{IsHeaderOfWhole, contents_in, size_in}
+use Rattle.dump_walk.specs.Steps.{GoesTo}
 use Rattle.dump_walk.specs.declared.cursor.End.{End}
 use Rattle.dump_walk.specs.declared.cursor.Step.{Step}
 use Rattle.dump_walk.specs.declared.cursor.Step.TheVariants.{Into, Out, Past}
@@ -33,13 +31,10 @@ Joins tag before segment after =
     ((tag == BIT_STRING) ≡ true × JoinsBits before segment after)
     ⊎ ((tag == BIT_STRING) ≡ false × (after ≡ before ++ segment))
 
--- the octets begin with the header of a whole encoding that is a segment of a string with the tag
+-- the octets begin with a whole encoding that is a segment of a string with the tag, and has the header
 abbrev pub IsSegmentHeader : ℕ → List ℕ → Header → Type 0
 IsSegmentHeader tag octets header =
-    (front : IsAtFront octets header) × (header.size + header.announced ≤ length octets)
-    × (is_stray_form header.constructed front.len ≡ false)
-    × (IsTrue header.is_indefinite ↔ HasIndefiniteForm octets)
-    × (header.class ≡ Universal) × (header.tag ≡ segment_tag tag)
+    IsHeaderOfWhole octets header × (header.class ≡ Universal) × (header.tag ≡ segment_tag tag)
 
 -- octets, which end-of-contents octets may end or not, begin with these, or with a segment of a string with the tag: a
 -- primitive one is joined to those before, and a constructed one gone into, since it holds others. A cursor goes on
@@ -48,13 +43,11 @@ abbrev pub IsSegment : ℕ → List ℕ → Bool → Step → List ℕ → List 
 IsSegment tag octets within (Into first size indefinite) before after =
     ((within && begins_with_end octets) ≡ false)
     × (header : Header) × IsSegmentHeader tag octets header × (header.constructed ≡ true) × (first ≡ header.size)
-    × (size ≡ taken header.is_indefinite (header.size + header.announced) (length octets))
-    × (indefinite ≡ header.is_indefinite) × (after ≡ before)
+    × (size ≡ size_in octets header) × (indefinite ≡ header.is_indefinite) × (after ≡ before)
 IsSegment tag octets within (Past size) before after =
     ((within && begins_with_end octets) ≡ false)
     × (header : Header) × IsSegmentHeader tag octets header × (header.constructed ≡ false)
-    × (size ≡ header.size + header.announced)
-    × Joins tag before (slice_range octets header.size (header.size + header.announced)) after
+    × (size ≡ header.size + header.announced) × Joins tag before (contents_in octets header) after
 IsSegment tag octets within (Out size) before after =
     (within ≡ true) × (begins_with_end octets ≡ true) × (size ≡ 2) × (after ≡ before)
 
@@ -63,24 +56,14 @@ abbrev pub HasNoSegment : ℕ → List ℕ → Bool → List ℕ → Type 0
 HasNoSegment tag octets within before =
     (step : Step) (after : List ℕ) → IsSegment tag octets within step before after → ⊥
 
+-- a segment more is joined
+abbrev pub AddsSegment : ℕ → Bool → ℕ → ℕ → List ℕ → Step → List ℕ → List ℕ → Type 0
+AddsSegment tag within offset depth left = IsSegment tag left within
+
 -- contents octets of a string with the tag begin with segments alone, up to an offset, where contents octets with these
 -- ends are open, the innermost first. Joined they are these
-pub data BeginWithSegments (tag : ℕ) (contents : List ℕ) (indefinite : Bool) : ℕ → List End → List ℕ → Type 0 where
-  none_yet :
-      {offset : ℕ} {ends : List End} {joined : List ℕ} →
-      offset ≡ 0 → ends ≡ end_at (length contents) indefinite ∷ [] → joined ≡ no_segments tag →
-      BeginWithSegments tag contents indefinite offset ends joined
-  one_ended :
-      {offset : ℕ} {ends : List End} {joined : List ℕ} (end : End) →
-      BeginWithSegments tag contents indefinite offset (end ∷ ends) joined → end.is_indefinite ≡ false →
-      slice_range contents offset end.offset ≡ [] → BeginWithSegments tag contents indefinite offset ends joined
-  one_more :
-      {offset : ℕ} {ends : List End} {joined : List ℕ} (first : ℕ) (end : End) (around : List End) (before : List ℕ)
-      (step : Step) →
-      BeginWithSegments tag contents indefinite first (end ∷ around) before →
-      IsSegment tag (slice_range contents first end.offset) end.is_indefinite step before joined →
-      offset ≡ offset_after step first → ends ≡ ends_after step first (end ∷ around) →
-      BeginWithSegments tag contents indefinite offset ends joined
+abbrev pub BeginWithSegments : ℕ → List ℕ → Bool → ℕ → List End → List ℕ → Type 0
+BeginWithSegments tag contents indefinite = GoesTo (AddsSegment tag) contents indefinite (no_segments tag)
 
 -- contents octets are segments to their end, which joined are these
 abbrev pub AreSegmentsOf : ℕ → List ℕ → Bool → List ℕ → Type 0

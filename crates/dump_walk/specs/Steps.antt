@@ -1,19 +1,67 @@
--- How octets are gone over, step by step. Private contracts alone name these.
-use Rattle.std.specs.Prelude.{◌≡◌, ℕ, ◌+◌, ◌<◌, true, false, List, [], ◌∷◌, drop, length, ⊤, ◌≤◌, ◌*◌, ◌-◌, reverse, slice_range}
-use Rattle.dump_walk.specs.Ends.{end_at}
-use Rattle.dump_walk.specs.Headers.{is_stray_form}
-use Rattle.dump_values.specs.Tags.{is_gone_into}
-use Rattle.asn1_headers.specs.Front.{IsAtFront}
+-- How octets are gone over, step by step.
+use Rattle.std.specs.Prelude.{◌≡◌, ℕ, ◌+◌, ◌<◌, Bool, true, false, List, [], ◌∷◌, drop, length, ⊤, ◌*◌, ◌-◌, reverse, slice_range}
+use Rattle.asn1_headers.specs.declared.whole_header.Header.{Header}
+use Rattle.dump_walk.specs.Headers.{is_opened}
 use Rattle.dump_walk.specs.declared.cursor.Cursor.{Cursor}
 use Rattle.dump_walk.specs.declared.cursor.End.{End}
 use Rattle.dump_walk.specs.declared.cursor.Left.{Left}
 use Rattle.dump_walk.specs.declared.cursor.Step.{Step}
 use Rattle.dump_walk.specs.declared.cursor.Step.TheVariants.{Into, Out, Past}
-use Rattle.asn1_headers.specs.declared.whole_header.Header.{Header}
+
+-- contents octets end at the offset, if they are not of the indefinite form and end-of-contents octets end them before
+abbrev pub end_at : ℕ → Bool → End
+end_at offset indefinite = record { offset = offset; is_indefinite = indefinite }
+
+-- where a step leads from an offset
+abbrev pub offset_after : Step → ℕ → ℕ
+offset_after (Into header size indefinite) offset = offset + header
+offset_after (Past size) offset = offset + size
+offset_after (Out size) offset = offset + size
+
+-- where the contents octets end that are open after a step from an offset
+abbrev pub ends_after : Step → ℕ → List End → List End
+ends_after (Into header size indefinite) offset ends = end_at (offset + size) indefinite ∷ ends
+ends_after (Past size) offset ends = ends
+ends_after (Out size) offset ends = drop 1 ends
+
+-- the step goes on after an encoding with the header that takes so many octets: into it, or past it
+abbrev pub IsTaken : Header → ℕ → Step → Type 0
+IsTaken header size (Into first all indefinite) =
+    (is_opened header ≡ true) × (first ≡ header.size) × (all ≡ size) × (indefinite ≡ header.is_indefinite)
+IsTaken header size (Past all) = (is_opened header ≡ false) × (all ≡ size)
+IsTaken header size (Out all) = ⊥
+
+-- octets were gone over to the offset, where contents octets that end so are open, the innermost first; and from the
+-- first result this came. `Adds` says what each step adds to the result: by whether end-of-contents octets end the
+-- innermost contents octets, the offset, how many others are around these, and what is left of them.
+-- Contents octets of definite length that have ended are left. Those of the indefinite form are left by a step
+pub data GoesTo {S : Type 0} (Adds : Bool → ℕ → ℕ → List ℕ → Step → S → S → Type 0) (octets : List ℕ)
+    (indefinite : Bool) (first : S) : ℕ → List End → S → Type 0 where
+  none_yet :
+      {offset : ℕ} {ends : List End} {result : S} →
+      offset ≡ 0 → ends ≡ end_at (length octets) indefinite ∷ [] → result ≡ first →
+      GoesTo Adds octets indefinite first offset ends result
+  one_ended :
+      {offset : ℕ} {ends : List End} {result : S} (end : End) →
+      GoesTo Adds octets indefinite first offset (end ∷ ends) result → end.is_indefinite ≡ false →
+      slice_range octets offset end.offset ≡ [] → GoesTo Adds octets indefinite first offset ends result
+  one_more :
+      {offset : ℕ} {ends : List End} {result : S} (from : ℕ) (end : End) (around : List End) (before : S)
+      (step : Step) →
+      GoesTo Adds octets indefinite first from (end ∷ around) before →
+      Adds end.is_indefinite from (length around) (slice_range octets from end.offset) step before result →
+      offset ≡ offset_after step from → ends ≡ ends_after step from (end ∷ around) →
+      GoesTo Adds octets indefinite first offset ends result
 
 -- where the contents octets end that are open, the innermost first
 abbrev pub ends_of : Cursor → List End
 ends_of cursor = reverse cursor.ends.items
+
+-- a cursor has gone over the octets so far
+pub record HasGone {S : Type 0} (Adds : Bool → ℕ → ℕ → List ℕ → Step → S → S → Type 0) (octets : List ℕ)
+    (indefinite : Bool) (first : S) (cursor : Cursor) (result : S) : Type 0 where
+  pub same_octets : cursor.octets.now ≡ octets
+  pub to : GoesTo Adds octets indefinite first cursor.offset (ends_of cursor) result
 
 -- how far a cursor has still to go at most: twice for octets, since each of them may begin an encoding and leave it
 abbrev pub to_go : Cursor → ℕ
@@ -36,18 +84,6 @@ pub data HasLeft (octets : List ℕ) (offset : ℕ) : List End → List End → 
       old ≡ end ∷ around → end.is_indefinite ≡ false → slice_range octets offset end.offset ≡ [] →
       HasLeft octets offset around new → HasLeft octets offset old new
 
--- where a step leads from an offset
-abbrev pub offset_after : Step → ℕ → ℕ
-offset_after (Into header size indefinite) offset = offset + header
-offset_after (Past size) offset = offset + size
-offset_after (Out size) offset = offset + size
-
--- where the contents octets end that are open after a step from an offset
-abbrev pub ends_after : Step → ℕ → List End → List End
-ends_after (Into header size indefinite) offset ends = end_at (offset + size) indefinite ∷ ends
-ends_after (Past size) offset ends = ends
-ends_after (Out size) offset ends = drop 1 ends
-
 -- the cursor after a step
 abbrev pub Goes : Step → Cursor → Cursor → Type 0
 Goes step old new =
@@ -59,18 +95,3 @@ abbrev pub Takes : Step → Left → Type 0
 Takes (Into header size indefinite) left = (0 < header) × (0 < length left.octets.now)
 Takes (Past size) left = (0 < size) × (0 < length left.octets.now)
 Takes (Out size) left = ⊤
-
--- the step goes on after an encoding with the header that takes so many octets
-abbrev pub IsTaken : Header → ℕ → Step → Type 0
-IsTaken header size (Into first all indefinite) =
-    (is_gone_into header.class header.constructed header.tag ≡ true) × (first ≡ header.size) × (all ≡ size)
-    × (indefinite ≡ header.is_indefinite)
-IsTaken header size (Past all) =
-    (is_gone_into header.class header.constructed header.tag ≡ false) × (all ≡ size)
-IsTaken header size (Out all) = ⊥
-
--- the octets do not begin with an encoding that is whole, or of the indefinite form, as it may be
-abbrev pub HasNoWhole : List ℕ → Type 0
-HasNoWhole octets =
-    (header : Header) (front : IsAtFront octets header) → header.size + header.announced ≤ length octets →
-    is_stray_form header.constructed front.len ≡ false → ⊥

@@ -1,11 +1,10 @@
 -- The octets that a string holds, in one piece or in segments.
-use Rattle.std.specs.Prelude.{◌≡◌, ◌↔◌, ◌==◌, ◌⊎◌, ◌||◌, ◌&&◌, ℕ, ◌≤◌, nat_le, Bool, true, false, IsTrue, List, [], ◌∷◌, Result, Ok, Err, Vec, drop}
+use Rattle.std.specs.Prelude.{◌≡◌, ◌==◌, ◌⊎◌, ◌||◌, ◌&&◌, ℕ, ◌≤◌, nat_le, Bool, true, false, List, [], ◌∷◌, Result, Ok, Err, Vec, drop}
 use Rattle.std.specs.Global.{Global}
 use Rattle.asn1_headers.specs.declared.tags.TheConstants.{BIT_STRING, OCTET_STRING, OBJECT_DESCRIPTOR, UTF8_STRING, NUMERIC_STRING, UNIVERSAL_STRING, BMP_STRING}
-use Rattle.asn1_headers.specs.Front.{HasIndefiniteForm, IsAtFront}
 use Rattle.asn1_headers.specs.declared.header.ASN1Class.TheVariants.{Universal}
-use Rattle.dump_walk.specs.Headers.{is_stray_form}
 use Rattle.asn1_headers.specs.declared.whole_header.Header.{Header}
+use Rattle.dump_walk.specs.Headers.{IsHeaderOf}
 use Rattle.dump_walk.specs.Segments.{AreSegmentsOf, HaveNoSegments}
 use Rattle.dump_walk.specs.declared.string_value.NoString.{NoString}
 use Rattle.dump_walk.specs.declared.string_value.NoString.TheVariants.{Malformed, OtherType}
@@ -19,23 +18,20 @@ is_string_tag tag =
 -- an element begins with the header of a string with the tag
 abbrev pub IsStringHeader : List ℕ → ℕ → Header → Type 0
 IsStringHeader element tag header =
-    IsAtFront element header × (IsTrue header.is_indefinite ↔ HasIndefiniteForm element)
-    × (header.class ≡ Universal) × (header.tag ≡ tag) × (is_string_tag tag ≡ true)
+    IsHeaderOf element header × (header.class ≡ Universal) × (header.tag ≡ tag) × (is_string_tag tag ≡ true)
 
 -- contents octets in one piece: those of a primitive encoding, or the segments of a constructed one, joined
 abbrev pub AreInOnePiece : List ℕ → ℕ → Header → Bool → List ℕ → Type 0
 AreInOnePiece element tag header true contents =
     AreSegmentsOf tag (drop header.size element) header.is_indefinite contents
 AreInOnePiece element tag header false contents =
-    (contents ≡ drop header.size element)
-    × ((front : IsAtFront element header) → is_stray_form false front.len ≡ false)
+    (contents ≡ drop header.size element) × (header.has_length_80 ≡ false)
 
 -- there are none in one piece: a constructed encoding has something else than segments, or a primitive one has a length
 -- of the indefinite form
 abbrev pub AreInNoPiece : List ℕ → ℕ → Header → Bool → Type 0
 AreInNoPiece element tag header true = HaveNoSegments tag (drop header.size element) header.is_indefinite
-AreInNoPiece element tag header false =
-    (front : IsAtFront element header) → is_stray_form false front.len ≡ true
+AreInNoPiece element tag header false = header.has_length_80 ≡ true
 
 -- the octets of a string, by its contents octets: those of a BIT STRING stand behind the number of unused bits, which
 -- is 7 at most, and 0 where there are no bits (X.690 8.6.2)
@@ -45,27 +41,35 @@ AreOctetsOf tag contents octets =
     × ((unused : ℕ) × (contents ≡ unused ∷ octets) × (unused ≤ 7) × (octets ≡ [] → unused ≡ 0)))
     ⊎ ((tag == BIT_STRING) ≡ false × (octets ≡ contents))
 
+-- an element with the header of a string holds the octets
+abbrev pub IsHeldBy : List ℕ → ℕ → Header → List ℕ → Type 0
+IsHeldBy element tag header octets =
+    (contents : List ℕ) × AreInOnePiece element tag header header.constructed contents × AreOctetsOf tag contents octets
+
+-- its contents octets are in no piece, or hold no octets
+abbrev pub IsNoneHeldBy : List ℕ → ℕ → Header → Type 0
+IsNoneHeldBy element tag header =
+    AreInNoPiece element tag header header.constructed
+    ⊎ ((contents : List ℕ) × AreInOnePiece element tag header header.constructed contents
+    × ((octets : List ℕ) → AreOctetsOf tag contents octets → ⊥))
+
 -- the element is a string that holds the octets
 pub record HoldsOctets (element octets : List ℕ) : Type 0 where
   pub tag : ℕ
   pub header : Header
-  pub contents : List ℕ
   pub is_string : IsStringHeader element tag header
-  pub in_one_piece : AreInOnePiece element tag header header.constructed contents
-  pub are_octets : AreOctetsOf tag contents octets
+  pub holds : IsHeldBy element tag header octets
 
 -- the element is no string
 abbrev pub IsNoString : List ℕ → Type 0
 IsNoString element = (tag : ℕ) (header : Header) → IsStringHeader element tag header → ⊥
 
--- the element is a string whose contents octets are in no piece, or hold no octets
+-- the element is a string that holds none
 pub record IsMalformed (element : List ℕ) : Type 0 where
   pub tag : ℕ
   pub header : Header
   pub is_string : IsStringHeader element tag header
-  pub holds_none : AreInNoPiece element tag header header.constructed
-      ⊎ ((contents : List ℕ) × AreInOnePiece element tag header header.constructed contents
-      × ((octets : List ℕ) → AreOctetsOf tag contents octets → ⊥))
+  pub holds_none : IsNoneHeldBy element tag header
 
 abbrev pub HoldsNoOctets : List ℕ → Type 0
 HoldsNoOctets element = IsNoString element ⊎ IsMalformed element

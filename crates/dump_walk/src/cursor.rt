@@ -1,9 +1,8 @@
 // Going over the headers of octets: which encoding comes next, and inside which contents octets.
 ghost use Rattle.std.specs.Prelude.{◌≡◌, ◌&&◌, ◌-◌, ◌∷◌, [], List, IfNone, IfOk, IfSome, OnOk, drop, length, slice_range};
-ghost use Rattle.dump_walk.specs.declared.cursor.End.{End};
-ghost use Rattle.dump_walk.specs.Ends.{end_at};
 ghost use Rattle.asn1_headers.specs.Indefinite.{begins_with_end as begins_with_end_is};
-ghost use Rattle.dump_walk.specs.Steps.{Goes, HasLeft, IsLeftOf, ends_of};
+ghost use Rattle.dump_walk.specs.Steps.{Goes, HasLeft, IsLeftOf, end_at, ends_of};
+ghost use Rattle.dump_walk.specs.declared.cursor.End.{End};
 
 use crate::sum::checked_sum;
 use asn1_headers::indefinite::begins_with_end;

@@ -1,15 +1,12 @@
 // The headers of encodings, by their octets.
-ghost use Rattle.std.specs.Prelude.{◌≡◌, ◌↔◌, ◌+◌, ◌≤◌, IfNone, IfOk, IfSome, IsTrue, MatchOption, false, length};
-ghost use Rattle.asn1_headers.specs.Indefinite.{is_indefinite};
-ghost use Rattle.asn1_headers.specs.Front.{HasIndefiniteForm, HasNoHeader, IsAtFront};
-ghost use Rattle.dump_walk.specs.Headers.{is_stray_form};
-ghost use Rattle.dump_walk.specs.Ends.{taken};
-ghost use Rattle.dump_walk.specs.Steps.{HasNoWhole, IsTaken};
+ghost use Rattle.std.specs.Prelude.{◌≡◌, ◌+◌, ◌≤◌, IfOk, MatchOption, length};
+ghost use Rattle.asn1_headers.specs.Front.{HasNoHeader};
+ghost use Rattle.dump_walk.specs.Headers.{HasNoWhole, IsHeaderOf, IsHeaderOfWhole, is_stray as is_stray_is, size_in};
+ghost use Rattle.dump_walk.specs.Steps.{IsTaken};
 
 use crate::cursor::Step;
 use asn1_headers::error::ASN1DecodeErr;
-use asn1_headers::header::{HeaderCount, split_identifier};
-use asn1_headers::indefinite::is_indefinite;
+use asn1_headers::header::HeaderCount;
 use asn1_headers::whole_header::{Header, read_header};
 use dump_values::tag::holds_encodings;
 use std::alloc::{AllocError, Global};
@@ -17,7 +14,7 @@ use std::alloc::{AllocError, Global};
 // How many of the octets an encoding takes at most that begins them.
 pub fn size_of(octets: &[u8], header: &Header) -> usize
     requires { header.now.size + header.now.announced ≤ length octets.now }
-    ensures { result ≡ taken header.now.is_indefinite (header.now.size + header.now.announced) (length octets.now) }
+    ensures { result ≡ size_in octets.now header.now }
 {
     if header.is_indefinite {
         octets.len()
@@ -38,39 +35,17 @@ pub fn step_of(header: &Header, size: usize) -> Step
 }
 
 // Whether the encoding is primitive, and its length has the indefinite form, which it may not have.
-pub fn has_stray_form(octets: &[u8], header: &Header) -> bool
-    requires { IsAtFront octets.now header.now }
-    ensures { (front : IsAtFront octets.now header.now) → result ≡ is_stray_form header.now.constructed front.len }
+pub fn is_stray(header: &Header) -> bool
+    ensures { result ≡ is_stray_is header.now }
 {
-    if header.constructed {
-        return false;
-    }
-    has_indefinite_length(octets, header)
-}
-
-// Whether the length at the front has the indefinite form, also where the encoding is primitive, whose length has to be
-// definite. That form is read as a length of 0.
-fn has_indefinite_length(octets: &[u8], header: &Header) -> bool
-    requires { IsAtFront octets.now header.now }
-    ensures { (front : IsAtFront octets.now header.now) → result ≡ is_indefinite front.len }
-{
-    if header.announced > 0 {
-        return false;
-    }
-    let (_, behind) = split_identifier(octets);
-    is_indefinite(behind)
+    !header.constructed && header.has_length_80
 }
 
 // The header of an encoding that is whole, where one begins the octets. Of the indefinite form it may be cut short.
 pub fn whole_header(alloc: Global, octets: &[u8]) -> Result<Option<Header>, AllocError>
-    ensures front { IfOk result (λ found. IfSome found (IsAtFront octets.now)) }
-    ensures whole { IfOk result (λ found. IfSome found (λ header.
-        header.size + header.announced ≤ length octets.now)) }
-    ensures form { IfOk result (λ found. IfSome found (λ header.
-        IsTrue header.is_indefinite ↔ HasIndefiniteForm octets.now)) }
-    ensures no_stray { IfOk result (λ found. IfSome found (λ header. (front : IsAtFront octets.now header) →
-        is_stray_form header.constructed front.len ≡ false)) }
-    ensures none { IfOk result (λ found. IfNone found (HasNoWhole octets.now)) }
+    ensures { IfOk result (λ found. MatchOption found
+        (HasNoWhole octets.now)
+        (IsHeaderOfWhole octets.now)) }
 {
     let Some(header) = find_header(alloc, octets)? else {
         return Ok(None);
@@ -78,7 +53,7 @@ pub fn whole_header(alloc: Global, octets: &[u8]) -> Result<Option<Header>, Allo
     if header.announced > octets.len() - header.size {
         return Ok(None);
     }
-    if has_stray_form(octets, &header) {
+    if is_stray(&header) {
         return Ok(None);
     }
     Ok(Some(header))
@@ -86,11 +61,9 @@ pub fn whole_header(alloc: Global, octets: &[u8]) -> Result<Option<Header>, Allo
 
 // The header at the front, where one stands there.
 pub fn find_header(alloc: Global, octets: &[u8]) -> Result<Option<Header>, AllocError>
-    ensures found { IfOk result (λ found. MatchOption found
+    ensures { IfOk result (λ found. MatchOption found
         (HasNoHeader octets.now)
-        (IsAtFront octets.now)) }
-    ensures form { IfOk result (λ found. IfSome found (λ header.
-        IsTrue header.is_indefinite ↔ HasIndefiniteForm octets.now)) }
+        (IsHeaderOf octets.now)) }
 {
     match read_header(alloc, octets, &mut HeaderCount::new()) {
         Ok(header) => Ok(Some(header)),

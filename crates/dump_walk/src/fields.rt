@@ -58,44 +58,21 @@ struct OwnFields<'a> {
     walk: FieldWalk<'a>,
 }
 
-impl<'a> OwnFields<'a> {
-    // Inside an encoding with the tag, which says the shape.
-    fn of(
-        alloc: Global,
-        shapes: &'a Shapes,
-        depth: usize,
-        tag: Option<Tag>,
-        shape: u16,
-    ) -> Result<OwnFields<'a>, AllocError> {
-        let mut walk = FieldWalk::over(alloc, shapes, Some(shape));
-        walk.next(0, tag)?;
-        Ok(OwnFields { depth, walk })
-    }
-
-    // Which field the piece is that stands inside so many encodings, this one among them.
-    fn next(&mut self, depth: usize, tag: Option<Tag>) -> Result<Option<Spot>, AllocError> {
-        match depth.checked_sub(self.depth) {
-            Some(0) | None => Ok(None),
-            Some(inside) => self.walk.next(inside, tag),
-        }
-    }
-}
-
 impl<'a> Fields<'a> {
-    // Before the first piece of octets that stand in this. `None` where they have no names.
-    pub fn inside(alloc: Global, shapes: &'a Shapes, around: Around) -> Option<Fields<'a>> {
+    // Before the first piece of octets that stand in this.
+    pub fn inside(alloc: Global, shapes: &'a Shapes, around: Around) -> Fields<'a> {
         let walk = match around {
-            Around::Nothing => return None,
+            Around::Nothing => FieldWalk::over(alloc, shapes, None),
             Around::Document(shape) => FieldWalk::over(alloc, shapes, shape),
             Around::String(string) => FieldWalk::inside(alloc, shapes, string),
             Around::Alone(spot) => FieldWalk::alone(alloc, shapes, spot),
         };
-        Some(Fields {
+        Fields {
             shapes,
             walk,
             around,
             own: None,
-        })
+        }
     }
 
     // Which field the piece is that begins what is left, inside so many encodings.
@@ -105,6 +82,9 @@ impl<'a> Fields<'a> {
         depth: usize,
         left: Left<'_>,
     ) -> Result<Option<Field>, AllocError> {
+        if matches!(self.around, Around::Nothing) {
+            return Ok(None);
+        }
         if depth == 0 {
             self.begin(alloc, left.octets)?;
         }
@@ -133,9 +113,12 @@ impl<'a> Fields<'a> {
 
     // Which field the piece is of an encoding of which its tag alone says the type.
     fn next_own(&mut self, depth: usize, tag: Option<Tag>) -> Result<Option<Spot>, AllocError> {
-        match &mut self.own {
-            Some(own) => own.next(depth, tag),
-            None => Ok(None),
+        let Some(own) = &mut self.own else {
+            return Ok(None);
+        };
+        match depth.checked_sub(own.depth) {
+            Some(0) | None => Ok(None),
+            Some(inside) => own.walk.next(inside, tag),
         }
     }
 
@@ -148,7 +131,9 @@ impl<'a> Fields<'a> {
         spot: Option<Spot>,
     ) -> Result<(), AllocError> {
         if let Some(shape) = self.own_shape(tag, spot) {
-            self.own = Some(OwnFields::of(alloc, self.shapes, depth, tag, shape)?);
+            let mut walk = FieldWalk::over(alloc, self.shapes, Some(shape));
+            walk.next(0, tag)?;
+            self.own = Some(OwnFields { depth, walk });
         } else if let Some(own) = &self.own
             && own.depth >= depth
         {

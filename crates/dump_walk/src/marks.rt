@@ -1,11 +1,12 @@
 // Which rules of DER an encoding breaks.
-ghost use Rattle.std.specs.Prelude.{◌≡◌, ◌+◌, ◌≤◌, [], IfOk, false, true, length, map, slice_range};
+ghost use Rattle.std.specs.Prelude.{◌≡◌, ◌+◌, ◌≤◌, [], IfOk, false, true, length, map};
 ghost use Rattle.asn1_headers.specs.Front.{IsAtFront};
-ghost use Rattle.dump_walk.specs.Marks.{EndsWithZero, rule_breach as rule_breach_is, breach_of, breaches_of, spare_breach as spare_breach_is};
-ghost use Rattle.dump_walk.specs.PieceSteps.{AreRulesFound};
+ghost use Rattle.dump_walk.specs.Fronts.{AreRulesFound};
+ghost use Rattle.dump_walk.specs.Headers.{contents_in};
+ghost use Rattle.dump_walk.specs.Marks.{EndsWithZero, breaches_of, text_in};
 
 use crate::place::Place;
-use asn1_departures::{Rule, broken_rules};
+use asn1_der::{Rule, broken_rules};
 use asn1_headers::whole_header::Header;
 use std::alloc::{AllocError, Global};
 
@@ -43,45 +44,26 @@ impl Breaches {
 
     // The rules that are broken.
     pub fn describe(&self, alloc: Global) -> Result<Vec<BrokenRule>, AllocError>
-        ensures { IfOk result (λ broken. map breach_of broken.items
+        ensures { IfOk result (λ broken. map text_in broken.items
             ≡ breaches_of self.now.rules.items self.now.has_spare_bits) }
     {
-        let mut broken = described_rules(alloc, &self.rules)?;
+        let mut broken = Vec::new(alloc);
+        for rule in &self.rules {
+            broken.push(BrokenRule {
+                name: name_of(*rule),
+                section: rule.section(),
+                text: rule.text(),
+            })?;
+        }
         if !self.has_spare_bits {
             return Ok(broken);
         }
-        broken.push(spare_breach())?;
+        broken.push(BrokenRule {
+            name: "NamedBits",
+            section: "11.2.2",
+            text: "named bits that end with 0",
+        })?;
         Ok(broken)
-    }
-}
-
-fn described_rules(alloc: Global, rules: &[Rule]) -> Result<Vec<BrokenRule>, AllocError>
-    ensures { IfOk result (λ broken. map breach_of broken.items ≡ map rule_breach_is rules.now) }
-{
-    let mut broken = Vec::new(alloc);
-    for rule in rules {
-        broken.push(rule_breach(*rule))?;
-    }
-    Ok(broken)
-}
-
-fn rule_breach(rule: Rule) -> BrokenRule
-    ensures { breach_of result ≡ rule_breach_is rule }
-{
-    BrokenRule {
-        name: name_of(rule),
-        section: rule.section(),
-        text: rule.text(),
-    }
-}
-
-fn spare_breach() -> BrokenRule
-    ensures { breach_of result ≡ spare_breach_is }
-{
-    BrokenRule {
-        name: "NamedBits",
-        section: "11.2.2",
-        text: "named bits that end with 0",
     }
 }
 
@@ -96,7 +78,7 @@ pub fn find_breaches(
     requires whole { header.now.size + header.now.announced ≤ length left.now }
     ensures rules { IfOk result (λ breaches. AreRulesFound left.now header.now breaches.rules.items) }
     ensures list { IfOk result (λ breaches. breaches.has_spare_bits ≡ true
-        → EndsWithZero (slice_range left.now header.now.size (header.now.size + header.now.announced))) }
+        → EndsWithZero (contents_in left.now header.now)) }
 {
     let contents = &left[header.size..header.size + header.announced];
     Ok(Breaches {

@@ -116,11 +116,10 @@ fn hold_encodings(alloc: Global, octets: &[u8]) -> Result<bool, AllocError> {
     let mut cursor = Cursor::over(alloc, octets, false)?;
     while let Some(left) = cursor.next() {
         let is_outermost = cursor.depth() == 0;
-        let Some(seen) = look_at(alloc, left, is_outermost, guess)? else {
+        let Some(step) = look_at(alloc, left, is_outermost, &mut guess)? else {
             return Ok(false);
         };
-        cursor.go(seen.step)?;
-        guess = seen.guess;
+        cursor.go(step)?;
     }
     Ok(!matches!(guess, Guess::Chance))
 }
@@ -136,26 +135,18 @@ enum Guess {
     Chance,
 }
 
-// How a cursor goes on behind an encoding, and what the octets are taken for with it.
-#[derive(Clone, Copy, Drop)]
-struct Seen {
-    step: Step,
-    guess: Guess,
-}
-
-// What is seen of the encoding that begins what is left. `None` where none begins it, or an outermost one that may be
-// of no known type.
+// How a cursor goes on behind the encoding that begins what is left, which changes what the octets are taken for.
+// `None` where none begins it, or an outermost one that may be of no known type.
 fn look_at(
     alloc: Global,
     left: Left<'_>,
     is_outermost: bool,
-    guess: Guess,
-) -> Result<Option<Seen>, AllocError>
-    ensures { IfOk result (λ found. IfSome found (λ seen. Takes seen.step left.entry)) }
+    guess: &mut Guess,
+) -> Result<Option<Step>, AllocError>
+    ensures { IfOk result (λ found. IfSome found (λ step. Takes step left.entry)) }
 {
     if left.begins_with_end() {
-        let step = Step::Out(2);
-        return Ok(Some(Seen { step, guess }));
+        return Ok(Some(Step::Out(2)));
     }
     let Some(header) = whole_header(alloc, left.octets)? else {
         return Ok(None);
@@ -164,8 +155,8 @@ fn look_at(
         return Ok(None);
     }
     let step = step_of(&header, size_of(left.octets, &header));
-    let guess = guess_with(alloc, left.octets, header, guess)?;
-    Ok(Some(Seen { step, guess }))
+    *guess = guess_with(alloc, left.octets, header, *guess)?;
+    Ok(Some(step))
 }
 
 // What octets are taken for with one encoding more, which begins these.

@@ -1,14 +1,14 @@
 // The pieces of octets, read once for lines and for JSON.
-ghost use Rattle.std.specs.Prelude.{◌≡◌, ◌↔◌, ◌+◌, ◌<◌, ◌≤◌, false, length, string_bytes, true, IfOk, IsTrue};
-ghost use Rattle.asn1_headers.specs.Front.{HasIndefiniteForm, HasNoHeader, IsAtFront};
+ghost use Rattle.std.specs.Prelude.{◌≡◌, ◌&&◌, ◌↔◌, ◌+◌, ◌<◌, ◌≤◌, ℕ, [], None, false, length, string_bytes, true, IfOk, IsTrue};
+ghost use Rattle.asn1_headers.specs.Front.{HasNoHeader};
 ghost use Rattle.asn1_headers.specs.Indefinite.{begins_with_end};
-ghost use Rattle.dump_walk.specs.Headers.{is_stray_form};
-ghost use Rattle.dump_values.specs.Tags.{is_gone_into};
+ghost use Rattle.dump_walk.specs.Fronts.{IsJudged, IsNextLine};
+ghost use Rattle.dump_walk.specs.Headers.{IsHeaderOf, is_opened};
+ghost use Rattle.dump_walk.specs.Pieces.{IsPiece, IsSized, fault_offset, kind_contents, kind_front, kind_header, kind_indefinite, kind_type_name};
 ghost use Rattle.dump_walk.specs.declared.piece.PieceKind.TheVariants.{EndOfContents};
-ghost use Rattle.dump_walk.specs.Pieces.{IsFirstPiece, IsLeafMeaning, IsNameless, IsOpenedFault, IsPiece, kind_contents, kind_header, kind_indefinite, kind_type_name};
 
 use crate::cursor::{Left, Step};
-use crate::element_header::{has_stray_form, size_of, step_of};
+use crate::element_header::{is_stray, size_of, step_of};
 use crate::marks::{Breaches, find_breaches};
 use crate::nested::{Nested, nested_in};
 use crate::place::Place;
@@ -24,6 +24,12 @@ use dump_values::leaf::{ContentsType, Read, read_contents};
 use dump_values::tag::holds_encodings;
 use dump_values::value::LeafValue;
 use std::alloc::{AllocError, Global};
+
+// What is wrong where end-of-contents octets are missing.
+const MISSING_END: &str = "end-of-contents is missing (Incomplete)";
+
+// What is wrong with a primitive encoding whose length has the indefinite form; the length is read as 0.
+const STRAY: &str = "indefinite length of a primitive element";
 
 // What stands at the front of octets.
 #[derive(Drop)]
@@ -181,254 +187,203 @@ impl<'a> Piece<'a> {
     }
 }
 
-// The piece that begins what is left of contents octets, which stands at the offset.
-pub fn read_piece<'a>(
-    alloc: Global,
-    left: Left<'a>,
-    offset: usize,
-    place: Place,
-) -> Result<Piece<'a>, AllocError>
-    requires { left.is_indefinite ≡ false → 0 < length left.octets.now }
-    ensures { IfOk result (λ piece. IsPiece left.entry offset place piece) }
-{
-    if left.octets.is_empty() {
-        return missing_end(alloc, left, offset, place);
+// Octets that are left: where they stand among those around, and at which place.
+#[derive(Clone, Copy)]
+pub struct Here<'a> {
+    pub left: Left<'a>,
+    pub offset: usize,
+    pub place: Place,
+}
+
+impl<'a> Here<'a> {
+    // The piece that begins them.
+    pub fn read(self, alloc: Global) -> Result<Piece<'a>, AllocError>
+        requires { self.left.is_indefinite ≡ false → 0 < length self.left.octets.now }
+        ensures { IfOk result (IsPiece self.entry) }
+    {
+        if self.left.octets.is_empty() {
+            let fault = self.fault(alloc, Some("Incomplete"), MISSING_END)?;
+            return Ok(self.plain(
+                alloc,
+                PieceKind::EndOfContents(0),
+                Some(fault),
+                Step::Out(0),
+            ));
+        }
+        if self.left.begins_with_end() {
+            return Ok(self.plain(alloc, PieceKind::EndOfContents(2), None, Step::Out(2)));
+        }
+        match read_header(alloc, self.left.octets, &mut HeaderCount::new()) {
+            Ok(header) => self.encoding(alloc, header),
+            Err(ASN1DecodeErr::OutOfMemory) => Err(AllocError),
+            Err(error) => self.unreadable(alloc, &error),
+        }
     }
-    if left.begins_with_end() {
-        return Ok(end(alloc, left, offset, place));
+
+    // What is wrong here.
+    fn fault(
+        self,
+        alloc: Global,
+        code: Option<&'static str>,
+        message: &str,
+    ) -> Result<Fault, AllocError>
+        ensures { IfOk result (λ fault. fault.offset ≡ self.entry.offset) }
+    {
+        Ok(Fault {
+            offset: self.offset,
+            code,
+            message: String::from_str(alloc, message)?,
+            text: None,
+        })
     }
-    first_piece(alloc, left.octets, offset, place)
-}
 
-// End-of-contents octets.
-fn end<'a>(alloc: Global, _left: Left<'a>, offset: usize, place: Place) -> Piece<'a>
-    requires within { _left.is_indefinite ≡ true }
-    requires there { begins_with_end _left.octets.now ≡ true }
-    ensures { IsPiece _left.entry offset place result }
-{
-    Piece {
-        place,
-        offset,
-        kind: PieceKind::EndOfContents(2),
-        breaches: Breaches::none(alloc),
-        fault: None,
-        step: Step::Out(2),
-        nested: None,
+    // A piece that breaks no rule by itself, and holds no encodings.
+    fn plain(
+        self,
+        alloc: Global,
+        kind: PieceKind<'a>,
+        fault: Option<Fault>,
+        step: Step,
+    ) -> Piece<'a>
+        requires line { (depth : ℕ) → IsNextLine self.left.is_indefinite self.offset depth self.left.octets.now step
+            (kind_front self.offset depth [] false kind) (fault_offset fault) }
+        requires sized { IsSized self.left.octets.now kind }
+        ensures { IsPiece self.entry result }
+    {
+        Piece {
+            place: self.place,
+            offset: self.offset,
+            kind,
+            breaches: Breaches::none(alloc),
+            fault,
+            step,
+            nested: None,
+        }
     }
-}
 
-// End-of-contents octets that are missing.
-fn missing_end<'a>(
-    alloc: Global,
-    _left: Left<'a>,
-    offset: usize,
-    place: Place,
-) -> Result<Piece<'a>, AllocError>
-    requires within { _left.is_indefinite ≡ true }
-    requires none { length _left.octets.now ≡ 0 }
-    ensures { IfOk result (λ piece. IsPiece _left.entry offset place piece) }
-{
-    let fault = Fault {
-        offset,
-        code: Some("Incomplete"),
-        message: String::from_str(alloc, "end-of-contents is missing (Incomplete)")?,
-        text: None,
-    };
-    Ok(Piece {
-        place,
-        offset,
-        kind: PieceKind::EndOfContents(0),
-        breaches: Breaches::none(alloc),
-        fault: Some(fault),
-        step: Step::Out(0),
-        nested: None,
-    })
-}
-
-// The piece that begins octets, which stand at the offset.
-fn first_piece<'a>(
-    alloc: Global,
-    left: &'a [u8],
-    offset: usize,
-    place: Place,
-) -> Result<Piece<'a>, AllocError>
-    requires { 0 < length left.now }
-    ensures { IfOk result (λ piece. IsFirstPiece left.now offset place piece) }
-{
-    let header = match read_header(alloc, left, &mut HeaderCount::new()) {
-        Ok(header) => header,
-        Err(ASN1DecodeErr::OutOfMemory) => return Err(AllocError),
-        Err(error) => return unreadable(alloc, left, &error, offset, place),
-    };
-    if header.announced > left.len() - header.size {
-        return cut(alloc, left, header, offset, place);
+    // Octets that begin with no header.
+    fn unreadable(self, alloc: Global, error: &ASN1DecodeErr) -> Result<Piece<'a>, AllocError>
+        requires other { (self.left.is_indefinite && begins_with_end self.left.octets.now) ≡ false }
+        requires some { 0 < length self.left.octets.now }
+        requires none { HasNoHeader self.left.octets.now }
+        ensures { IfOk result (IsPiece self.entry) }
+    {
+        let octets = self.left.octets;
+        let fault = fault_at(alloc, self.offset, error)?;
+        let step = Step::Past(octets.len());
+        Ok(self.plain(alloc, PieceKind::Unreadable(octets), Some(fault), step))
     }
-    if holds_encodings(&header) {
-        return opened(alloc, left, header, offset, place);
+
+    // An encoding.
+    fn encoding(self, alloc: Global, header: Header) -> Result<Piece<'a>, AllocError>
+        requires other { (self.left.is_indefinite && begins_with_end self.left.octets.now) ≡ false }
+        requires is { IsHeaderOf self.left.octets.now header }
+        ensures { IfOk result (IsPiece self.entry) }
+    {
+        if header.announced > self.left.octets.len() - header.size {
+            return self.cut(alloc, header);
+        }
+        if holds_encodings(&header) {
+            return self.opened(alloc, header);
+        }
+        self.leaf(alloc, header)
     }
-    leaf(alloc, left, header, offset, place)
-}
 
-// Octets that begin with no header.
-fn unreadable<'a>(
-    alloc: Global,
-    left: &'a [u8],
-    error: &ASN1DecodeErr,
-    offset: usize,
-    place: Place,
-) -> Result<Piece<'a>, AllocError>
-    requires some { 0 < length left.now }
-    requires none { HasNoHeader left.now }
-    ensures { IfOk result (λ piece. IsFirstPiece left.now offset place piece) }
-{
-    Ok(Piece {
-        place,
-        offset,
-        kind: PieceKind::Unreadable(left),
-        breaches: Breaches::none(alloc),
-        fault: Some(fault_at(alloc, offset, error)?),
-        step: Step::Past(left.len()),
-        nested: None,
-    })
-}
-
-// An encoding that is cut short.
-fn cut<'a>(
-    alloc: Global,
-    left: &'a [u8],
-    header: Header,
-    offset: usize,
-    place: Place,
-) -> Result<Piece<'a>, AllocError>
-    requires front { IsAtFront left.now header }
-    requires cut { length left.now < header.size + header.announced }
-    requires form { IsTrue header.is_indefinite ↔ HasIndefiniteForm left.now }
-    ensures { IfOk result (λ piece. IsFirstPiece left.now offset place piece) }
-{
-    let (_, contents) = left.split_at(header.size);
-    let step = step_of(&header, left.len());
-    Ok(Piece {
-        place,
-        offset,
-        kind: PieceKind::Cut(header, contents),
-        breaches: Breaches::none(alloc),
-        fault: Some(fault_at(alloc, offset, &ASN1DecodeErr::Incomplete)?),
-        step,
-        nested: None,
-    })
-}
-
-// A whole encoding that is gone into.
-fn opened<'a>(
-    alloc: Global,
-    left: &'a [u8],
-    header: Header,
-    offset: usize,
-    place: Place,
-) -> Result<Piece<'a>, AllocError>
-    requires front { IsAtFront left.now header }
-    requires whole { header.size + header.announced ≤ length left.now }
-    requires opened { is_gone_into header.class header.constructed header.tag ≡ true }
-    requires form { IsTrue header.is_indefinite ↔ HasIndefiniteForm left.now }
-    ensures { IfOk result (λ piece. IsFirstPiece left.now offset place piece) }
-{
-    let size = size_of(left, &header);
-    let contents = &left[header.size..size];
-    let breaches = find_breaches(alloc, left, &header, place)?;
-    let fault = opened_fault(alloc, left, &header, offset)?;
-    let joined = read_joined(alloc, &header, contents, place)?;
-    let step = step_of(&header, size);
-    Ok(Piece {
-        place,
-        offset,
-        kind: PieceKind::Opened(header, contents, joined),
-        breaches,
-        fault,
-        step,
-        nested: None,
-    })
-}
-
-// What is wrong with an encoding that is gone into: it is primitive, and its length has the indefinite form.
-fn opened_fault(
-    alloc: Global,
-    left: &[u8],
-    header: &Header,
-    offset: usize,
-) -> Result<Option<Fault>, AllocError>
-    requires { IsAtFront left.now header.now }
-    ensures { IfOk result (λ fault. (front : IsAtFront left.now header.now) →
-        IsOpenedFault (is_stray_form header.now.constructed front.len) offset fault) }
-{
-    if has_stray_form(left, header) {
-        return Ok(Some(stray_fault(alloc, offset)?));
+    // An encoding that is cut short.
+    fn cut(self, alloc: Global, header: Header) -> Result<Piece<'a>, AllocError>
+        requires other { (self.left.is_indefinite && begins_with_end self.left.octets.now) ≡ false }
+        requires is { IsHeaderOf self.left.octets.now header }
+        requires cut { length self.left.octets.now < header.size + header.announced }
+        ensures { IfOk result (IsPiece self.entry) }
+    {
+        let (_, contents) = self.left.octets.split_at(header.size);
+        let fault = fault_at(alloc, self.offset, &ASN1DecodeErr::Incomplete)?;
+        let step = step_of(&header, self.left.octets.len());
+        Ok(self.plain(alloc, PieceKind::Cut(header, contents), Some(fault), step))
     }
-    Ok(None)
-}
 
-// The fault of a primitive encoding whose length has the indefinite form; the length is read as 0.
-fn stray_fault(alloc: Global, offset: usize) -> Result<Fault, AllocError>
-    ensures { IfOk result (IsNameless offset) }
-{
-    Ok(Fault {
-        offset,
-        code: None,
-        message: String::from_str(alloc, "indefinite length of a primitive element")?,
-        text: None,
-    })
-}
-
-// Another whole encoding.
-fn leaf<'a>(
-    alloc: Global,
-    left: &'a [u8],
-    header: Header,
-    offset: usize,
-    place: Place,
-) -> Result<Piece<'a>, AllocError>
-    requires front { IsAtFront left.now header }
-    requires whole { header.size + header.announced ≤ length left.now }
-    requires closed { is_gone_into header.class header.constructed header.tag ≡ false }
-    requires form { IsTrue header.is_indefinite ↔ HasIndefiniteForm left.now }
-    ensures { IfOk result (λ piece. IsFirstPiece left.now offset place piece) }
-{
-    let contents = &left[header.size..header.size + header.announced];
-    let breaches = find_breaches(alloc, left, &header, place)?;
-    let nested = nested_in(alloc, &header, contents, place)?;
-    let of = place.contents_type();
-    let Read { value, fault } = read_leaf(alloc, left, &header, offset, of)?;
-    let step = step_of(&header, size_of(left, &header));
-    Ok(Piece {
-        place,
-        offset,
-        kind: PieceKind::Leaf(header, contents, value),
-        breaches,
-        fault,
-        step,
-        nested,
-    })
-}
-
-// The value of the contents octets of a leaf, which are of the type, or what is wrong with it.
-fn read_leaf(
-    alloc: Global,
-    left: &[u8],
-    header: &Header,
-    offset: usize,
-    of: ContentsType,
-) -> Result<Read, AllocError>
-    requires front { IsAtFront left.now header.now }
-    requires whole { header.now.size + header.now.announced ≤ length left.now }
-    requires closed { is_gone_into header.now.class header.now.constructed header.now.tag ≡ false }
-    ensures { IfOk result (λ read. (front : IsAtFront left.now header.now) →
-        IsLeafMeaning left.now header.now front.len offset read.value read.fault) }
-{
-    if has_stray_form(left, header) {
-        return Ok(Read {
-            value: None,
-            fault: Some(stray_fault(alloc, offset)?),
-        });
+    // A whole encoding that is gone into.
+    fn opened(self, alloc: Global, header: Header) -> Result<Piece<'a>, AllocError>
+        requires other { (self.left.is_indefinite && begins_with_end self.left.octets.now) ≡ false }
+        requires is { IsHeaderOf self.left.octets.now header }
+        requires whole { header.size + header.announced ≤ length self.left.octets.now }
+        requires opened { is_opened header ≡ true }
+        ensures { IfOk result (IsPiece self.entry) }
+    {
+        let octets = self.left.octets;
+        let size = size_of(octets, &header);
+        let contents = &octets[header.size..size];
+        let breaches = find_breaches(alloc, octets, &header, self.place)?;
+        let fault = self.opened_fault(alloc, octets, &header)?;
+        let joined = read_joined(alloc, &header, contents, self.place)?;
+        let step = step_of(&header, size);
+        Ok(Piece {
+            place: self.place,
+            offset: self.offset,
+            kind: PieceKind::Opened(header, contents, joined),
+            breaches,
+            fault,
+            step,
+            nested: None,
+        })
     }
-    let contents = &left[header.size..header.size + header.announced];
-    read_contents(alloc, header, contents, offset, of)
+
+    // What is wrong with an encoding that is gone into: it is primitive, and its length has the indefinite form.
+    fn opened_fault(
+        self,
+        alloc: Global,
+        _octets: &[u8],
+        header: &Header,
+    ) -> Result<Option<Fault>, AllocError>
+        requires { is_opened header.now ≡ true }
+        ensures { IfOk result (λ fault. IsJudged _octets.now header.now self.entry.offset None (fault_offset fault)) }
+    {
+        if is_stray(header) {
+            return Ok(Some(self.fault(alloc, None, STRAY)?));
+        }
+        Ok(None)
+    }
+
+    // Another whole encoding.
+    fn leaf(self, alloc: Global, header: Header) -> Result<Piece<'a>, AllocError>
+        requires other { (self.left.is_indefinite && begins_with_end self.left.octets.now) ≡ false }
+        requires is { IsHeaderOf self.left.octets.now header }
+        requires whole { header.size + header.announced ≤ length self.left.octets.now }
+        requires closed { is_opened header ≡ false }
+        ensures { IfOk result (IsPiece self.entry) }
+    {
+        let octets = self.left.octets;
+        let contents = &octets[header.size..header.size + header.announced];
+        let breaches = find_breaches(alloc, octets, &header, self.place)?;
+        let nested = nested_in(alloc, &header, contents, self.place)?;
+        let Read { value, fault } = self.read_leaf(alloc, octets, &header)?;
+        let step = step_of(&header, size_of(octets, &header));
+        Ok(Piece {
+            place: self.place,
+            offset: self.offset,
+            kind: PieceKind::Leaf(header, contents, value),
+            breaches,
+            fault,
+            step,
+            nested,
+        })
+    }
+
+    // The value of the contents octets of a leaf, or what is wrong with it.
+    fn read_leaf(self, alloc: Global, octets: &[u8], header: &Header) -> Result<Read, AllocError>
+        requires whole { header.now.size + header.now.announced ≤ length octets.now }
+        requires closed { is_opened header.now ≡ false }
+        ensures { IfOk result (λ read. IsJudged octets.now header.now self.entry.offset read.value
+            (fault_offset read.fault)) }
+    {
+        if is_stray(header) {
+            return Ok(Read {
+                value: None,
+                fault: Some(self.fault(alloc, None, STRAY)?),
+            });
+        }
+        let contents = &octets[header.size..header.size + header.announced];
+        let of = self.place.contents_type();
+        read_contents(alloc, header, contents, self.offset, of)
+    }
 }

@@ -1,5 +1,5 @@
 // Constructed strings, which hold their octets in segments.
-ghost use Rattle.std.specs.Prelude.{◌≡◌, ℕ, List, IfOk, IsTrue, MatchOption, ◌↔◌, false, true};
+ghost use Rattle.std.specs.Prelude.{◌≡◌, ◌↔◌, ℕ, List, IfOk, IsTrue, MatchOption, false, true};
 ghost use Rattle.asn1_headers.specs.declared.header.ASN1Class.TheVariants.{Universal};
 ghost use Rattle.dump_walk.specs.Segments.{AreSegmentsOf, HasNoSegment, HaveNoSegments, IsSegment, Joins, JoinsBits, segment_tag as segment_tag_is};
 

@@ -1,10 +1,10 @@
 // The octets that strings hold.
 ghost use Rattle.std.specs.Prelude.{◌≡◌, ℕ, List, IfOk, MatchOption, true};
-ghost use Rattle.asn1_headers.specs.Front.{IsAtFront};
 ghost use Rattle.asn1_headers.specs.declared.header.ASN1Class.TheVariants.{Universal};
-ghost use Rattle.dump_walk.specs.StringOctets.{AreInNoPiece, AreInOnePiece, AreOctetsOf, IsStringAnswer, is_string_tag as is_string_tag_is};
+ghost use Rattle.dump_walk.specs.Headers.{IsHeaderOf};
+ghost use Rattle.dump_walk.specs.StringOctets.{AreInNoPiece, AreInOnePiece, AreOctetsOf, IsHeldBy, IsNoneHeldBy, IsNoString, IsStringAnswer, IsStringHeader, is_string_tag as is_string_tag_is};
 
-use crate::element_header::{find_header, has_stray_form};
+use crate::element_header::find_header;
 use crate::segments::joined_segments;
 use asn1_headers::tags::{
     BIT_STRING, BMP_STRING, NUMERIC_STRING, OBJECT_DESCRIPTOR, OCTET_STRING, UNIVERSAL_STRING,
@@ -33,18 +33,27 @@ pub enum NoString {
 pub fn string_octets(alloc: Global, element: &[u8]) -> Result<Result<Vec<u8>, NoString>, AllocError>
     ensures { IfOk result (IsStringAnswer element.now) }
 {
-    let Some(header) = find_header(alloc, element)? else {
+    let Some((tag, header)) = string_header(alloc, element)? else {
         return Ok(Err(NoString::OtherType));
     };
-    let Some(tag) = string_type(&header) else {
-        return Ok(Err(NoString::OtherType));
-    };
-    let Some(contents) = contents_in_one_piece(alloc, tag, &header, element)? else {
-        return Ok(Err(NoString::Malformed));
-    };
-    match octets_of(alloc, tag, contents)? {
+    match octets_held(alloc, tag, &header, element)? {
         Some(octets) => Ok(Ok(octets)),
         None => Ok(Err(NoString::Malformed)),
+    }
+}
+
+// The tag and the header of an element that is a string.
+fn string_header(alloc: Global, element: &[u8]) -> Result<Option<(u8, Header)>, AllocError>
+    ensures { IfOk result (λ found. MatchOption found
+        (IsNoString element.now)
+        (λ f. IsStringHeader element.now f.0 f.1)) }
+{
+    let Some(header) = find_header(alloc, element)? else {
+        return Ok(None);
+    };
+    match string_type(&header) {
+        Some(tag) => Ok(Some((tag, header))),
+        None => Ok(None),
     }
 }
 
@@ -74,6 +83,30 @@ pub fn is_string_tag(tag: u8) -> bool
     )
 }
 
+// The octets of a string with the header.
+fn octets_held(
+    alloc: Global,
+    tag: u8,
+    header: &Header,
+    element: &[u8],
+) -> Result<Option<Vec<u8>>, AllocError>
+    requires { IsHeaderOf element.now header.now }
+    ensures { IfOk result (λ found. MatchOption found
+        (IsNoneHeldBy element.now tag header.now)
+        (λ octets. IsHeldBy element.now tag header.now octets.items)) }
+{
+    let Some(contents) = contents_in_one_piece(alloc, tag, header, element)? else {
+        return Ok(None);
+    };
+    if u64::from(tag) != BIT_STRING {
+        return Ok(Some(contents));
+    }
+    match bits_behind_unused(&contents) {
+        Some(bits) => Ok(Some(Vec::from_slice(alloc, bits)?)),
+        None => Ok(None),
+    }
+}
+
 // The contents octets of a string in one piece, if they are well-formed.
 fn contents_in_one_piece(
     alloc: Global,
@@ -81,7 +114,7 @@ fn contents_in_one_piece(
     header: &Header,
     element: &[u8],
 ) -> Result<Option<Vec<u8>>, AllocError>
-    requires { IsAtFront element.now header.now }
+    requires { IsHeaderOf element.now header.now }
     ensures { IfOk result (λ found. MatchOption found
         (AreInNoPiece element.now tag header.now header.now.constructed)
         (λ contents. AreInOnePiece element.now tag header.now header.now.constructed contents.items)) }
@@ -90,29 +123,10 @@ fn contents_in_one_piece(
     if header.constructed {
         return joined_segments(alloc, tag, contents, header.is_indefinite);
     }
-    if has_stray_form(element, header) {
+    if header.has_length_80 {
         return Ok(None);
     }
-    let mut copy = Vec::new(alloc);
-    copy.extend_from_slice(contents)?;
-    Ok(Some(copy))
-}
-
-// The octets of a string, by its contents octets in one piece.
-fn octets_of(alloc: Global, tag: u8, contents: Vec<u8>) -> Result<Option<Vec<u8>>, AllocError>
-    ensures { IfOk result (λ found. MatchOption found
-        ((octets : List ℕ) → AreOctetsOf tag contents.items octets → ⊥)
-        (λ octets. AreOctetsOf tag contents.items octets.items)) }
-{
-    if u64::from(tag) != BIT_STRING {
-        return Ok(Some(contents));
-    }
-    let Some(bits) = bits_behind_unused(&contents) else {
-        return Ok(None);
-    };
-    let mut octets = Vec::new(alloc);
-    octets.extend_from_slice(bits)?;
-    Ok(Some(octets))
+    Ok(Some(Vec::from_slice(alloc, contents)?))
 }
 
 // The octets of a BIT STRING behind the number of unused bits.

@@ -21,5 +21,5 @@ pub returns-in-None : goal.returns-in-None
 returns-in-None c =
     let symbols = without_spaces c.args.text.now in
     let none : result_ok (decode_of standard symbols) ≡ None = rw c.in-None.is at c.in_ok-octets.ensures in
-    IfOk-weaker c.unpadded_form.result _ _
-    (λ form e. e ∙ sym (of_base64-none (decode_of standard symbols) symbols none)) c.unpadded_form.ensures
+    IfOk-weaker c.loose_base64_form.result _ _
+    (λ form e. e ∙ sym (of_base64-none (decode_of standard symbols) symbols none)) c.loose_base64_form.ensures

@@ -2,10 +2,9 @@
 use Rattle.std.proofs.Common.{[], ap, arith}
 use Rattle.std.proofs.lemmas.Result.{IfOk-weaker}
 use Rattle.dump_walk.specs.ByOffsetSteps.{IsFound}
-use Rattle.dump_walk.specs.PieceSteps.{IsAhead}
-use Rattle.dump_walk.specs.Pieces.{Passes}
+use Rattle.dump_walk.specs.Pieces.{HasEnded, Passes}
 use Rattle.dump_walk.specs.declared.block.Found.TheVariants.{Passed, Within}
-use Rattle.dump_walk.proofs.ByOffset.{Finds-here, Finds-inside, Finds-none, Finds-passed, HasPassed-none, SearchedTo-next}
+use Rattle.dump_walk.proofs.ByOffset.{Finds-here, Finds-inside, Finds-none, Finds-passed, SearchedTo-next}
 use Rattle.dump_walk.proofs.block.+block_at.Goals as goal
 
 pub loop-walk-init : goal.loop-walk-init
@@ -14,7 +13,7 @@ loop-walk-init t c =
     record {
       same_place = o.place;
       fronts = [];
-      has_passed = HasPassed-none c.args.octets.now c.in_ok-walk.walk o.octets o.ahead;
+      has_passed = ([], o.begun);
       elsewhere = tt;
     }
 
@@ -62,6 +61,6 @@ loop-walk-preserved t c =
 
 pub returns : goal.returns
 returns t c =
-    let ended : IsAhead c.loop-walk.walk.cursor [] [] = rw c.in_default.is at c.in_ok-piece.ensures.passes in
+    let ended : HasEnded c.loop-walk.walk = rw c.in_default.is at c.in_ok-piece.ensures.passes in
     Finds-none c.args.place c.args.octets.now c.args.offset c.loop-walk.walk c.loop-walk.walk c.loop-walk.invariant
     ended

@@ -1,6 +1,6 @@
 -- For `block::block_of`: `whole_block` may be called, and what it returns is right.
 use Rattle.std.proofs.Common.{ap, arith, subst}
-use Rattle.dump_walk.specs.Pieces.{IsKind, kind_contents, kind_encoding, kind_header, kind_type_name}
+use Rattle.dump_walk.specs.Pieces.{IsSized, kind_contents, kind_encoding, kind_header, kind_type_name}
 use Rattle.dump_walk.specs.declared.block.NoBlock.TheVariants.{EndOfContents, Unreadable}
 use Rattle.dump_walk.proofs.ByOffset.{HasNoElementAt-cut, HasNoElementAt-line}
 use Rattle.dump_walk.proofs.block.block_of.Goals as goal
@@ -21,6 +21,6 @@ pub returns-in-Cut : goal.returns-in-Cut
 returns-in-Cut c = λ before h.
     let piece = c.args.piece.now in
     let is = c.in-Cut.is in
-    let cut = (subst (λ z. IsKind h.left piece.offset z piece.fault) is h.kind).1 in
+    let cut = subst (IsSized h.left) is h.sized in
     HasNoElementAt-cut c.args.octets.now before c.args.walk.now piece h (ap kind_encoding is)
     (omega (arith, ap kind_header is, ap kind_contents is, cut))

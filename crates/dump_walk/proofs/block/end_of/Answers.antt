@@ -1,8 +1,6 @@
 -- For `block::end_of`: its loop begins with its invariant, keeps it and ends, and what it returns is right.
-use Rattle.std.proofs.Common.{[]}
 use Rattle.dump_walk.specs.ByOffsetSteps.{IsNext}
-use Rattle.dump_walk.specs.PieceSteps.{IsAhead}
-use Rattle.dump_walk.specs.Pieces.{Passes}
+use Rattle.dump_walk.specs.Pieces.{HasEnded, Passes}
 use Rattle.dump_walk.specs.declared.block.Next.TheVariants.{Behind, Deeper, Ended}
 use Rattle.dump_walk.proofs.ByOffset.{EndsAt-next, HasNoEnd-behind, HasNoEnd-none, WentOn-next}
 use Rattle.dump_walk.proofs.block.end_of.Goals as goal
@@ -31,5 +29,5 @@ returns-in-Behind c =
 
 pub returns : goal.returns
 returns c =
-    let ended : IsAhead c.loop-piece.walk.cursor [] [] = rw c.in_default.is at c.in_ok-piece.ensures.passes in
+    let ended : HasEnded c.loop-piece.walk = rw c.in_default.is at c.in_ok-piece.ensures.passes in
     HasNoEnd-none c.args.walk.now c.loop-piece.walk c.args.depth c.loop-piece.invariant ended

@@ -1,15 +1,15 @@
 -- For `segments::joined_segments`: its loop begins with its invariant, keeps it and ends, and what it returns is right.
 use Rattle.std.proofs.Common.{◌<◌, ◌≤◌, arith, ap, length, reverse, rules, subst, ◌∙◌}
-use Rattle.dump_walk.specs.Segments.{BeginWithSegments, HasNoSegment, IsSegment, none_yet}
-use Rattle.dump_walk.specs.Steps.{to_go}
-use Rattle.dump_walk.proofs.Cursors.{to_go-left_le, to_go-step_lt}
-use Rattle.dump_walk.proofs.JoinedSegments.{BeginWithSegments-at, HasJoined-left, HasJoined-next, Takes-segment, slice_range-left}
+use Rattle.dump_walk.specs.Segments.{AddsSegment, BeginWithSegments, HasNoSegment, IsSegment, no_segments}
+use Rattle.dump_walk.specs.Steps.{none_yet, to_go}
+use Rattle.dump_walk.proofs.Cursors.{GoesTo-at, HasGone-left, HasGone-next, slice_range-left, to_go-left_le, to_go-step_lt}
+use Rattle.dump_walk.proofs.JoinedSegments.{Takes-segment}
 use Rattle.dump_walk.proofs.segments.joined_segments.Goals as goal
 
 pub loop-left-init : goal.loop-left-init
 loop-left-init c = record {
   same_octets = c.in_ok-cursor.ensures.octets;
-  begin = none_yet c.in_ok-cursor.ensures.offset (ap reverse c.in_ok-cursor.ensures.ends) (search rules);
+  to = none_yet c.in_ok-cursor.ensures.offset (ap reverse c.in_ok-cursor.ensures.ends) (search rules);
 }
 
 pub loop-left-smaller : goal.loop-left-smaller
@@ -39,9 +39,9 @@ loop-left-preserved c =
     let segment : IsSegment tag left.octets.now left.is_indefinite step c.loop-left.joined.items
     c.join_next.new.joined.items =
     rw c.in-Some-2.is at c.in_ok-step.ensures in
-    HasJoined-next tag contents c.args.is_indefinite m left e.left _
-    (HasJoined-left tag contents c.args.is_indefinite c.loop-left.cursor m _ e.octets e.offset e.ended
-    c.loop-left.invariant) c.go.new.self step _ segment c.in_ok-go.ensures
+    HasGone-next (AddsSegment tag) contents c.args.is_indefinite (no_segments tag) m left e.left _
+    (HasGone-left (AddsSegment tag) contents c.args.is_indefinite (no_segments tag) c.loop-left.cursor m _ e.octets
+    e.offset e.ended c.loop-left.invariant) c.go.new.self step _ segment c.in_ok-go.ensures
 
 pub returns-in_default-2 : goal.returns-in_default-2
 returns-in_default-2 c =
@@ -54,15 +54,15 @@ returns-in_default-2 c =
     let before = c.loop-left.joined.items in
     let none : HasNoSegment tag left.octets.now left.is_indefinite before =
     rw c.in_default-2.is at c.in_ok-step.ensures in
-    let h = HasJoined-left tag contents c.args.is_indefinite c.loop-left.cursor m _ e.octets e.offset e.ended
-    c.loop-left.invariant in
-    let is = slice_range-left tag contents c.args.is_indefinite m left at before h in
+    let h = HasGone-left (AddsSegment tag) contents c.args.is_indefinite (no_segments tag) c.loop-left.cursor m _
+    e.octets e.offset e.ended c.loop-left.invariant in
+    let is = slice_range-left (AddsSegment tag) contents c.args.is_indefinite (no_segments tag) m left at before h in
     record {
       offset = m.offset;
       end = at.end;
       around = at.around;
       before = before;
-      begin = BeginWithSegments-at tag contents c.args.is_indefinite m left at before h;
+      begin = GoesTo-at (AddsSegment tag) contents c.args.is_indefinite (no_segments tag) m left at before h;
       not_ended = λ definite. subst (λ z. 0 < length z) is (at.some (at.form ∙ definite));
       no_segment = subst (λ z. HasNoSegment tag z at.end.is_indefinite before) is
           (subst (λ z. HasNoSegment tag left.octets.now z before) at.form none);
@@ -70,11 +70,13 @@ returns-in_default-2 c =
 
 pub returns : goal.returns
 returns c =
+    let tag = c.args.tag in
+    let contents = c.args.contents.now in
     let m = c.next.new.self in
     let e = c.next.ensures in
-    let h = HasJoined-left c.args.tag c.args.contents.now c.args.is_indefinite c.loop-left.cursor m _ e.octets e.offset
-    e.ended c.loop-left.invariant in (
+    let h = HasGone-left (AddsSegment tag) contents c.args.is_indefinite (no_segments tag) c.loop-left.cursor m _
+    e.octets e.offset e.ended c.loop-left.invariant in (
       m.offset,
-      subst (λ z. BeginWithSegments c.args.tag c.args.contents.now c.args.is_indefinite m.offset z
-          c.loop-left.joined.items) c.in_default.ensures.none h.begin,
+      subst (λ z. BeginWithSegments tag contents c.args.is_indefinite m.offset z c.loop-left.joined.items)
+          c.in_default.ensures.none h.to,
     )

@@ -1,29 +1,32 @@
 -- For the cycle `rows` of `rows`: its loop keeps its invariant and what it returns is right.
-use Rattle.std.proofs.Common.{[], ◌∙◌, subst}
-use Rattle.std.proofs.KnownBytes.{Appends-nil}
+use Rattle.std.proofs.Common.{◌∙◌, codes, subst, true}
 use Rattle.std.specs.Io.KnownBytes.{Appends}
 use Rattle.dump_walk.specs.Pieces.{Passes}
-use Rattle.dump_json.specs.Grammar.{AreMoreMembers}
-use Rattle.dump_json.proofs.Written.{IsBegun, IsWritten-end, IsWritten-more, IsWritten-nested, IsWritten-row}
+use Rattle.dump_json.specs.Grammar.{IsOpenArray, IsOpenObject, IsValue}
+use Rattle.dump_json.proofs.Written.{IsWritten-again, IsWritten-blocks, IsWritten-item, IsWritten-then}
 use Rattle.dump_json.proofs.line.Dumper.+rows.Goals as goal
 
 pub write_row-returns : goal.write_row-returns
 write_row-returns g t c =
-    IsWritten-row c.as_bytes.result.now _ _ _ _ _ _ c.in_ok-write_part.ensures.written c.in_ok-write_natural.ensures
-    c.as_bytes.ensures c.in_ok-write_part-2.ensures.written c.in_ok-write_nested.ensures
-    c.in_ok-write_part-3.ensures.written
+    IsWritten-then (IsOpenObject _) IsValue _ _ _ c.in_ok-is_later.ensures
+    c.in_ok-write_end.ensures
 
-pub write_nested-returns-in_default : goal.write_nested-returns-in_default
-write_nested-returns-in_default g t c =
-    ([], Appends-nil (g.W.Write.contents c.args.out.now), AreMoreMembers.no_more_members)
+pub write_end-returns-in_default : goal.write_end-returns-in_default
+write_end-returns-in_default g t c =
+    (codes "}", c.in_ok-write_part.ensures.written, λ s o. IsValue.object c.args.is_later s o)
 
-pub write_nested-returns : goal.write_nested-returns
-write_nested-returns g t c = IsWritten-nested _ _ _ c.in_ok-write_part.ensures.written c.in_ok-write_rows.ensures
+pub write_end-returns : goal.write_end-returns
+write_end-returns g t c =
+    IsWritten-again (IsOpenObject c.args.is_later) (IsOpenObject true) IsValue _ _ _
+    (IsWritten-blocks c.args.is_later _ _ _ _
+    (subst (Appends _ _) c.comma.ensures c.in_ok-write_part-2.ensures.written)
+    c.in_ok-write_part-3.ensures.written c.in_ok-write_rows.ensures)
+    (codes "}", c.in_ok-write_part-4.ensures.written, λ s o. IsValue.object true s o)
 
 pub write_rows-pieces-init : goal.write_rows-pieces-init
 write_rows-pieces-init g t c = record {
   same_place = c.in_ok-walk.ensures.place;
-  begun = (_, c.in_ok-write_part.ensures.written, IsBegun.alone);
+  begun = (_, c.in_ok-write_part.ensures.written, IsOpenArray.begin_array);
 }
 
 pub write_rows-pieces-preserved : goal.write_rows-pieces-preserved
@@ -33,10 +36,12 @@ write_rows-pieces-preserved g t c =
     record {
       same_place = p.same_place ∙ c.pieces.invariant.same_place;
       begun =
-          IsWritten-more c.pieces.is_later _ _ _ _ c.pieces.invariant.begun
-          (subst (Appends _ _) c.comma.ensures c.in_ok-write_part-2.ensures.written) c.in_ok-write_piece.ensures;
+          IsWritten-then (IsOpenArray c.pieces.is_later) (IsOpenArray true) _ _ _ c.pieces.invariant.begun
+          (IsWritten-item c.pieces.is_later _ _ _
+          (subst (Appends _ _) c.comma.ensures c.in_ok-write_part-2.ensures.written) c.in_ok-write_row.ensures);
     }
 
 pub write_rows-returns : goal.write_rows-returns
 write_rows-returns g t c =
-    IsWritten-end c.pieces.is_later _ _ _ c.pieces.invariant.begun c.in_ok-write_part-3.ensures.written
+    IsWritten-then (IsOpenArray c.pieces.is_later) IsValue _ _ _ c.pieces.invariant.begun
+    (codes "]", c.in_ok-write_part-3.ensures.written, λ s o. IsValue.array c.pieces.is_later s o)

@@ -4,17 +4,14 @@ use Rattle.dump_walk.specs.Steps.{to_go}
 use Rattle.dump_json.proofs.Walk.{RowsTo}
 use Rattle.dump_json.proofs.line.Dumper.+rows.Given as goal
 
-abbrev pub decreases-write_nested : goal.decreases-write_nested
-decreases-write_nested g l = 4 * l.piece.now.place.documents
+abbrev pub decreases-write_end : goal.decreases-write_end
+decreases-write_end g l = 3 * l.piece.now.place.documents
 
 abbrev pub decreases-write_row : goal.decreases-write_row
-decreases-write_row g l = 4 * l.piece.now.place.documents + 1
-
-abbrev pub decreases-write_piece : goal.decreases-write_piece
-decreases-write_piece g l = 4 * l.piece.place.documents + 2
+decreases-write_row g l = 3 * l.piece.place.documents + 1
 
 abbrev pub decreases-write_rows : goal.decreases-write_rows
-decreases-write_rows g l = 4 * l.place.documents + 3
+decreases-write_rows g l = 3 * l.place.documents + 2
 
 -- the objects of the pieces before the walk were written
 abbrev pub invariant-write_rows-pieces : goal.invariant-write_rows-pieces

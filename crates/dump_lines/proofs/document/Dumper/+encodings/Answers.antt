@@ -5,8 +5,7 @@ use Rattle.std.specs.Option.{option_or}
 use Rattle.std.proofs.lemmas.Result.{on_ok_weaker}
 use Rattle.dump_lines.specs.Dump.{IsTextOf}
 use Rattle.dump_lines.specs.Steps.{IsInner, IsOwn, mark_offsets, shown_piece}
-use Rattle.dump_walk.specs.Pieces.{Passes, kind_header, kind_type_name}
-use Rattle.dump_walk.specs.PieceSteps.{IsAhead}
+use Rattle.dump_walk.specs.Pieces.{HasEnded, Passes, kind_header, kind_type_name}
 use Rattle.dump_walk.proofs.Positions.{StandAt-behind}
 use Rattle.dump_rows.proofs.Printed.{IsPrinted-append, IsPrinted-nil, IsPrinted-weaker}
 use Rattle.dump_lines.proofs.Shown.{IsInner-none, IsInner-whole, IsOwn-put, IsWhole-shown, ShownTo, ShownTo-append, ShownTo-none}
@@ -19,7 +18,7 @@ push_encodings-loop-walk-init g t c =
     let marks = mark_offsets c.args.marks.now.items in
     IsPrinted-nil g.W.Write.contents
     (ShownTo strict c.args.place c.args.octets.now c.in_ok-walk.walk None marks marks) c.args.printer.now
-    (ShownTo-none strict c.args.place c.args.octets.now c.in_ok-walk.walk marks o.octets o.place o.ahead)
+    (ShownTo-none strict c.args.place c.args.octets.now c.in_ok-walk.walk marks o.begun o.place)
 
 pub push_encodings-loop-walk-preserved : goal.push_encodings-loop-walk-preserved
 push_encodings-loop-walk-preserved g t c =
@@ -39,7 +38,7 @@ push_encodings-loop-walk-preserved g t c =
 
 pub push_encodings-returns : goal.push_encodings-returns
 push_encodings-returns g t c =
-    let ended : IsAhead c.loop-walk.walk.cursor [] [] = rw c.in_default.is at c.in_ok-piece.ensures.passes in
+    let ended : HasEnded c.loop-walk.walk = rw c.in_default.is at c.in_ok-piece.ensures.passes in
     IsPrinted-weaker g.W.Write.contents _ _ c.args.printer.now c.loop-walk.printer
     (λ text. IsWhole-shown c.args.self.now.is_strict c.args.place c.args.octets.now c.loop-walk.walk c.loop-walk.first _
     _ text ended) c.loop-walk.invariant

@@ -1,6 +1,6 @@
 -- For `cursor::Cursor::innermost`: what it returns is right (`some`).
 use Rattle.std.proofs.Common.{ap, false, reverse, sym, ◌∙◌, arith}
-use Rattle.dump_walk.specs.Ends.{end_at}
+use Rattle.dump_walk.specs.Steps.{end_at}
 use Rattle.dump_walk.proofs.Cursors.{reverse-innermost}
 use Rattle.dump_walk.proofs.cursor.Cursor.innermost.Goals as goal
 

@@ -1,3 +1,0 @@
-pub mod Spots
-pub mod Names
-pub mod Walks
