@@ -72,7 +72,10 @@ def exports(library):
             found[name] = first if (TOP / "crates" / first).is_dir() else library
     found |= {name: library for name in re.findall(r"^pub (?:struct|enum) (\w+)", text, re.M)}
     if library == "simple_asn1":
+        sections = " ".join(names for _, _, names in SECTIONS)
         for module in re.findall(r"^pub mod (\w+);", text, re.M):
+            if f"{module}::*" not in sections:
+                continue  # other crates of the library use it
             inside = (TOP / "crates" / library / "src" / f"{module}.rt").read_text()
             found |= {f"{module}::{name}": library for name in re.findall(r"^pub fn (\w+)", inside, re.M)}
     return found | {name: library for name in re.findall(r"^macro_rules! (\w+)", text, re.M)}

@@ -128,7 +128,7 @@ WHOLE = [
           needs="cc", uses="c++ cargo clang make mypy openssl pkg-config python:pip qemu-x86_64 valgrind xxd",
           after="libraries"),
     Check("growth", "scripts/growth",
-          "in C, Rust, Python and JSON twice the size takes three times as long at most; memory has bounds",
+          "in C, Rust, Python and der_dump twice the size takes three times as long at most; memory has bounds",
           uses="cc cargo", programs="der_dump der_signed", after="libraries", is_alone=True),
 ]
 
@@ -166,6 +166,9 @@ SHORT = [
 # what no gate runs
 BY_HAND = [
     Check("times", "lib/times.py", "with the log of a gate that proved everything: data/times is written anew"),
+    Check("growth-shapes", "scripts/growth",
+          "growth, with each call on documents of a hundred shapes: what it answers is what plain readers say",
+          uses="cc cargo", programs="der_dump", words=("shapes",), after="libraries", is_alone=True),
     Check("growth-library", "lib/growth/library.py", "twice the size takes the library at most three times as long",
           programs="test_calls", is_alone=True),
     Check("picture", "scripts/picture", "the picture of the README is the page that chromium shows", needs="chromium",

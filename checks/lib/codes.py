@@ -198,7 +198,7 @@ def arms(path, pattern):
 
 def compared():
     """What sources in Rattle say of statuses and rules, each with its file, and what codes.txt says."""
-    crates = "crates/asn1_departures"
+    crates = "crates/asn1_der"
     texts, clauses = {it.name: it.text for it in RULES}, {it.name: it.more["clauses"] for it in RULES}
     source = (TOP / crates / "src/rule.rt").read_text()
     section, text = source.split("pub fn text(")
@@ -210,13 +210,13 @@ def compared():
     for word, wanted in [("section_of", clauses), ("text_of", texts)]:
         yield f"{crates}/specs/Rules.antt", arms(f"{crates}/specs/Rules.antt", word + r' (\w+) = codes "(.*)"'), wanted
     numbers = {it.name: str(it.number) for it in RULES}
-    yield "crates/simple_asn1_c/src/departures.rt", arms("crates/simple_asn1_c/src/departures.rt",
-                                                         r"Rule::(\w+) => (\d+),"), numbers
+    yield "crates/asn1_records/src/departures.rt", arms("crates/asn1_records/src/departures.rt",
+                                                        r"Rule::(\w+) => (\d+),"), numbers
     names = {it.name: it.name for it in RULES}
     yield "crates/dump_walk/src/marks.rt", arms("crates/dump_walk/src/marks.rt", r'Rule::(\w+) => "(\w+)",'), names
-    said = arms("crates/simple_asn1_c/src/status.rt", r"pub const (\w+): u32 = (\d+);")
+    said = arms("crates/asn1_records/src/status.rt", r"pub const (\w+): u32 = (\d+);")
     named = {"OUT_OF_RANGE": "RANGE", "DONE": "OK"}
-    yield "crates/simple_asn1_c/src/status.rt", said, {
+    yield "crates/asn1_records/src/status.rt", said, {
         it: next(str(code.number) for code in STATUSES if code.name == named.get(it, it)) for it in said}
 
 

@@ -38,6 +38,10 @@ VERSIONS = {
     "crates/example_certificate/src/main.rt": r'\.version\("(.*)"\)',
 }
 
+# tables that wrong_lines has to refuse
+WRONG_TABLES = ["A ::= SEQUENCE", "A", "  a A", "A ::= 2\n  1.2.3 B", "A ::= 2\n  1x a", "A ::= 2\n  a [x] A",
+                "A ::= SET OF B", "A ::= 2\nA ::= 2"]
+
 
 def wrong_versions():
     found = {name: re.findall(pattern, (TOP / name).read_text(), re.M) for name, pattern in VERSIONS.items()}
@@ -66,6 +70,53 @@ def wrong_types():
     lists = re.findall(r"^- Types of (?:documents|messages) are (.*?)\.(?:\n| No)", page, re.M | re.S)
     for name in sorted(known ^ set(SPAN.findall(" ".join(lists)))):
         yield f"{name} stands in {'roots.rt' if name in known else 'docs/DUMP.md'} alone"
+
+
+SHAPES = TOP / "crates/dump_shapes/src"
+# what stands behind the name of a field
+FIELD = re.compile(r"(?:\[(?:APPLICATION |UNIVERSAL )?\d+\] )?(?:EXPLICIT )?(.*?)(?: OPTIONAL)?")
+
+
+def wrong_shapes():
+    """Lines of the tables of shapes in another form, or by a name of no shape: der_dump takes nothing from them."""
+    yield from (f"the wrong table {text!r} passes" for text in WRONG_TABLES if not list(wrong_lines(text.splitlines())))
+    order = re.findall(r"^    (\w+)::TABLE,$", (SHAPES / "tables.rt").read_text(), re.M)
+    texts = [(SHAPES / "tables" / f"{name}.rt").read_text().split('"')[1] for name in order]
+    lines = [line for text in texts for line in text.splitlines() if line not in ("", "\\") and line[:2] != "--"]
+    yield from wrong_lines(lines)
+    fits = re.search(r'FITS: &str = "\\\n(.*?)"', (SHAPES / "tables/roots.rt").read_text(), re.S)[1].splitlines()
+    yield from wrong_fits(fits, {line.split(" ::= ")[0] for line in lines})
+    yield from (f"the wrong line {line!r} passes" for line in ("B 1 2", "A 1") if not list(wrong_fits([line], {"A"})))
+
+
+def wrong_fits(lines, shapes):
+    for line in lines:
+        found = re.fullmatch(r"(\S+) \d+ \d+", line)
+        if not found or found[1] not in shapes:
+            yield f"the table FITS has the line {line!r}"
+
+
+def wrong_lines(lines):
+    named = [line.split(" ::= ") for line in lines if not line.startswith("  ")]
+    shapes = {words[0]: words[-1] for words in named}
+    if len(shapes) < len(named):
+        yield "two shapes have one name"
+    of = [""]
+    for line in lines:
+        name, _, text = line[2:].partition(" ")
+        if not line.startswith("  "):
+            of = re.split(" OF | CONTAINING ", line.split(" ::= ")[-1])
+            word = re.sub(r" (?:CLOSED|HOLDING|NAMED|ADDRESS)$|^\[UNIVERSAL \d+\] ", "", of[0])
+            is_right = {*of[1:]} <= {*shapes} and (
+                word in ("CHOICE", "OPEN", "KNOWN") or shapes.get(word, word).isdigit())
+        elif of[0] in ("OPEN", "KNOWN"):
+            is_right = re.fullmatch(r"\d+(\.\d+)+", name) and text in shapes
+        elif of[0] == "CHOICE" or of[0].endswith(("SEQUENCE", "SET")):
+            is_right = not name[0].isdigit() and FIELD.fullmatch(text)[1] in shapes
+        else:
+            is_right = name.isdigit() and text
+        if not is_right:
+            yield f"a table of shapes has the line {line!r}"
 
 
 def wrong_logic():
@@ -140,7 +191,7 @@ def main(words):
     for fault in wrong_counts():
         print(f"links: wrong bodies: {fault}")
         wrong += 1
-    for fault in wrong_types():
+    for fault in [*wrong_types(), *wrong_shapes()]:
         print(f"links: types: {fault}")
         wrong += 1
     for fault in wrong_logic():

@@ -72,8 +72,10 @@ def take_built(folder, crates):
                 (folder / path.name).symlink_to(path)
 
 
-def programs_of(checks):
-    return sorted({crate for it in checks for crate in it.programs.split()})
+def programs_of(checks, words=()):
+    """The crates whose programs these checks run; if words name some of them, these alone."""
+    crates = {crate for it in checks for crate in it.programs.split()}
+    return sorted(crates & set(words) or crates)
 
 
 def by_name(names, words, options):
@@ -87,10 +89,10 @@ def by_name(names, words, options):
         if "PROGRAM_DIR" in os.environ:
             folder = pathlib.Path(os.environ["PROGRAM_DIR"])
         elif "--built" in options:
-            take_built(folder, programs_of(checks))
+            take_built(folder, programs_of(checks, words))
         else:
             how = "unproved" if "--unproved" in options else "proved"
-            jobs = [build_of(it, how, folder) for it in programs_of(checks)]
+            jobs = [build_of(it, how, folder) for it in programs_of(checks, words)]
         if needs_libraries and "--built" not in options:
             jobs.append(job_of(LIBRARIES, (), None, False))
         jobs += [job_of(it, words or it.words, folder, "--short" in options) for it in checks]

@@ -1,9 +1,11 @@
 """The definitions that have to be right: those that docs/TRUST.md names.
 
-    checks/run trust               looks whether the page names each file, with as many lines as there are, and the
-                                   numbers for `from_der` alone and together
-    checks/run trust -- --print    prints them too as one text, in the page's order, without imports, and the numbers of
-                                   tags that they name
+    checks/run trust                       looks whether the page names each file, with as many lines as there are, and
+                                           the numbers for `from_der` alone and together
+    checks/run trust -- --print            prints them too as one text, in the page's order, without imports, and the
+                                           numbers of tags that they name
+    checks/run trust -- --print accepted   prints those that say what `from_der` accepts, and as which trees
+    checks/run trust -- --print faults     prints those that say, beyond these, with which fault it rejects all else
 
 They are what the contracts of CALLS rest on: each definition that a contract names, and those that this names in turn.
 Empty lines are not counted, and comments are.
@@ -16,10 +18,12 @@ TOP = pathlib.Path(__file__).resolve().parent.parent.parent
 TRUST = TOP / "docs/TRUST.md"
 CALLS = {"from_der": "asn1_blocks/src/read.rt", "to_der": "simple_asn1/src/write.rt",
          "rewrite": "simple_asn1/src/write.rt", "from_der_strict": "simple_asn1/src/write/strict.rt",
-         "is_der": "asn1_der/src/der.rt", "departures": "asn1_departures/src/listing.rt",
-         "law_departures": "asn1_departures/src/laws.rt", "law_der_is_read": "asn1_laws/src/laws.rt",
+         "is_der": "asn1_der/src/der.rt", "departures": "asn1_der/src/listing.rt",
+         "law_departures": "asn1_der/src/laws.rt", "law_der_is_read": "asn1_laws/src/laws.rt",
          "law_der_is_canonical": "asn1_laws/src/laws.rt", "law_written_is_der": "asn1_laws/src/laws.rt"}
 TAGS = "asn1_headers/src/tags.rt"
+READER = {"from_der": CALLS["from_der"]}
+ACCEPTANCE = ("document", "accepts")  # the clauses of `from_der` that say nothing of faults
 
 IMPORT = re.compile(r"^(?:ghost |pub )?use Rattle\.(\w+)\.specs\.([\w.]+?)\.\{([^}]*)\}", re.M)
 WORD = re.compile(r"[^\s(){}\[\],.;→λ]+")
@@ -58,18 +62,21 @@ def code(text):
     return "\n".join(line for line in text.splitlines() if line.strip() and not line.lstrip().startswith("--"))
 
 
-def contract(call, path):
-    """The clauses of a function, and what its file imports."""
+def contract(call, path, clauses):
+    """The clauses of a function, all of them or those with these names, and what its file imports."""
     text = (TOP / "crates" / path).read_text()
     begin = re.search(rf"^pub fn {call}\(", text, re.M).start()
-    return text[begin:text.index("\n{", begin)], imports(text)
+    said = text[begin:text.index("\n{", begin)]
+    if clauses:
+        said = "\n".join(re.findall(rf"^ +ensures (?:{'|'.join(clauses)}) \{{.*?\}}$", said, re.M | re.S))
+    return said, imports(text)
 
 
-def reached(calls):
-    """The definitions that the calls' contracts rest on: of each file the numbers of those in it."""
+def reached(calls, clauses=()):
+    """The definitions that the calls' contracts rest on, or those of their clauses with these names, by files."""
     files, found = {}, {}
-    todo = [(it, where[it]) for text, where in (contract(*it) for it in calls.items()) for it in WORD.findall(text)
-            if it in where]
+    todo = [(it, where[it]) for text, where in (contract(*it, clauses) for it in calls.items())
+            for it in WORD.findall(text) if it in where]
     while todo:
         name, key = todo.pop()
         if key not in files:
@@ -104,6 +111,29 @@ def count(definitions):
     return sum(1 for it in definitions for line in it.splitlines() if line.strip())
 
 
+def lines_of(definitions):
+    return sum(map(count, definitions.values()))
+
+
+def part(name):
+    """The definitions of all calls; or those that say what `from_der` accepts, or how it rejects the rest."""
+    if name not in ("accepted", "faults"):
+        return reached(CALLS)
+    accepted = reached(READER, ACCEPTANCE)
+    if name == "accepted":
+        return accepted
+    return {key: [it for it in texts if it not in accepted.get(key, [])] for key, texts in reached(READER).items()}
+
+
+def print_definitions(definitions, listed):
+    for key in listed:
+        if definitions.get(key):
+            print(f"-- crates/{key[0]}/specs/{key[1]}.antt\n")
+            print("\n\n".join(it.strip("\n") for it in definitions[key]) + "\n")
+    print(f"-- crates/{TAGS}: the numbers of tags, which definitions name\n")
+    print((TOP / "crates" / TAGS).read_text())
+
+
 def main(words):
     definitions, wrong, rows = reached(CALLS), [], list(named())
     listed = [key for keys, _ in rows for key in keys]
@@ -115,17 +145,15 @@ def main(words):
         there = sum(count(definitions.get(it, [])) for it in keys)
         if there != lines:
             wrong.append(f"{', '.join(it for _, it in keys)}: {there} lines, where the page has {lines}")
-    total, alone = (sum(map(count, it.values())) for it in (definitions, reached({"from_der": CALLS["from_der"]})))
+    total, alone = lines_of(definitions), lines_of(reached(READER))
     for name, lines, pattern in (("together", total, r"\| Together \| (\d+) \|"),
-                                 ("from_der alone", alone, r"`from_der`\s+\((\d+)\s+lines\)")):
+                                 ("from_der alone", alone, r"`from_der`\s+\((\d+)\s+lines\)"),
+                                 *((it, lines_of(part(it)), rf"--print {it}`\s+\((\d+)\s+lines\)")
+                                   for it in ("accepted", "faults"))):
         if said(pattern) != lines:
             wrong.append(f"{name}: {lines} lines, where the page has {said(pattern)}")
-    if "--print" in words:
-        for crate, path in listed:
-            print(f"-- crates/{crate}/specs/{path}.antt\n")
-            print("\n\n".join(it.strip("\n") for it in definitions.get((crate, path), [])) + "\n")
-        print(f"-- crates/{TAGS}: the numbers of tags, which definitions name\n")
-        print((TOP / "crates" / TAGS).read_text())
+    if words[:1] == ["--print"]:
+        print_definitions(part(words[-1]), listed)
     for fault in wrong:
         print(f"trust: docs/TRUST.md: {fault}", file=sys.stderr)
     print(f"trust: {len(listed)} files, {total} lines of definitions, {alone} of them for from_der, {len(wrong)} wrong",

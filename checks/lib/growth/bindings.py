@@ -5,11 +5,10 @@ INTEGER, and many items.
 
 KIND is `c`, `rust` or `python`, of which PROGRAM is given a call and a file, and prints the processor time of the call
 in microseconds and a status; or `json`, for `der_dump`. It fails where twice the size takes more than three times as
-long, or where 100 kB take more than a second. With PATIENCE=N in the environment, for a machine that does other work,
-each call is timed once, may take N seconds, and sizes are not compared. Of `memory`, PROGRAM is given a call alone, and
-prints how many kB it takes for 100 MB without room for what it writes, a status and a count. Of `signed`, PROGRAM is
-`der_signed`, which may take twice its input. `der_dump` may take its input and 20 MiB, as lines, as JSON, on a
-page, and in an account.
+long, or where 100 kB take more than a second. With PATIENCE=N in the environment each call is timed once. Of `memory`,
+PROGRAM is given a call and a shape, and prints how many kB it takes for 100 MB without room for what it writes, a
+status and a count. Of `signed`, PROGRAM is `der_signed`, which may take twice its input. `der_dump` may take its input
+and 20 MiB: as lines, as JSON and on a page, of many items and of many groups, and in an account.
 """
 import filecmp
 import json
@@ -19,11 +18,9 @@ import subprocess
 import sys
 import tempfile
 
+from bounds import RUNS, SIZES, is_well
+from shapes import ALGORITHM, LIST_FRONT, REVOKED, SIGNATURE
 from x690 import encoding, header
-
-SIZES = (25_000, 50_000, 100_000)
-PATIENCE = float(os.environ.get("PATIENCE", 1))
-MOST_SECONDS, MOST_RATIO, NOISE, RUNS = 1.0 * PATIENCE, 3.0, 0.01, 3 if PATIENCE == 1 else 1
 
 
 def long_number(size):
@@ -85,30 +82,36 @@ CALLS = {
     "json": {shape: {OK: "--json"} for shape in SHAPES},
 }
 
-# what each call without room answers of NULLs: a status and a count. `kept` reads [0] around them that stays as it came
+# what each call without room answers of a shape: a status and a count. `kept` reads [0] around NULLs, which stays as it
+# came
 NO_ROOM = 11
+
+
+def without_room(records):
+    """Of a document with so many records."""
+    return dict.fromkeys(("read", "outline"), (NO_ROOM, records)) | {"check": (OK, 0), "values": (NO_ROOM, 1)}
+
+
+def of_der(records):
+    """The same, with what rewrites DER and looks for what is not."""
+    strict = {"read_strict": (NO_ROOM, records), "rewrite": (NO_ROOM, 100_000_000), "departures": (OK, 0)}
+    return without_room(records) | strict
+
+
 MEMORY = {
-    "read": (NO_ROOM, 50_000_000),
-    "kept": (NO_ROOM, 1),
-    "read_strict": (NO_ROOM, 50_000_000),
-    "check": (OK, 0),
-    "outline": (NO_ROOM, 50_000_000),
-    "values": (NO_ROOM, 1),
-    "rewrite": (NO_ROOM, 100_000_000),
-    "departures": (OK, 0),
+    "NULLs": of_der(50_000_000) | {"kept": (NO_ROOM, 1)},
+    "groups": of_der(25_000_000),
+    "nests": of_der(50_000_000),
+    "attempts": without_room(12_500_000),
 }
+MEMORY_CALLS = [(shape, call) for shape, calls in MEMORY.items() for call in calls]
 MOST_KILOBYTES = 4_096
 
 # how many times its input der_signed may hold: the room that it reads into may be twice as large
 SIGNED_SIZE, MOST_TIMES = 20_000_000, 2
 
-# the words for the forms of a dump, and how many bytes it may take beside its input
+# the words for the looks of a dump, and how many bytes it may take beside its input
 DUMPS = [], ["--json"], ["--html"]
-# the words for a list of revoked certificates
-LIST_DUMPS = (["--text"],)
-# the fields before those that are revoked (RFC 5280, 5.1), and one of these
-LIST_FRONT = bytes.fromhex("020101 300506032b6570 300c310a300806035504030c0161 170d3236303130313030303030305a")
-REVOKED = bytes.fromhex("3021 0210" + 16 * "5a") + bytes.fromhex("170d3236303130313030303030305a")
 DUMPED_SIZE, MOST_BESIDE = 20_000_000, 20 * 2**20
 
 
@@ -134,36 +137,31 @@ def seconds(kind, program, call, path):
     return took / 1e6, status
 
 
-def is_well(times):
-    grows = any(b > MOST_RATIO * a + NOISE for a, b in zip(times, times[1:]))
-    return times[-1] <= MOST_SECONDS and (not grows or PATIENCE != 1)
-
-
 def memory(program):
     """How many calls took too much memory, or answered something else."""
     wrong = 0
-    for call, wanted in MEMORY.items():
-        said = subprocess.run([program, call], stdout=subprocess.PIPE, check=True).stdout.split()
+    for shape, call in MEMORY_CALLS:
+        said = subprocess.run([program, call, shape], stdout=subprocess.PIPE, check=True).stdout.split()
         kilobytes, *answer = map(int, said)
-        good = kilobytes <= MOST_KILOBYTES and tuple(answer) == wanted
+        good = kilobytes <= MOST_KILOBYTES and tuple(answer) == MEMORY[shape][call]
         wrong += not good
-        print(f"growth: {call} of 100 MB without room takes {kilobytes} kB" + ("" if good else ": WRONG"), flush=True)
+        print(f"growth: {call} of 100 MB of {shape} without room takes {kilobytes} kB" + ("" if good else ": WRONG"),
+              flush=True)
     return wrong
 
 
 def signed_memory(program, work):
     """Whether the program writes what was signed, of many items, and holds no more than a few times its input."""
     content, given, written = (os.path.join(work, name) for name in ("content.der", "signed.der", "written"))
-    algorithm, signature = bytes.fromhex("300306012a"), bytes.fromhex("030200ab")
     # piece by piece: what is measured of a child begins with the memory that this process holds
     with open(content, "wb") as file:
         file.write(header(0x30, SIGNED_SIZE))
         for _ in range(SIGNED_SIZE // 2_000):
             file.write(bytes.fromhex("0500") * 1_000)
     with open(content, "rb") as signed_part, open(given, "wb") as file:
-        file.write(header(0x30, os.path.getsize(content) + len(algorithm) + len(signature)))
+        file.write(header(0x30, os.path.getsize(content) + len(ALGORITHM + SIGNATURE)))
         shutil.copyfileobj(signed_part, file)
-        file.write(algorithm + signature)
+        file.write(ALGORITHM + SIGNATURE)
     with open(given, "rb") as source, open(written, "wb") as out:
         child = subprocess.Popen([program], stdin=source, stdout=out)
         _, status, used = os.wait4(child.pid, 0)
@@ -176,40 +174,55 @@ def signed_memory(program, work):
 
 def write_items(path):
     """Writes a SEQUENCE of many OCTET STRINGs, piece by piece, as above."""
+    write_in_one(path, header(0x04, 38) + bytes(range(38)))
+
+
+def write_groups(path):
+    """Writes a SEQUENCE of many SEQUENCEs, each of an OCTET STRING."""
+    write_in_one(path, encoding(0x30, encoding(0x04, bytes(range(4)))))
+
+
+def write_in_one(path, item):
+    """Writes a SEQUENCE of so many of these that the size is reached."""
     with open(path, "wb") as file:
         file.write(header(0x30, DUMPED_SIZE))
-        for _ in range(DUMPED_SIZE // 40_000):
-            file.write((header(0x04, 38) + bytes(range(38))) * 1_000)
+        for _ in range(DUMPED_SIZE // (1_000 * len(item))):
+            file.write(item * 1_000)
 
 
 def write_list(path):
     """Writes a list of many revoked certificates, piece by piece."""
     count = DUMPED_SIZE // len(REVOKED) // 1_000 * 1_000
-    algorithm, signature = bytes.fromhex("300506032b6570"), bytes.fromhex("030200ab")
     revoked = header(0x30, count * len(REVOKED))
     size = len(LIST_FRONT) + len(revoked) + count * len(REVOKED)
     content = header(0x30, size) + LIST_FRONT + revoked
     with open(path, "wb") as file:
-        file.write(header(0x30, len(content) + count * len(REVOKED) + len(algorithm) + len(signature)) + content)
+        file.write(header(0x30, len(content) + count * len(REVOKED) + len(ALGORITHM + SIGNATURE)) + content)
         for _ in range(count // 1_000):
             file.write(REVOKED * 1_000)
-        file.write(algorithm + signature)
+        file.write(ALGORITHM + SIGNATURE)
+
+
+# what writes a document, what it is of, and the words for the looks
+DUMPED = [
+    (write_items, "items", DUMPS), (write_groups, "groups", DUMPS), (write_list, "revoked certificates", [["--text"]]),
+]
 
 
 def dump_memory(program, work):
-    """How many forms of a dump of many items took more memory than the input and some."""
-    items, revoked, wrong = os.path.join(work, "items.der"), os.path.join(work, "list.der"), 0
-    write_items(items)
-    write_list(revoked)
-    for path, words in [(items, words) for words in DUMPS] + [(revoked, words) for words in LIST_DUMPS]:
-        with open(path, "rb") as source:
-            child = subprocess.Popen([program, *words], stdin=source, stdout=subprocess.DEVNULL)
-            _, status, used = os.wait4(child.pid, 0)
-            child.returncode = status
-        good = status == 0 and used.ru_maxrss * 1024 <= DUMPED_SIZE + MOST_BESIDE
-        wrong += not good
-        print(f"growth: {' '.join(['der_dump', *words])} of 20 MB takes {used.ru_maxrss} kB" +
-              ("" if good else ": WRONG"), flush=True)
+    """How many looks of a dump of many items took more memory than the input and some."""
+    path, wrong = os.path.join(work, "dumped.der"), 0
+    for write, what, looks in DUMPED:
+        write(path)
+        for words in looks:
+            with open(path, "rb") as source:
+                child = subprocess.Popen([program, *words], stdin=source, stdout=subprocess.DEVNULL)
+                _, status, used = os.wait4(child.pid, 0)
+                child.returncode = status
+            good = status == 0 and used.ru_maxrss * 1024 <= DUMPED_SIZE + MOST_BESIDE
+            wrong += not good
+            print(f"growth: {' '.join(['der_dump', *words])} of 20 MB of {what} takes {used.ru_maxrss} kB" +
+                  ("" if good else ": WRONG"), flush=True)
     return wrong
 
 
@@ -218,13 +231,13 @@ def main():
     programs = dict(word.split("=", 1) for word in sys.argv[2:])
     if "memory" in programs:
         wrong += memory(programs.pop("memory"))
-        tried += len(MEMORY)
+        tried += len(MEMORY_CALLS)
     if "signed" in programs:
         wrong += signed_memory(programs.pop("signed"), work)
         tried += 1
     if "json" in programs:
         wrong += dump_memory(programs["json"], work)
-        tried += len(DUMPS) + len(LIST_DUMPS)
+        tried += sum(len(looks) for _, _, looks in DUMPED)
     for shape, make in SHAPES.items():
         paths = [os.path.join(work, f"{size}.der") for size in SIZES]
         for path, size in zip(paths, SIZES):

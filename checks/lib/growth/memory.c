@@ -1,5 +1,5 @@
-/* memory CALL: makes a call on 100 MB without room for what it writes, and prints how many kB of memory the process has
- * taken at most beyond the input, the status and the count. */
+/* memory CALL SHAPE: makes a call on 100 MB without room for what it writes, and prints how many kB of memory the process
+ * has taken at most beyond the input, the status and the count. */
 #include "simple_asn1.h"
 #include <stdio.h>
 #include <stdlib.h>
@@ -8,6 +8,17 @@
 
 enum { SIZE = 100000000 };
 
+static const struct {
+    const char *name;
+    size_t size;
+    const char *item;
+} shapes[] = {
+    {"NULLs", 2, "\x05\0"},
+    {"groups", 8, "\x30\6\4\4\1\2\3\4"},
+    {"nests", 16, "\x30\16\x31\14\xA0\12\x30\10\x61\6\x30\4\x05\0\x05\0"},
+    {"attempts", 8, "\xA0\6\4\2\1\2\2\5"}, /* with a header that is cut off at the end */
+};
+
 static long most(void)
 {
     struct rusage used;
@@ -15,39 +26,48 @@ static long most(void)
     return used.ru_maxrss;
 }
 
+static int fill(uint8_t *octets, const char *shape)
+{
+    for (size_t it = 0; it < sizeof shapes / sizeof *shapes; it++)
+        if (!strcmp(shape, shapes[it].name)) {
+            for (size_t place = 0; place < SIZE; place += shapes[it].size)
+                memcpy(octets + place, shapes[it].item, shapes[it].size);
+            return 1;
+        }
+    return 0;
+}
+
+static simple_asn1_outcome called(const char *call, uint8_t *octets)
+{
+    static const size_t steps[] = {1};
+    static const simple_asn1_path path = {0, 1};
+    if (!strcmp(call, "read_strict"))
+        return simple_asn1_read_strict(octets, SIZE, NULL, 0);
+    if (!strcmp(call, "outline"))
+        return simple_asn1_outline(octets, SIZE, NULL, 0);
+    if (!strcmp(call, "values"))
+        return simple_asn1_values(octets, SIZE, steps, 1, &path, 1, NULL, 0);
+    if (!strcmp(call, "check"))
+        return simple_asn1_check(octets, SIZE);
+    if (!strcmp(call, "rewrite"))
+        return simple_asn1_rewrite(octets, SIZE, NULL, 0);
+    if (!strcmp(call, "departures"))
+        return simple_asn1_departures(octets, SIZE, NULL, 0);
+    return simple_asn1_read(octets, SIZE, NULL, 0);
+}
+
 int main(int count, char **words)
 {
     uint8_t *octets = malloc(SIZE);
-    if (count != 2 || !octets)
+    if (count != 3 || !octets || !fill(octets, words[2]))
         return 2;
-    /* NULLs: X.690, 8.8 */
-    for (size_t i = 0; i < SIZE; i += 2) {
-        octets[i] = 5;
-        octets[i + 1] = 0;
-    }
     if (!strcmp(words[1], "kept")) { /* in [0], which stays as it came, since at its end a header is cut off */
         memcpy(octets, "\xA0\x84\x05\xF5\xE0\xFA", 6);
         octets[SIZE - 2] = 2;
         octets[SIZE - 1] = 5;
     }
     long before = most();
-    simple_asn1_outcome found;
-    if (!strcmp(words[1], "read_strict"))
-        found = simple_asn1_read_strict(octets, SIZE, NULL, 0);
-    else if (!strcmp(words[1], "outline"))
-        found = simple_asn1_outline(octets, SIZE, NULL, 0);
-    else if (!strcmp(words[1], "values")) {
-        static const size_t steps[] = {1};
-        static const simple_asn1_path path = {0, 1};
-        found = simple_asn1_values(octets, SIZE, steps, 1, &path, 1, NULL, 0);
-    } else if (!strcmp(words[1], "check"))
-        found = simple_asn1_check(octets, SIZE);
-    else if (!strcmp(words[1], "rewrite"))
-        found = simple_asn1_rewrite(octets, SIZE, NULL, 0);
-    else if (!strcmp(words[1], "departures"))
-        found = simple_asn1_departures(octets, SIZE, NULL, 0);
-    else
-        found = simple_asn1_read(octets, SIZE, NULL, 0);
+    simple_asn1_outcome found = called(words[1], octets);
     printf("%ld %u %zu\n", most() - before, (unsigned)found.status, found.count);
     free(octets);
     return 0;

@@ -54,7 +54,7 @@ numbers = {int(n): kinds[k] for n, k in re.findall(r"(\d+) => FaultKind::(\w+)",
 never = {statuses["OK"], statuses["NO_ROOM"]}
 same("the header's and Rust's texts", {n: texts[s] for s, n in statuses.items() if n not in never}, numbers)
 
-proved = (top / "crates/simple_asn1_c/src/status.rt").read_text()
+proved = (top / "crates/asn1_records/src/status.rt").read_text()
 other_names = {
     "DONE": "OK", "OUT_OF_RANGE": "RANGE", "EmptyBuffer": "EMPTY", "BadBooleanLength": "BOOLEAN_LENGTH",
     "LengthTooLarge": "LENGTH", "UTF8DecodeFailure": "UTF8", "PrintableStringDecodeFailure": "PRINTABLE",
@@ -83,10 +83,10 @@ in_rust = re.findall(r'\(\s*Rule::(\w+),\s*"([^"]*)",\s*"([^"]*)",?\s*\)', made)
 same("the header's and Rust's rules", list(rules.values()), [(shouted(name), *words) for name, *words in in_rust])
 variants = re.findall(r"^    (\w+),$", made[made.index("pub enum Rule") : made.index("const RULES")], re.M)
 same("Rust's rules and their order", variants, [name for name, *_ in in_rust])
-proved = (top / "crates/simple_asn1_c/src/departures.rt").read_text()
+proved = (top / "crates/asn1_records/src/departures.rt").read_text()
 numbered = {int(n): shouted(name) for name, n in re.findall(r"Rule::(\w+) => (\d+)", proved)}
 same("the header's and the library's rules", constants, numbered)
-library = (top / "crates/asn1_departures/src/rule.rt").read_text()
+library = (top / "crates/asn1_der/src/rule.rt").read_text()
 clauses, texts = (
     {shouted(name): words for name, words in re.findall(r'Rule::(\w+) => "([^"]*)"', part)}
     for part in library.split("pub fn text")
@@ -138,7 +138,7 @@ for name, record in records.items():
         wanted.append(f"{name}.{field[0]} {place.offset} {place.size}")
 same("the header's and Python's records", found, wanted)
 
-source = "".join((top / "crates/simple_asn1_c/src" / name).read_text() for name in ("record.rt", "first_fault.rt"))
+source = "".join((top / "crates/asn1_records/src" / name).read_text() for name in ("record.rt", "first_fault.rt"))
 answers = {
     "IntegerAnswer": "integer", "BitStringAnswer": "bit_string", "MomentAnswer": "moment",
     "SignedAnswer": "signed_parts", "FaultAnswer": "refusal",
