@@ -116,14 +116,18 @@ def judge(rows, room, bodies, program, library):
     """Says which bodies no row sees; 1 where there are others than those that may be unseen."""
     found = reached(rows, program, library, room)
 
-    def look(body):
-        environment = {"LD_PRELOAD": str(library), "WRONG_BODY": str(body.number)}
-        return any(is_seen(row, program, environment) for row in found[body.number])
+    seen = set()
 
+    def look(body, row):
+        environment = {"LD_PRELOAD": str(library), "WRONG_BODY": str(body.number)}
+        if body not in seen and is_seen(row, program, environment):
+            seen.add(body)
+
+    # the rows of a body side by side too: those of a body that none sees are all run
     with concurrent.futures.ThreadPoolExecutor(os.cpu_count()) as pool:
-        seen = list(pool.map(look, bodies))
+        list(pool.map(lambda it: look(*it), ((body, row) for body in bodies for row in found[body.number])))
     known = allowed(DATA / "unseen")
-    unseen = [body for body, is_so in zip(bodies, seen) if not is_so]
+    unseen = [body for body in bodies if body not in seen]
     unexpected = [body for body in unseen if name_of(body) not in known]
     for body in unexpected:
         print(f"unseen: {name_of(body)} -- line {body.place}, {len(found[body.number])} rows reach it")

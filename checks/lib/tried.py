@@ -18,6 +18,7 @@ import pathlib
 import re
 import shutil
 import subprocess
+import sys
 
 from edits import CRATES, TOP, Unmade, edits_of, made
 
@@ -181,7 +182,7 @@ def whole_below(crate):
 
 class Room:
     """A copy of the repository's crates, in which one of them is proved, and then tried with wrong bodies. What the
-    checkout keeps of earlier checks comes along."""
+    checkout keeps of earlier checks, and the machine of `rt ci`, comes along."""
 
     def __init__(self, folder, crate):
         self.folder, self.crate = pathlib.Path(folder), crate
@@ -199,6 +200,8 @@ class Room:
         for it in {crate, *whole_below(crate)}:
             if (CRATES / it / "out").is_dir():
                 shutil.copytree(CRATES / it / "out", self.folder / "crates" / it / "out", copy_function=linked)
+        subprocess.run([sys.executable, pathlib.Path(__file__).with_name("kept.py"), self.folder], check=False,
+                       stdin=subprocess.DEVNULL, stdout=subprocess.DEVNULL)
         self.said = self.check([])
         if "\nlogic=proved" not in self.said.stdout:
             raise Failed(f"{crate} itself is not proved:\n{self.said.stdout[-1500:]}")
