@@ -28,9 +28,6 @@ DATA = TOP / "checks" / "data" / "arms"
 CRATES = ["dump_values", "dump_names", "dump_rows", "dump_walk", "dump_lines", "dump_json", "der_forms", "der_digits",
           "dump_options", "dump_inputs", "dump_shapes", "dump_text"]
 
-# rows that take more seconds are left out
-SLOW = 5
-
 ARM = re.compile(r"^( +)(?!let |if |while |for |//)(\S.*?) => (.*)$")
 TEXT = re.compile(r'(?<![b\\\'])"(?:[^"\\{}]|\\.)+"')
 FUNCTION = re.compile(r"^ *(?:pub(?:\(\w+\))? )?(?:const )?fn (\w+)")
@@ -96,9 +93,8 @@ def reached(rows, program, library, room):
     def look(at):
         log = room / f"reached{at}"
         began = time.monotonic()
-        wrong = is_seen(rows[at], program, {"LD_PRELOAD": str(library), "REACHED": str(log)})
+        is_left_out = is_seen(rows[at], program, {"LD_PRELOAD": str(library), "REACHED": str(log)})
         took = time.monotonic() - began
-        is_left_out = wrong or took > SLOW
         numbers = [] if is_left_out or not log.exists() else [int(word) for word in log.read_text().split()]
         return at, took, is_left_out, numbers
 
@@ -108,7 +104,7 @@ def reached(rows, program, library, room):
             left_out += is_left_out
             for number in numbers:
                 found[number].append(rows[at])
-    print(f"arms: {len(rows)} rows, without {left_out} that fail by themselves or take long", flush=True)
+    print(f"arms: {len(rows)} rows, without {left_out} that fail by themselves", flush=True)
     return found
 
 

@@ -10,6 +10,8 @@ import threading
 import time
 
 NOT_CHECKED = "NOT CHECKED"
+# so many lines of what failed are told again at the end
+LAST = 12
 
 
 @dataclasses.dataclass(frozen=True)
@@ -22,6 +24,8 @@ class Job:
     after: frozenset = frozenset()
     limit: int = 3600
     is_alone: bool = False
+    # whether it is run again, alone, where it fails
+    is_tried_again: bool = False
     # why it is not run at all
     lacks: str = ""
 
@@ -31,6 +35,8 @@ class Report:
 
     def __init__(self, title):
         self.title, self.passed, self.failed, self.not_checked = title, [], [], {}
+        # the last lines of each that failed, since whoever reads a long log reads its end
+        self.ends = {}
         self.lock = threading.Lock()
 
     def tell(self, line):
@@ -43,12 +49,18 @@ class Report:
             if NOT_CHECKED in line:
                 self.not_checked.setdefault(line.strip())
 
-    def add(self, job, text, status, seconds, used):
+    def add(self, job, text, shown, is_well, took):
+        """Says what came of a job, behind what of its text was not shown before."""
         with self.lock:
             self.look_at(text)
-            (self.failed if status else self.passed).append(job.name)
-            end = ", FAILED" if status else ""
-            print(f"{text}{self.title}: {job.name}: {seconds:.0f} s, {used:.0f} s of processor time{end}", flush=True)
+            end = "" if is_well else ", FAILED"
+            if not is_well:
+                self.ends[job.name] = text.splitlines()[-LAST:]
+            if not is_well and job.is_tried_again:
+                end += " beside others, and is run again alone"
+            else:
+                (self.passed if is_well else self.failed).append(job.name)
+            print(f"{shown}{self.title}: {job.name}: {took}{end}", flush=True)
 
     def skip(self, job, why):
         with self.lock:
@@ -62,6 +74,9 @@ class Report:
         print(f"{NOT_CHECKED}, {len(self.not_checked)}{':' if self.not_checked else ''}")
         for line in self.not_checked:
             print(f"    {line}")
+        for name, lines in self.ends.items():
+            print(f"{name} FAILED{'' if name in self.failed else ' beside others, and passed alone'}; its last lines:")
+            print(*(f"    {line}" for line in lines), sep="\n")
         if self.failed:
             print(f"FAILED: {', '.join(self.failed)}")
 
@@ -115,15 +130,14 @@ def run(job, report, is_streamed):
         log.seek(0)
         text = log.read().decode(errors="replace")
     late = f"no end in {job.limit} seconds\n" if seconds >= job.limit else ""
-    if is_streamed:
-        report.look_at(text)
-        text = ""
-    report.add(job, text + late, process.returncode, seconds, used.ru_utime + used.ru_stime)
+    took = f"{seconds:.0f} s, {used.ru_utime + used.ru_stime:.0f} s of processor time"
+    report.add(job, text + late, late if is_streamed else text + late, process.returncode == 0, took)
     return process.returncode == 0
 
 
 def run_all(jobs, report, count):
-    """Runs the jobs, so many at once, the first ones first; those that need quiet come last, one after another."""
+    """Runs the jobs, so many at once, the first ones first; those that need quiet come last, one after another. What
+    fails beside others is run again by then: a busy machine makes it fail once, and what is wrong fails twice."""
     waiting, lacking = [], set()
     for job in jobs:
         if job.lacks or job.after & lacking:
@@ -131,12 +145,13 @@ def run_all(jobs, report, count):
             report.skip(job, f"{NOT_CHECKED}, {without}")
             lacking.add(job.name)
         else:
-            waiting.append(job)
+            waiting.append(dataclasses.replace(job, is_tried_again=count > 1 and not job.is_alone))
     names, over, failed, running = {it.name for it in waiting}, set(), set(), {}
     with concurrent.futures.ThreadPoolExecutor(count) as pool:
         while waiting or running:
-            for job in [it for it in waiting if it.after & names <= over]:
-                is_quiet = not running and all(it.is_alone for it in waiting)
+            ready = [it for it in waiting if it.after & names <= over]
+            for job in ready:
+                is_quiet = not running and all(it.is_alone for it in ready)
                 if len(running) == count or (job.is_alone and not is_quiet):
                     continue
                 waiting.remove(job)
@@ -149,6 +164,10 @@ def run_all(jobs, report, count):
             done, _ = concurrent.futures.wait(running, return_when=concurrent.futures.FIRST_COMPLETED)
             for future in done:
                 job = running.pop(future)
+                is_well = future.result()
+                if not is_well and job.is_tried_again:
+                    waiting.append(dataclasses.replace(job, is_alone=True, is_tried_again=False))
+                    continue
                 over.add(job.name)
-                if not future.result():
+                if not is_well:
                     failed.add(job.name)

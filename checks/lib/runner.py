@@ -1,6 +1,7 @@
 """checks/run: lists the checks, and runs them by name, as `quick`, as `gate`, or all. Its usage is at its top."""
 import os
 import pathlib
+import random
 import signal
 import subprocess
 import sys
@@ -134,6 +135,8 @@ def gate(*how):
     if os.environ.get("CI"):
         subprocess.run(["sh", str(TOP / "checks/scripts/packages"), *debian_packages()], check=False)
     os.environ.pop("SHORT", None)
+    # a check that fails beside others, and is run again, tries the same random documents
+    os.environ.setdefault("SEED", str(random.getrandbits(32)))
     report, passed, failed = Report("gate"), 0, 0
     run_all([job_of(it, it.words, None, False) for it in SECONDS], report, lanes())
     if not report.failed:
