@@ -41,7 +41,12 @@ class Rewritten(reader.Reader):
     def block(self, offset, start, end):
         text, after = super().block(offset, start, end)
         kind, _, tag, place = self.tag(offset, end)
-        identifier = bytes([self.octets[offset] & 0xE0 | min(tag, 31)]) + (reader.base128(tag) if tag > 30 else b"")
+        leading = self.octets[offset] & 0xE0 | min(tag, 31)
+        if kind == 0 and tag in (16, 17):
+            leading |= 0x20
+        elif kind == 0 and tag in reader.LEAVES:
+            leading &= 0xDF
+        identifier = bytes([leading]) + (reader.base128(tag) if tag > 30 else b"")
         _, first = self.length(place, end)
         contents = self.octets[first:after]
         is_short = self.octets[offset:first] == identifier + length_octets(len(contents))
