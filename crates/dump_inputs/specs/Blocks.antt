@@ -1,8 +1,5 @@
 -- The block that begins at an offset, and what it holds.
-use Rattle.std.specs.Prelude.{◌≡◌, ◌⊎◌, ℕ, List, Option, Result, Ok, Err, Some, None, Vec}
-use Rattle.std.specs.Global.{Global}
-use Rattle.std.specs.Option.{option_map}
-use Rattle.std.specs.Result.{result_ok}
+use Rattle.std.specs.Prelude.{◌≡◌, ◌⊎◌, ℕ, List, Option, Result, Ok, Err, Some, None}
 use Rattle.der_forms.specs.Objects.{IsReadAs, document_of}
 use Rattle.dump_options.specs.declared.options.Part.{Part}
 use Rattle.dump_options.specs.declared.options.Part.TheVariants.{Contents, Value, Whole}
@@ -35,7 +32,3 @@ IsPartAt part offset input octets =
 abbrev pub IsFoundIn : {E : Type 0} → ℕ → List ℕ → Result Block E → Type 0
 IsFoundIn offset document (Ok block) = HasElementAt document offset block.octets.now block.contents.now
 IsFoundIn offset document (Err why) = (why : NoBlock) × LacksElementAt document offset why
-
--- the octets, where there are some
-abbrev pub octets_in : {E : Type 0} → Result (Vec ℕ Global) E → Option (List ℕ)
-octets_in octets = option_map (λ v. v.items) (result_ok octets)

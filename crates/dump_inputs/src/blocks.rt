@@ -1,8 +1,8 @@
 // The block at an offset of an input: shown alone, or a part of its octets.
-ghost use Rattle.std.specs.Prelude.{◌≡◌, IfErr, IfOk, List, MatchOption, None, Option, ℕ};
+ghost use Rattle.std.specs.Prelude.{◌≡◌, IfErr, IfOk, List, MatchResult, None, Option, ℕ};
 ghost use Rattle.der_forms.specs.Objects.{IsReadAs, document_of};
 ghost use Rattle.der_io.specs.Output.{IsWritten};
-ghost use Rattle.dump_inputs.specs.Blocks.{IsFoundIn, IsPartOf, octets_in};
+ghost use Rattle.dump_inputs.specs.Blocks.{IsFoundIn, IsPartOf};
 ghost use Rattle.dump_inputs.specs.Inputs.{IsPart, IsShownIn, IsTaskText};
 ghost use Rattle.dump_inputs.specs.declared.outcome.Outcome.TheVariants.{Written};
 ghost use Rattle.dump_lines.specs.declared.document.Verdict.TheVariants.{Refused};
@@ -190,9 +190,9 @@ fn octets_held(
     block: &[u8],
     offset: usize,
 ) -> Result<Result<Vec<u8>, String>, AllocError>
-    ensures { IfOk result (λ held. MatchOption (octets_in held)
-        (HoldsNoOctets block.now)
-        (HoldsOctets block.now)) }
+    ensures { IfOk result (λ held. MatchResult held
+        (λ octets. HoldsOctets block.now octets.items)
+        (λ _. HoldsNoOctets block.now)) }
 {
     match string_octets(alloc, block)? {
         Ok(octets) => Ok(Ok(octets)),
