@@ -48,7 +48,7 @@ SECTIONS = [
     ("Laws", "simple_asn1", "law_*"),
     ("Laws of DER", "asn1_laws", "law_*"),
     ("PEM, base64 and hex digits", "der_forms", "document_of labelled_document_of LabelledDocument FormFault"
-     " text_of form_of InputForm next_object PemObject PemFault Ending fault_of_end Lines"),
+     " text_of form_of InputForm Objects PemObject BadEnd"),
     ("Names of object identifiers", "dump_names", "Names OwnNames NamesFault"),
 ]
 

@@ -6,8 +6,8 @@ use Rattle.std.specs.Result.{result_ok}
 use Rattle.std.specs.Str.{bytes_eq}
 use Rattle.base64.specs.Engines.{standard}
 use Rattle.base64.specs.GeneralPurpose.{decode_of as decode_base64}
-use Rattle.der_forms.specs.declared.objects.Ending.{Ending}
-use Rattle.der_forms.specs.declared.objects.Ending.TheVariants.{Closed, Joined, Missing, OtherLabel}
+use Rattle.der_forms.specs.declared.fault.BadEnd.{BadEnd}
+use Rattle.der_forms.specs.declared.fault.BadEnd.TheVariants.{Joined, Missing, OtherLabel}
 use Rattle.der_io.specs.Lines.{lines_of}
 use Rattle.der_forms.specs.Forms.{InputKind, begins_object, without_mark, without_spaces, objects, unknown_text, plain_octets, spelled}
 use Rattle.der_digits.specs.Search.{begins, contains, up_to, without_indent}
@@ -15,11 +15,11 @@ use Rattle.der_forms.specs.Known.{form_is}
 use Rattle.der_forms.specs.Texts.{text_of}
 use Rattle.der_io.specs.Characters.{colon}
 
--- an object: its label, its octets, or none where they are not to be read, and how it ends
+-- an object: its label, its octets, or none where they are not to be read, and how it ends, if not as it should
 pub record Object : Type 0 where
   pub label : List ℕ
   pub octets : Option (List ℕ)
-  pub ending : Ending
+  pub bad_end : Option BadEnd
 
 -- the label in a line that begins an object: what stands between `-----BEGIN ` and `-----`
 abbrev pub label_in : List ℕ → List ℕ
@@ -62,20 +62,20 @@ octets_in lines =
 abbrev pub end_label_in : List ℕ → List ℕ
 end_label_in line = up_to (codes "-----") (drop 9 (without_indent line))
 
--- how a line ends an object with this label
-abbrev pub ending_by : List ℕ → List ℕ → Ending
-ending_by label line =
-    if contains (codes "-----BEGIN ") line then Joined
-    else if bytes_eq (end_label_in line) label then Closed else OtherLabel
+-- how a line ends an object with this label, if not as it should
+abbrev pub bad_end_by : List ℕ → List ℕ → Option BadEnd
+bad_end_by label line =
+    if contains (codes "-----BEGIN ") line then Some Joined
+    else if bytes_eq (end_label_in line) label then None else Some OtherLabel
 
--- how an object ends that begins before the lines with this label
-abbrev pub ending_in : List ℕ → List (List ℕ) → Ending
-ending_in label [] = Missing
-ending_in label (line ∷ lines) = if ends_object line then ending_by label line else ending_in label lines
+-- how an object ends that begins before the lines with this label, if its own line does not end it
+abbrev pub bad_end_in : List ℕ → List (List ℕ) → Option BadEnd
+bad_end_in label [] = Some Missing
+bad_end_in label (line ∷ lines) = if ends_object line then bad_end_by label line else bad_end_in label lines
 
 -- the object that begins before the lines with this label
 abbrev pub object_in : List ℕ → List (List ℕ) → Object
-object_in label lines = record { label = label; octets = octets_in lines; ending = ending_in label lines }
+object_in label lines = record { label = label; octets = octets_in lines; bad_end = bad_end_in label lines }
 
 -- what the line has from the words `-----BEGIN ` on
 abbrev pub begun_in : List ℕ → List ℕ
@@ -99,17 +99,15 @@ objects_in false (line ∷ lines) =
 abbrev pub objects_of : List ℕ → List Object
 objects_of input = objects_in false (lines_of (without_mark input))
 
--- the octets of an object with this ending, or none where its own line does not end it
-abbrev pub if_closed : Ending → Option (List ℕ) → Option (List ℕ)
-if_closed Closed octets = octets
-if_closed Missing octets = None
-if_closed OtherLabel octets = None
-if_closed Joined octets = None
+-- the octets of an object, or none where its own line does not end it
+abbrev pub unless_bad_end : Option BadEnd → Option (List ℕ) → Option (List ℕ)
+unless_bad_end None octets = octets
+unless_bad_end (Some how) octets = None
 
 -- the octets of the first object, or none where it does not end as it should
 abbrev pub first_of : List Object → Option (List ℕ)
 first_of [] = None
-first_of (object ∷ later) = if_closed object.ending object.octets
+first_of (object ∷ later) = unless_bad_end object.bad_end object.octets
 
 abbrev pub document_in : InputKind → List ℕ → Option (List ℕ)
 document_in objects input = first_of (objects_of input)

@@ -1,25 +1,36 @@
--- What a form is, and an object, as values of the definitions.
+-- What a form is, an object, and the objects that are left, as values of the definitions.
+use Rattle.std.specs.Prelude.{◌≡◌, ⊤, ◌∷◌, [], List, Option, Some, None, Result, Ok, Err, false}
+use Rattle.std.specs.declared.alloc.AllocError.{AllocError}
 use Rattle.std.specs.Option.{option_map}
 use Rattle.std.specs.Result.{result_ok}
 use Rattle.der_forms.specs.Forms.{InputKind, objects, unknown_text, plain_octets, spelled}
-use Rattle.der_forms.specs.Objects.{Object}
+use Rattle.der_forms.specs.Objects.{Object, objects_in}
 use Rattle.der_forms.specs.declared.input.InputForm.{InputForm}
-use Rattle.der_forms.specs.declared.input.InputForm.TheVariants.{Pem, Spelled, LaidOut, OddDigits, OtherColumns, LeftOut, Text, Der}
+use Rattle.der_forms.specs.declared.input.InputForm.TheVariants.{Pem, Spelled, LaidOut, Unread, Der}
+use Rattle.der_forms.specs.declared.objects.Objects.{Objects}
 use Rattle.der_forms.specs.declared.objects.PemObject.{PemObject}
+use Rattle.der_io.specs.Lines.{lines_of}
 
 abbrev pub shown : InputForm → InputKind
 shown Pem = objects
 shown (Spelled octets) = spelled octets.items
 shown (LaidOut octets) = unknown_text
-shown OddDigits = unknown_text
-shown OtherColumns = unknown_text
-shown (LeftOut line) = unknown_text
-shown (Text line) = unknown_text
+shown (Unread fault) = unknown_text
 shown Der = plain_octets
 
 abbrev pub shown_object : PemObject → Object
 shown_object object = record {
   label = object.label.now;
   octets = option_map (λ v. v.items) (result_ok object.octets);
-  ending = object.ending;
+  bad_end = option_map (λ end. end.1) object.bad_end;
 }
+
+-- the objects that are still to come
+abbrev pub objects_left : Objects → List Object
+objects_left left = objects_in false (lines_of left.lines.rest.now)
+
+-- the first of the objects that are left is given, or none is left, unless memory ran out
+abbrev pub Gives : Objects → Option (Result PemObject AllocError) → Objects → Type 0
+Gives before None after = objects_left before ≡ []
+Gives before (Some (Ok object)) after = objects_left before ≡ shown_object object ∷ objects_left after
+Gives before (Some (Err e)) after = ⊤

@@ -9,36 +9,29 @@ ghost use Rattle.der_forms.specs.Forms.{is_printed, unknown_text, without_spaces
 ghost use Rattle.der_forms.specs.Known.{are_words, form_is, form_of_text, is_in_words, is_sequence, length_fits, number_fits, of_base64, of_loose_base64, of_symbols};
 ghost use Rattle.der_forms.specs.Objects.{IsReadAs, document_in as document_in_form, document_of as document_is, first_of, objects_of};
 ghost use Rattle.der_forms.specs.Shown.{shown};
-ghost use Rattle.der_forms.specs.declared.input.FormFault.TheVariants.{OutOfMemory};
+ghost use Rattle.der_forms.specs.declared.fault.FormFault.TheVariants.{OutOfMemory};
 
-use crate::lines::{Lines, is_pem, without_mark};
-use crate::objects::{PemFault, PemObject, fault_of_end, next_object};
+use crate::fault::FormFault;
+use crate::lines::{is_pem, without_mark};
+use crate::objects::{Objects, PemObject};
 use crate::text::text_of;
-use crate::unknown::{form_left_out, form_unknown};
+use crate::unknown::{fault_in_columns, fault_in_text};
 use crate::{base64_text, decoder};
 use base64::engine::general_purpose::{STANDARD_PAD_INDIFFERENT, URL_SAFE_PAD_INDIFFERENT};
 use der_digits::{Spelling, hex_text, layouts};
 use std::alloc::{AllocError, Global};
-use thiserror::Error;
 
 /// What an input is.
 #[derive(Debug, Drop, PartialEq)]
 pub enum InputForm {
-    /// Objects of PEM, which [`next_object`] takes.
+    /// Objects of PEM, which are [`Objects`].
     Pem,
     /// Text that spells these octets, in hex digits or in base64.
     Spelled(Vec<u8>),
     /// Text that has these octets in another layout: a source of C, or columns with lines left out.
     LaidOut(Vec<u8>),
-    /// An odd number of hex digits.
-    OddDigits,
-    /// Columns of words, of octal digits or of bits, as `hexdump`, `od` and `xxd -b` print them.
-    OtherColumns,
-    /// Hex digits with a line `*` for others, in this line, counted from 1. No offset says how many, or the offsets are
-    /// wrong.
-    LeftOut(usize),
-    /// Any other text. This line of it, counted from 1, is the first in no form that is read.
-    Text(usize),
+    /// Text with no document in it: why.
+    Unread(FormFault),
     /// The octets of a document, as they are.
     Der,
 }
@@ -54,7 +47,7 @@ pub fn form_of(alloc: Global, input: &[u8]) -> Result<InputForm, AllocError>
     } else if is_printed_text(text) {
         text_form(alloc, text)
     } else if are_words(text) {
-        Ok(form_unknown(text))
+        Ok(InputForm::Unread(fault_in_text(text)))
     } else {
         Ok(InputForm::Der)
     }
@@ -64,11 +57,11 @@ fn text_form(alloc: Global, text: &[u8]) -> Result<InputForm, AllocError>
     ensures { IfOk result (λ form. shown form ≡ form_of_text text.now) }
 {
     if hex_text::has_other_columns(text) {
-        Ok(InputForm::OtherColumns)
+        Ok(InputForm::Unread(FormFault::OtherColumns))
     } else if hex_text::is_in_columns(text) && layouts::are_some_left_out(text) {
         match layouts::columns_octets(alloc, text)? {
             Some(octets) => Ok(InputForm::LaidOut(octets)),
-            None => Ok(form_left_out(text)),
+            None => Ok(InputForm::Unread(fault_in_columns(text))),
         }
     } else {
         symbols_form(alloc, text)
@@ -81,7 +74,7 @@ fn symbols_form(alloc: Global, text: &[u8]) -> Result<InputForm, AllocError>
 {
     match hex_text::spelling_in(alloc, text)? {
         Spelling::Octets(octets) => Ok(InputForm::Spelled(octets)),
-        Spelling::Odd => Ok(InputForm::OddDigits),
+        Spelling::Odd => Ok(InputForm::Unread(FormFault::OddDigits)),
         Spelling::Nothing => form_without_digits(alloc, text),
     }
 }
@@ -96,7 +89,7 @@ fn form_without_digits(alloc: Global, text: &[u8]) -> Result<InputForm, AllocErr
     }
     match layouts::source_octets(alloc, text)? {
         Some(octets) => Ok(InputForm::LaidOut(octets)),
-        None => Ok(form_unknown(text)),
+        None => Ok(InputForm::Unread(fault_in_text(text))),
     }
 }
 
@@ -106,7 +99,7 @@ fn base64_form(alloc: Global, text: &[u8]) -> Result<InputForm, AllocError>
 {
     match decoder::octets_in(alloc, text)? {
         Some(octets) if octets.starts_with(&[0x30]) => Ok(InputForm::Spelled(octets)),
-        Some(_) => Ok(form_unknown(text)),
+        Some(_) => Ok(InputForm::Unread(fault_in_text(text))),
         None => loose_base64_form(alloc, text),
     }
 }
@@ -126,7 +119,7 @@ fn loose_base64_form(alloc: Global, text: &[u8]) -> Result<InputForm, AllocError
     {
         return Ok(InputForm::Spelled(octets));
     }
-    Ok(form_unknown(text))
+    Ok(InputForm::Unread(fault_in_text(text)))
 }
 
 // Whether the octets are one SEQUENCE, to their end.
@@ -212,49 +205,6 @@ fn may_be_in_words(b: u8) -> bool
     b >= 0x80 || (may_be_printed(b) && b != 0x0C)
 }
 
-/// Why an input has no document to be read.
-#[derive(Debug, Drop, Error, PartialEq)]
-pub enum FormFault {
-    /// Memory ran out.
-    #[error("out of memory")]
-    OutOfMemory,
-    /// An odd number of hex digits.
-    #[error("odd number of hex digits")]
-    OddDigits,
-    /// Columns of words, of octal digits or of bits.
-    #[error("columns of words, octal digits or bits are not read: print them by xxd, hexdump -C or od -t x1")]
-    OtherColumns,
-    /// Hex digits with lines left out, in this line, but not how many.
-    #[error("line {0}: the offsets do not tell how many lines `*` stands for")]
-    LeftOut(usize),
-    /// A source of C, or columns with lines left out.
-    #[error("a source of C, or columns with lines left out: der_dump --extract 0 writes what it has")]
-    LaidOut,
-    /// Text in no form that is known. The line is the first in none.
-    #[error("line {0}: unknown text: DER, PEM, base64, hex digits (plain, in C, xxd, hexdump -C, od -t x1) are read")]
-    Text(usize),
-    /// The first object is encrypted.
-    #[error("encrypted, not read")]
-    Encrypted,
-    /// The first object is a private key in the form of OpenSSH.
-    #[error("OpenSSH private key, not DER: ssh-keygen -p -m PEM -f FILE converts it")]
-    OpenSsh,
-    /// A line of the first object is not base64: its number, from 1.
-    #[error("line {0}: invalid base64")]
-    NoBase64(usize),
-    /// The first object does not end as it should: the number of a line, and what is wrong.
-    #[error("line {0}: {1}")]
-    BadEnd(usize, &'static str),
-}
-
-impl From<AllocError> for FormFault {
-    ghost from_gives = { λ _ e. e ≡ OutOfMemory };
-
-    fn from(_e: AllocError) -> FormFault {
-        FormFault::OutOfMemory
-    }
-}
-
 /// The octets of an input's document: its own, those it spells, or those of its first PEM object if that has its own
 /// END line. A source of C, and columns with lines left out, have none here.
 ///
@@ -315,10 +265,7 @@ fn document_in(alloc: Global, form: InputForm, text: Vec<u8>) -> Result<Labelled
         InputForm::Pem => first_object(alloc, &text),
         InputForm::Spelled(octets) => Ok(LabelledDocument::without(octets)),
         InputForm::LaidOut(_) => Err(FormFault::LaidOut),
-        InputForm::OddDigits => Err(FormFault::OddDigits),
-        InputForm::OtherColumns => Err(FormFault::OtherColumns),
-        InputForm::LeftOut(line) => Err(FormFault::LeftOut(line)),
-        InputForm::Text(line) => Err(FormFault::Text(line)),
+        InputForm::Unread(fault) => Err(fault),
         InputForm::Der => Ok(LabelledDocument::without(text)),
     }
 }
@@ -327,19 +274,18 @@ fn first_object(alloc: Global, input: &[u8]) -> Result<LabelledDocument, FormFau
     ensures octets { IfOk result (λ document. first_of (objects_of input.now) ≡ Some document.octets.items) }
     ensures fault { IfErr result (λ e. (e ≡ OutOfMemory) ⊎ (first_of (objects_of input.now) ≡ None)) }
 {
-    let Some((object, after)) = next_object(alloc, Lines::of(input))? else {
+    let Some(object) = Objects::of(alloc, input).next() else {
         return Err(FormFault::Text(1));
     };
-    let bad_end = fault_of_end(&object, after.before);
-    let PemObject { label, octets, .. } = object;
-    let octets = match octets {
-        Ok(octets) => octets,
-        Err(PemFault::Encrypted) => return Err(FormFault::Encrypted),
-        Err(PemFault::OpenSsh) => return Err(FormFault::OpenSsh),
-        Err(PemFault::NoBase64(line)) => return Err(FormFault::NoBase64(line)),
-    };
-    if let Some((line, what)) = bad_end {
-        return Err(FormFault::BadEnd(line, what));
+    let PemObject {
+        label,
+        octets,
+        bad_end,
+        ..
+    } = object?;
+    let octets = octets?;
+    if let Some((line, how)) = bad_end {
+        return Err(FormFault::BadEnd(line, how));
     }
     Ok(LabelledDocument {
         label: Some(Vec::from_slice(alloc, label)?),

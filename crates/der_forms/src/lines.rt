@@ -9,26 +9,25 @@ ghost use Rattle.der_io.specs.Lines.{lines_of};
 use der_digits::lines::LineIter;
 use der_digits::search::{behind, part_before, without_indent};
 
-/// How a line begins that begins an object.
+// How a line begins that begins an object.
 pub const BEGIN: &[u8] = b"-----BEGIN ";
 
-/// How a line begins that ends an object.
+// How a line begins that ends an object.
 pub const END: &[u8] = b"-----END ";
 
 // How the rest of such a line begins, behind the label.
 const HYPHENS: &[u8] = b"-----";
 
-/// Lines that are still to be read.
+// Lines that are still to be read.
 #[derive(Clone, Copy, Drop)]
 pub struct Lines<'a> {
-    /// What has not been read.
     pub rest: &'a [u8],
-    /// How many lines were read before.
+    // how many lines were read before
     pub before: usize,
 }
 
 impl<'a> Lines<'a> {
-    /// All lines of an input, without a byte order mark.
+    // All lines of an input, without a byte order mark.
     pub fn of(input: &'a [u8]) -> Lines<'a>
         ensures { result.rest.now ≡ without_mark input.now }
     {

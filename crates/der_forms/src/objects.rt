@@ -1,44 +1,21 @@
 // The objects of PEM, one after another.
-ghost use Rattle.std.specs.Prelude.{◌≡◌, ◌≢◌, ◌∷◌, ◌<◌, ◌≤◌, ℕ, List, [], true, false, length, IfOk, MatchOption};
+ghost use Rattle.std.specs.Prelude.{◌≡◌, ◌<◌, ◌≤◌, ◌∷◌, ℕ, List, [], true, false, length, IfOk, MatchOption};
+ghost use Rattle.std.specs.Iterator.{at_most};
 ghost use Rattle.std.specs.Option.{option_map};
 ghost use Rattle.std.specs.Result.{result_ok};
 ghost use Rattle.der_forms.specs.Decoded.{symbols_read};
 ghost use Rattle.der_forms.specs.Forms.{without_spaces};
-ghost use Rattle.der_forms.specs.Objects.{ending_by, ending_in, ends_object, is_encrypted, object_in, objects_in, octets_in, symbols_in, symbols_of, unless_openssh};
-ghost use Rattle.der_forms.specs.Shown.{shown_object};
-ghost use Rattle.der_forms.specs.declared.objects.Ending.TheVariants.{Closed};
+ghost use Rattle.der_forms.specs.Objects.{bad_end_by, bad_end_in, ends_object, is_encrypted, object_in, objects_in, objects_of, octets_in, symbols_in, symbols_of, unless_openssh};
+ghost use Rattle.der_forms.specs.Shown.{Gives, objects_left, shown_object};
 ghost use Rattle.der_io.specs.Lines.{lines_of};
 
 use crate::decoder::Decoder;
+use crate::fault::{BadEnd, FormFault};
 use crate::lines::{BEGIN, Lines, end_label_of, is_end, label_of, tells_encryption};
 use der_digits::lines::LineIter;
 use der_digits::search::{contains, part_before};
 use der_io::split_line;
 use std::alloc::{AllocError, Global};
-
-/// Why an object has no octets.
-#[derive(Clone, Copy, Debug, Drop, PartialEq)]
-pub enum PemFault {
-    /// The object is encrypted.
-    Encrypted,
-    /// The object is a private key in the form of OpenSSH.
-    OpenSsh,
-    /// A line is not base64: its number, from 1.
-    NoBase64(usize),
-}
-
-/// How an object ends.
-#[derive(Clone, Copy, Debug, Drop, PartialEq)]
-pub enum Ending {
-    /// A line ends the object, with its own label.
-    Closed,
-    /// No line ends the object.
-    Missing,
-    /// The line that ends the object has another label.
-    OtherLabel,
-    /// Another object begins in the line that ends this one.
-    Joined,
-}
 
 /// An object of PEM.
 #[derive(Debug, Drop)]
@@ -48,50 +25,63 @@ pub struct PemObject<'a> {
     /// The number of the line that begins it, the first being 1.
     pub line: usize,
     /// What the symbols of the object spell.
-    pub octets: Result<Vec<u8>, PemFault>,
-    /// How the object ends.
-    pub ending: Ending,
+    pub octets: Result<Vec<u8>, FormFault>,
+    /// The number of the line in which it ends otherwise than by its own label, and how; without an end, that of its
+    /// first line.
+    pub bad_end: Option<(usize, BadEnd)>,
 }
 
-/// The next object, and the lines after it. The only error is that memory ran out.
-pub fn next_object<'a>(
+/// The objects of a text, one after another. An `Err` says that memory ran out; what comes behind it may be no object.
+#[derive(Drop)]
+pub struct Objects<'a> {
     alloc: Global,
     lines: Lines<'a>,
-) -> Result<Option<(PemObject<'a>, Lines<'a>)>, AllocError>
-    ensures { IfOk result (λ next. MatchOption next
-        (objects_in false (lines_of lines.entry.rest.now) ≡ [])
-        (λ found. (objects_in false (lines_of lines.entry.rest.now)
-        ≡ shown_object found.0 ∷ objects_in false (lines_of found.1.rest.now))
-        × (length found.1.rest.now < length lines.entry.rest.now))) }
-{
-    let Some((label, after)) = find_object(lines) else {
-        return Ok(None);
-    };
-    let body = read_body(alloc, label, after)?;
-    let (ending, behind) = (body.ending, body.after);
-    let octets = octets_of(alloc, body, after)?;
-    let object = PemObject {
-        label,
-        line: after.before,
-        octets,
-        ending,
-    };
-    Ok(Some((object, behind)))
 }
 
-/// The line at which the object ends wrongly, and why; `last` is the number of lines before those that follow it. A
-/// line that ends it and begins another object is one of these.
-pub fn fault_of_end(object: &PemObject<'_>, last: usize) -> Option<(usize, &'static str)>
-    ensures { MatchOption result (object.now.ending ≡ Closed) (λ _. object.now.ending ≢ Closed) }
-{
-    match object.ending {
-        Ending::Closed => None,
-        Ending::Missing => Some((object.line, "this object has no END line")),
-        Ending::OtherLabel => Some((last, "END has another label than BEGIN")),
-        Ending::Joined => Some((
-            last.saturating_add(1),
-            "the next object begins on the END line",
-        )),
+impl<'a> Objects<'a> {
+    /// Those of a text, which may have a byte order mark.
+    pub fn of(alloc: Global, text: &'a [u8]) -> Objects<'a>
+        ensures { objects_left result ≡ objects_of text.now }
+    {
+        Objects {
+            alloc,
+            lines: Lines::of(text),
+        }
+    }
+
+    // The object with the label, in whose lines these begin.
+    fn read(&mut self, label: &'a [u8]) -> Result<PemObject<'a>, AllocError>
+        ensures object { IfOk result (λ object.
+            shown_object object ≡ object_in label.now (lines_of self.old.lines.rest.now)) }
+        ensures left { IfOk result (λ _.
+            objects_in true (lines_of self.old.lines.rest.now) ≡ objects_left self.new) }
+        ensures shorter { length self.new.lines.rest.now ≤ length self.old.lines.rest.now }
+    {
+        let lines = self.lines;
+        let body = read_body(self.alloc, label, lines)?;
+        let (bad_end, after) = (body.bad_end, body.after);
+        let octets = octets_of(self.alloc, body, lines)?;
+        self.lines = after;
+        Ok(PemObject {
+            label,
+            line: lines.before,
+            octets,
+            bad_end,
+        })
+    }
+}
+
+impl<'a> Iterator for Objects<'a> {
+    type Item = Result<PemObject<'a>, AllocError>;
+
+    ghost next_gives = { Gives };
+
+    ghost remaining = { λ objects. at_most (length objects.lines.rest.now) };
+
+    fn next(&mut self) -> Option<Result<PemObject<'a>, AllocError>> {
+        let (label, lines) = find_object(self.lines)?;
+        self.lines = lines;
+        Some(self.read(label))
     }
 }
 
@@ -121,7 +111,7 @@ fn find_object<'a>(lines: Lines<'a>) -> Option<(&'a [u8], Lines<'a>)>
 struct Body<'a> {
     decoder: Decoder,
     is_encrypted: bool,
-    ending: Ending,
+    bad_end: Option<(usize, BadEnd)>,
     after: Lines<'a>,
 }
 
@@ -132,7 +122,8 @@ fn read_body<'a>(alloc: Global, label: &[u8], lines: Lines<'a>) -> Result<Body<'
     ensures after { IfOk result (λ body. objects_in true (lines_of lines.entry.rest.now)
         ≡ objects_in false (lines_of body.after.rest.now)) }
     ensures shorter { IfOk result (λ body. length body.after.rest.now ≤ length lines.entry.rest.now) }
-    ensures ending { IfOk result (λ body. body.ending ≡ ending_in label.now (lines_of lines.entry.rest.now)) }
+    ensures ending { IfOk result (λ body. option_map (λ end. end.1) body.bad_end
+        ≡ bad_end_in label.now (lines_of lines.entry.rest.now)) }
 {
     let mut decoder = Decoder::new(alloc);
     let mut is_encrypted = false;
@@ -144,7 +135,7 @@ fn read_body<'a>(alloc: Global, label: &[u8], lines: Lines<'a>) -> Result<Body<'
             return Ok(Body {
                 decoder,
                 is_encrypted,
-                ending: ending_of(label, line),
+                bad_end: bad_end_of(label, line, before.saturating_add(1)),
                 after: behind_end(Lines { rest, before }),
             });
         }
@@ -156,7 +147,7 @@ fn read_body<'a>(alloc: Global, label: &[u8], lines: Lines<'a>) -> Result<Body<'
     Ok(Body {
         decoder,
         is_encrypted,
-        ending: Ending::Missing,
+        bad_end: Some((lines.before, BadEnd::Missing)),
         after: Lines { rest, before },
     })
 }
@@ -181,16 +172,16 @@ fn behind_end<'a>(lines: Lines<'a>) -> Lines<'a>
     }
 }
 
-// How a line ends an object with this label.
-fn ending_of(label: &[u8], line: &[u8]) -> Ending
-    ensures { result ≡ ending_by label.now line.now }
+// How a line of this number ends an object with the label, if not as it should.
+fn bad_end_of(label: &[u8], line: &[u8], number: usize) -> Option<(usize, BadEnd)>
+    ensures { option_map (λ end. end.1) result ≡ bad_end_by label.now line.now }
 {
     if contains(BEGIN, line) {
-        Ending::Joined
+        Some((number, BadEnd::Joined))
     } else if end_label_of(line) == label {
-        Ending::Closed
+        None
     } else {
-        Ending::OtherLabel
+        Some((number, BadEnd::OtherLabel))
     }
 }
 
@@ -199,26 +190,26 @@ fn octets_of(
     alloc: Global,
     body: Body<'_>,
     lines: Lines<'_>,
-) -> Result<Result<Vec<u8>, PemFault>, AllocError>
+) -> Result<Result<Vec<u8>, FormFault>, AllocError>
     requires symbols { symbols_read body.decoder ≡ symbols_in (lines_of lines.rest.now) }
     requires encrypted { body.is_encrypted ≡ is_encrypted (lines_of lines.rest.now) }
     ensures { IfOk result (λ octets.
         option_map (λ v. v.items) (result_ok octets) ≡ octets_in (lines_of lines.entry.rest.now)) }
 {
     if body.is_encrypted {
-        return Ok(Err(PemFault::Encrypted));
+        return Ok(Err(FormFault::Encrypted));
     }
     match body.decoder.finish(alloc)? {
         Ok(octets) => Ok(unless_openssh(octets)),
-        Err(place) => Ok(Err(PemFault::NoBase64(line_of(lines, place)))),
+        Err(place) => Ok(Err(FormFault::NoBase64(line_of(lines, place)))),
     }
 }
 
-fn unless_openssh(octets: Vec<u8>) -> Result<Vec<u8>, PemFault>
+fn unless_openssh(octets: Vec<u8>) -> Result<Vec<u8>, FormFault>
     ensures { option_map (λ v. v.items) (result_ok result) ≡ unless_openssh octets.items }
 {
     if octets.starts_with(b"openssh-key-v1\0") {
-        Err(PemFault::OpenSsh)
+        Err(FormFault::OpenSsh)
     } else {
         Ok(octets)
     }

@@ -1,25 +1,20 @@
 // Which line of a text is in no form that is read.
-ghost use Rattle.std.specs.Prelude.{◌≡◌};
-ghost use Rattle.der_forms.specs.Forms.{unknown_text};
-ghost use Rattle.der_forms.specs.Shown.{shown};
 
-use crate::input::InputForm;
+use crate::fault::FormFault;
 use der_digits::hex_text::{Symbols, digits_column, digits_part, is_in_columns};
 use der_digits::layouts::leaves_out;
 use der_digits::lines::LineIter;
 use der_digits::search::contains;
 
-// Text, with the first line that is in no form.
-pub fn form_unknown(text: &[u8]) -> InputForm
-    ensures { shown result ≡ unknown_text }
-{
+// Why a text is in no form, with the first line that is in none.
+pub fn fault_in_text(text: &[u8]) -> FormFault {
     let in_columns = is_in_columns(text);
     let is_source = contains(b"= {", text) || contains(b"= \"", text);
     let mut number: usize = 0;
     for line in LineIter(text) {
         number = number.saturating_add(1);
         if leaves_out(line) {
-            return InputForm::LeftOut(number);
+            return FormFault::LeftOut(number);
         }
         if !has_digits_alone(digits_part(in_columns, line))
             && !has_symbols_alone(line)
@@ -28,13 +23,11 @@ pub fn form_unknown(text: &[u8]) -> InputForm
             break;
         }
     }
-    InputForm::Text(number)
+    FormFault::Text(number)
 }
 
-// Columns, with the first line that stands for others.
-pub fn form_left_out(text: &[u8]) -> InputForm
-    ensures { shown result ≡ unknown_text }
-{
+// Why columns are not read, with the first line that stands for others.
+pub fn fault_in_columns(text: &[u8]) -> FormFault {
     let mut number: usize = 1;
     for line in LineIter(text) {
         if leaves_out(line) || !has_digits_alone(digits_column(line)) {
@@ -42,7 +35,7 @@ pub fn form_left_out(text: &[u8]) -> InputForm
         }
         number = number.saturating_add(1);
     }
-    InputForm::LeftOut(number)
+    FormFault::LeftOut(number)
 }
 
 // Whether hex digits, and what may stand between them, are all of the line.

@@ -2,7 +2,7 @@
 ghost use Rattle.std.specs.Prelude.{◌≡◌, ◌⊎◌, ℕ, List, None, Err, IfErr, IfOk, IfSome, IsOk, OnOk, Some, codes};
 ghost use Rattle.std.specs.Io.KnownBytes.{Appends, IsAtEnd, Keeps};
 ghost use Rattle.der_forms.specs.Objects.{document_of as document_of_is};
-ghost use Rattle.der_forms.specs.declared.input.FormFault.{FormFault};
+ghost use Rattle.der_forms.specs.declared.fault.FormFault.{FormFault};
 ghost use Rattle.der_signed.specs.Content.{HasDocument, IsContent, IsFaultOf, IsRefusalOf, TellsWhy};
 ghost use Rattle.der_signed.specs.declared.run.RunFault.TheVariants.{Stream, NotSigned as not_signed, NoDocument as no_document, Refused as refused};
 ghost use Rattle.der_io.specs.declared.StreamFault.TheVariants.{Read as read_fault, Write as write_fault, Memory as memory_fault};

@@ -1,4 +1,3 @@
 mod Growing
-mod Printed
 mod Readers
 mod Texts

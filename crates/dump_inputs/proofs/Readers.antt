@@ -1,14 +1,14 @@
--- Inputs that were written and readers that were read, one after another, for `sources::push_sources`.
+-- Inputs that were written and readers that were read, one after another, for `sources::answer_all`.
 use Rattle.std.proofs.Common.{◌≡◌, ◌<◌, ◌+◌, ℕ, suc, List, [], ◌∷◌, ◌++◌, arith, drop, get_or, length, map, refl, false, is_err, is_ok, if◌then◌else◌, set, sym, take, ◌∙◌}
-use Rattle.std.specs.Prelude.{Bool, Option, Result, Ok, Err}
+use Rattle.std.specs.Prelude.{Option, Result, Ok, Err}
 use Rattle.std.proofs.lemmas.List.{drop-set-lt, map-append, take_more}
 use Rattle.std.proofs.lemmas.Grind.{take-set_at}
 use Rattle.std.proofs.Math.Seq.{drop-cons}
-use Rattle.der_io.specs.Output.{IsWritten}
-use Rattle.dump_inputs.proofs.Texts.{IsWritten-append_next}
-use Rattle.dump_inputs.specs.Inputs.{AreReadToEnds, IsFramed, IsReadToEnd}
+use Rattle.dump_inputs.proofs.Texts.{IsDone-append_next}
+use Rattle.dump_inputs.specs.Inputs.{AreReadToEnds, IsDone, IsReadToEnd}
 use Rattle.dump_inputs.specs.Texts.{AreTexts}
 use Rattle.dump_inputs.specs.declared.outcome.Outcome.{Outcome}
+use Rattle.dump_options.specs.declared.options.Task.{Task}
 
 -- readers that were read to their ends, and one more, are all read to their ends
 AreReadToEnds-append_last :
@@ -46,17 +46,17 @@ module _ {S T E : Type 0} (i : ℕ) (all now : List S) (l : i < length all) (n :
   pub drop-set_next : (y : S) → drop (i + 1) (set now i y) ≡ drop (i + 1) all
   drop-set_next y = drop-set-lt (i + 1) now i y (omega arith) ∙ (let both = cons-get_or_drop y in cc)
 
-  -- where the texts of the sources before the place were written, and then the next one, those of all up to it were
-  pub IsWritten-next_source :
-      {A : Type 0} (Is : A → Outcome → List ℕ → Type 0) (input : S → A) (d : S) (page : Bool)
+  -- where a task was done for the sources before the place, and then for the next one, it was for all up to it
+  pub IsDone-next_source :
+      {A : Type 0} (Is : A → Outcome → List ℕ → Type 0) (input : S → A) (d : S) (task : Task)
       (a b c : Option (List ℕ)) →
-      IsWritten (IsFramed page (AreTexts Is (map input (take i all)) were)) a b →
-      IsWritten (IsFramed page (Is (input (get_or now i d)) last)) b c →
-      IsWritten (IsFramed page (AreTexts Is (map input (take (i + 1) all)) are)) a c
-  IsWritten-next_source Is input d page a b c earlier one =
+      IsDone task (AreTexts Is (map input (take i all)) were) a b →
+      IsDone task (Is (input (get_or now i d)) last) b c →
+      IsDone task (AreTexts Is (map input (take (i + 1) all)) are) a c
+  IsDone-next_source Is input d task a b c earlier one =
       let more = map-append input (take i all) (get_or all i d ∷ []) in
       rw (take_more all i d l, more, ← get_or-not_come_to d, append-pushed r were are last e p)
-      (IsWritten-append_next Is page (map input (take i all)) were (input (get_or now i d)) last a b c earlier one)
+      (IsDone-append_next Is task (map input (take i all)) were (input (get_or now i d)) last a b c earlier one)
 
   -- where the readers before the place were read to their ends, and the next one was, all up to it were
   pub AreReadToEnds-next_source :

@@ -1,21 +1,13 @@
 -- Texts that are written one after another, for `sources`.
-use Rattle.std.proofs.Common.{◌≡◌, ℕ, Bool, false, List, [], ◌∷◌, ◌++◌, refl, sym, ap, ◌∙◌, append_assoc, append-nil}
+use Rattle.std.proofs.Common.{◌≡◌, ℕ, List, [], ◌∷◌, ◌++◌, refl, sym, true, ap, ◌∙◌, append_assoc, append-nil}
+use Rattle.std.proofs.KnownBytes.{Appends-kept, Appends-nil}
+use Rattle.std.specs.Io.KnownBytes.{Keeps}
 use Rattle.std.specs.Prelude.{Option}
-use Rattle.der_io.specs.Output.{IsWritten}
-use Rattle.dump_inputs.specs.Inputs.{IsFramed}
-use Rattle.dump_inputs.specs.Texts.{AreTexts}
 use Rattle.der_io.proofs.Written.{IsWritten-append}
-
--- texts of two kinds, with what stands around them, are a text of the kind of both joined, with what stands around it
-pub IsFramed-append :
-    (page : Bool) (Is Later Other : List ℕ → Type 0) (output more : List ℕ) →
-    ((text own : List ℕ) → Is text → Later own → Other (text ++ own)) → IsFramed page Is output →
-    IsFramed page Later more → IsFramed page Other (output ++ more)
-IsFramed-append page Is Later Other output more turn (text, is, same) (own, later, equal) = (
-  text ++ own,
-  turn text own is later,
-  (λ no. ap (λ z. z ++ more) (same no) ∙ ap (λ z. text ++ z) (equal no)),
-)
+use Rattle.dump_inputs.specs.Inputs.{IsDone, is_extract}
+use Rattle.dump_inputs.specs.Texts.{AreTexts}
+use Rattle.dump_options.specs.declared.options.Task.{Task}
+use Rattle.dump_options.specs.declared.options.Task.TheVariants.{At, Dump, Extract}
 
 module _ {A B : Type 0} (Is : A → B → List ℕ → Type 0) where
   -- texts of several, and the text of one more behind them, are the texts of all
@@ -34,22 +26,28 @@ module _ {A B : Type 0} (Is : A → B → List ℕ → Type 0) where
   AreTexts-append_last [] (v ∷ vs) x last text own h is = absurd h
   AreTexts-append_last (y ∷ ys) [] x last text own h is = absurd h
 
-  -- where texts of several were written so far, and then the next one, the texts of all were
-  pub IsWritten-append_next :
-      (page : Bool) (xs : List A) (results : List B) (x : A) (last : B) (a b c : Option (List ℕ)) →
-      IsWritten (IsFramed page (AreTexts Is xs results)) a b → IsWritten (IsFramed page (Is x last)) b c →
-      IsWritten (IsFramed page (AreTexts Is (xs ++ x ∷ []) (results ++ last ∷ []))) a c
-  IsWritten-append_next page xs results x last a b c =
-      IsWritten-append _ _ _ a b c (λ output more. IsFramed-append page _ _ _ output more
-      (AreTexts-append_last xs results x last))
+  -- where a task was done for several so far, and then for the next one, it was done for all
+  pub IsDone-append_next :
+      (task : Task) (xs : List A) (results : List B) (x : A) (last : B) (a b c : Option (List ℕ)) →
+      IsDone task (AreTexts Is xs results) a b → IsDone task (Is x last) b c →
+      IsDone task (AreTexts Is (xs ++ x ∷ []) (results ++ last ∷ [])) a c
+  IsDone-append_next Dump xs results x last a b c (text, are) (own, is) =
+      (text ++ own, AreTexts-append_last xs results x last text own are is)
+  IsDone-append_next (At offset) xs results x last a b c (text, are) (own, is) =
+      (text ++ own, AreTexts-append_last xs results x last text own are is)
+  IsDone-append_next (Extract part offset) xs results x last a b c earlier one =
+      IsWritten-append _ _ _ a b c (AreTexts-append_last xs results x last) earlier one
 
--- where something was written around a text, it still is this text with something around it
-pub IsWritten-framed :
-    (page : Bool) (Is : List ℕ → Type 0) (a b c : Option (List ℕ)) → IsWritten (IsFramed page Is) a b →
-    IsWritten (λ text. page ≡ false → text ≡ []) b c → IsWritten (IsFramed page Is) a c
-IsWritten-framed page Is a b c =
-    IsWritten-append _ _ _ a b c (λ output more (text, is, same) none. (
-      text,
-      is,
-      (λ no. ap (λ z. z ++ more) (same no) ∙ (ap (λ z. text ++ z) (none no) ∙ append-nil text)),
-    ))
+-- a task is done by no text
+pub IsDone-nil : (task : Task) (Is : List ℕ → Type 0) (a : Option (List ℕ)) → Is [] → IsDone task Is a a
+IsDone-nil Dump Is a is = ([], is)
+IsDone-nil (At offset) Is a is = ([], is)
+IsDone-nil (Extract part offset) Is a is = ([], Appends-nil a, is)
+
+-- a task that was done still is, where octets as they stand are kept
+pub IsDone-kept :
+    (task : Task) (Is : List ℕ → Type 0) (a b c : Option (List ℕ)) → IsDone task Is a b →
+    (is_extract task ≡ true → Keeps b c) → IsDone task Is a c
+IsDone-kept Dump Is a b c done kept = done
+IsDone-kept (At offset) Is a b c done kept = done
+IsDone-kept (Extract part offset) Is a b c (text, put, is) kept = (text, Appends-kept a b c text put (kept refl), is)

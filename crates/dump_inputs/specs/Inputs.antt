@@ -1,14 +1,16 @@
 -- What is written of inputs.
 use Rattle.std.specs.Prelude.{◌≡◌, ◌≢◌, ◌⊎◌, ℕ, Bool, true, false, List, [], ◌∷◌, Option, Some, None, IfSome}
 use Rattle.std.specs.Io.KnownBytes.{IsAtEnd}
-use Rattle.dump_inputs.specs.Blocks.{IsBlockAt, IsContentsAt, IsValueAt}
+use Rattle.der_io.specs.Output.{IsWritten}
+use Rattle.der_forms.specs.Objects.{IsReadAs, document_of}
+use Rattle.dump_inputs.specs.Blocks.{IsPartAt}
 use Rattle.dump_inputs.specs.declared.outcome.Outcome.{Outcome}
 use Rattle.dump_inputs.specs.declared.outcome.Outcome.TheVariants.{Lacking, Unread, Written}
 use Rattle.dump_lines.specs.declared.document.Verdict.TheVariants.{AllRead, Refused}
-use Rattle.dump_options.specs.declared.options.Output.{Output}
-use Rattle.dump_options.specs.declared.options.Output.TheVariants.{Page}
 use Rattle.dump_options.specs.declared.options.Task.{Task}
-use Rattle.dump_options.specs.declared.options.Task.TheVariants.{At, Contents, Dump, Extract, Value}
+use Rattle.dump_options.specs.declared.options.Task.TheVariants.{At, Dump, Extract}
+use Rattle.dump_walk.specs.ByOffset.{HasElementAt, LacksElementAt}
+use Rattle.dump_walk.specs.declared.block.NoBlock.{NoBlock}
 
 -- octets as they stand, or nothing where there are none, and the outcome says why
 abbrev pub IsPart : Option (List ℕ) → Outcome → List ℕ → Type 0
@@ -16,18 +18,21 @@ IsPart (Some octets) outcome text = (outcome ≡ Written AllRead) × (text ≡ o
 IsPart None (Lacking why) text = text ≡ []
 IsPart None _ text = ⊥
 
--- what is written of octets by the task: a dump of all of them, or of the block at an offset, where there is one; or
--- exactly this block, its contents octets, or the octets of the string that it is
+-- a block begins at the offset in a document; or none does, and the outcome says so
+abbrev pub IsShownIn : ℕ → List ℕ → Outcome → Type 0
+IsShownIn offset document outcome =
+    ((block contents : List ℕ) × HasElementAt document offset block contents)
+    ⊎ (((why : NoBlock) × LacksElementAt document offset why) × (outcome ≡ Written Refused))
+
+-- what is written of octets by the task: exactly a part of the block at an offset, where there is one; of a dump, that
+-- it is rejected where there is no such block
 abbrev pub IsTaskText : Task → List ℕ → Outcome → List ℕ → Type 0
 IsTaskText Dump input outcome text = Unit {0}
 IsTaskText (At offset) input outcome text =
-    (block : Option (List ℕ)) × IsBlockAt offset input block × (block ≡ None → outcome ≡ Written Refused)
-IsTaskText (Extract offset) input outcome text =
-    (block : Option (List ℕ)) × IsBlockAt offset input block × IsPart block outcome text
-IsTaskText (Contents offset) input outcome text =
-    (contents : Option (List ℕ)) × IsContentsAt offset input contents × IsPart contents outcome text
-IsTaskText (Value offset) input outcome text =
-    (octets : Option (List ℕ)) × IsValueAt offset input octets × IsPart octets outcome text
+    ((document_of input ≡ None) × (outcome ≡ Written Refused))
+    ⊎ ((document : List ℕ) × IsReadAs input document × IsShownIn offset document outcome)
+IsTaskText (Extract part offset) input outcome text =
+    (octets : Option (List ℕ)) × IsPartAt part offset input octets × IsPart octets outcome text
 
 -- what is written of an input, whose octets are these where they are known: nothing where it can't be read
 abbrev pub IsInputText : Task → Option (List ℕ) → Outcome → List ℕ → Type 0
@@ -35,18 +40,16 @@ IsInputText task input outcome text =
     ((outcome ≡ Unread) × (text ≡ []))
     ⊎ ((octets : List ℕ) × IfSome input (λ known. octets ≡ known) × IsTaskText task octets outcome text)
 
--- documents are shown on a page
-abbrev pub is_page : Output → Bool
-is_page Page = true
-is_page _ = false
+-- the task has octets written as they stand
+abbrev pub is_extract : Task → Bool
+is_extract (Extract part offset) = true
+is_extract _ = false
 
--- what stands before texts or behind them: nothing, unless they are on a page
-abbrev pub IsFrame : Bool → List ℕ → Type 0
-IsFrame page text = page ≡ false → text ≡ []
-
--- a text of some kind; on a page something may stand around it
-abbrev pub IsFramed : Bool → (List ℕ → Type 0) → List ℕ → Type 0
-IsFramed page Is output = (text : List ℕ) × Is text × (page ≡ false → output ≡ text)
+-- the task is done by a text of some kind: exactly this was written, where octets are written as they stand
+abbrev pub IsDone : Task → (List ℕ → Type 0) → Option (List ℕ) → Option (List ℕ) → Type 0
+IsDone Dump Is before after = (text : List ℕ) × Is text
+IsDone (At offset) Is before after = (text : List ℕ) × Is text
+IsDone (Extract part offset) Is before after = IsWritten Is before after
 
 -- what a reader has left after an input with this outcome: nothing, unless it could not be read
 abbrev pub IsReadToEnd : Outcome → Option (List ℕ) → Type 0

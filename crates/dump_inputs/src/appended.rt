@@ -1,10 +1,20 @@
 // A writer that bytes are only appended to.
+ghost use Rattle.std.specs.Prelude.{ℕ, List, None, Option};
 ghost use Rattle.dump_inputs.specs.Growing.{Grows};
 
-use crate::before::Before;
 use std::io;
 use std::io::Write;
-use std::marker::PhantomData;
+use std::marker::{Brand, PhantomData};
+
+// What a writer holds at some time, for proofs.
+pub trait Before {
+    // its bytes at that time, where they are known; the proof of a call picks them
+    ghost before: { Option (List ℕ) };
+}
+
+impl Before for Brand {
+    ghost before = { None };
+}
 
 // Its writer still has at the front what it held before.
 pub struct Appended<W: Write, B: Before> {

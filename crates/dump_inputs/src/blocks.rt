@@ -1,17 +1,20 @@
-// The block at an offset of an input: shown alone, or its octets.
-ghost use Rattle.std.specs.Prelude.{IfOk, MatchOption, Some};
+// The block at an offset of an input: shown alone, or a part of its octets.
+ghost use Rattle.std.specs.Prelude.{◌≡◌, IfErr, IfOk, List, MatchResult, None, Option, ℕ};
+ghost use Rattle.der_forms.specs.Objects.{IsReadAs, document_of};
 ghost use Rattle.der_io.specs.Output.{IsWritten};
-ghost use Rattle.dump_inputs.specs.Blocks.{IsBlockAt, IsFoundIn, octets_in};
-ghost use Rattle.dump_inputs.specs.Inputs.{IsPart, IsTaskText};
-ghost use Rattle.dump_options.specs.declared.options.Task.TheVariants.{At, Contents, Extract, Value};
+ghost use Rattle.dump_inputs.specs.Blocks.{IsFoundIn, IsPartOf};
+ghost use Rattle.dump_inputs.specs.Inputs.{IsPart, IsShownIn, IsTaskText};
+ghost use Rattle.dump_inputs.specs.declared.outcome.Outcome.TheVariants.{Written};
+ghost use Rattle.dump_lines.specs.declared.document.Verdict.TheVariants.{Refused};
+ghost use Rattle.dump_options.specs.declared.options.Task.TheVariants.{At, Extract};
 ghost use Rattle.dump_walk.specs.StringOctets.{HoldsNoOctets, HoldsOctets};
 
-use crate::documents::{Document, copy_of, first_document, unlabelled};
 use crate::outcome::Outcome;
-use crate::show::Show;
-use der_forms::LabelledDocument;
+use crate::show::{Document, Show};
+use der_forms::{FormFault, LabelledDocument, labelled_document_of};
 use der_io::{StreamFault, write_part};
 use dump_lines::{Style, Verdict};
+use dump_options::Part;
 use dump_rows::Printer;
 use dump_walk::place::outermost;
 use dump_walk::{Block, NoBlock, NoString, block_at, string_octets};
@@ -27,94 +30,73 @@ impl Show {
         offset: usize,
         printer: &mut Printer<W>,
     ) -> Result<Outcome, StreamFault>
-        ensures { IfOk result (λ outcome. IsWritten (IsTaskText (At offset) input.items outcome)
-            (W.contents printer.old.out) (W.contents printer.new.out)) }
-    {
-        let block = self.block_alone(input, offset)?;
-        self.push_block(name, block, printer)
-    }
-
-    // The block that begins at the offset in the document of an input, as a document, or why there is none.
-    fn block_alone(&self, input: Vec<u8>, offset: usize) -> Result<Document, AllocError>
-        ensures { IfOk result (λ block. IsBlockAt offset input.items (octets_in block.octets)) }
+        ensures { IfOk result (λ outcome. (text : List ℕ) → IsTaskText (At offset) input.items outcome text) }
     {
         let document = match first_document(self.alloc, input)? {
             Ok(document) => document,
-            Err(why) => return Ok(unlabelled(Err(why))),
+            Err(why) => return self.push_lack(name, &why, printer),
         };
-        match self.block_in(&document, offset)? {
-            Ok(block) => {
-                let octets = copy_of(self.alloc, block.octets)?;
-                Ok(Document {
-                    label: None,
-                    octets: Ok(octets),
-                    field: block.place.spot(),
-                })
-            }
-            Err(why) => Ok(unlabelled(Err(why))),
-        }
+        self.push_block(name, &document, offset, printer)
     }
 
-    // Writes the octets of the block that begins at the offset in the document of an input.
-    pub fn push_extracted<W: Write>(
-        &self,
-        input: Vec<u8>,
+    // Shows the block that begins at the offset in a document, or says why there is none.
+    fn push_block<'a, W: Write>(
+        &'a self,
+        name: &str,
+        document: &'a LabelledDocument,
         offset: usize,
-        out: &mut W,
+        printer: &mut Printer<W>,
     ) -> Result<Outcome, StreamFault>
-        ensures { IfOk result (λ outcome. IsWritten (IsTaskText (Extract offset) input.items outcome)
-            (W.contents out.old) (W.contents out.new)) }
+        ensures { IfOk result (IsShownIn offset document.now.octets.items) }
     {
-        let document = match first_document(self.alloc, input)? {
-            Ok(document) => document,
-            Err(why) => return Ok(Outcome::Lacking(why)),
-        };
-        match self.block_in(&document, offset)? {
-            Ok(block) => write_octets(block.octets, out),
-            Err(why) => Ok(Outcome::Lacking(why)),
-        }
-    }
-
-    // Writes the contents octets of the block that begins at the offset in the document of an input.
-    pub fn push_contents<W: Write>(
-        &self,
-        input: Vec<u8>,
-        offset: usize,
-        out: &mut W,
-    ) -> Result<Outcome, StreamFault>
-        ensures { IfOk result (λ outcome. IsWritten (IsTaskText (Contents offset) input.items outcome)
-            (W.contents out.old) (W.contents out.new)) }
-    {
-        let document = match first_document(self.alloc, input)? {
-            Ok(document) => document,
-            Err(why) => return Ok(Outcome::Lacking(why)),
-        };
-        match self.block_in(&document, offset)? {
-            Ok(block) => write_octets(block.contents, out),
-            Err(why) => Ok(Outcome::Lacking(why)),
-        }
-    }
-
-    // Writes the octets that the string holds which begins at the offset in the document of an input.
-    pub fn push_value<W: Write>(
-        &self,
-        input: Vec<u8>,
-        offset: usize,
-        out: &mut W,
-    ) -> Result<Outcome, StreamFault>
-        ensures { IfOk result (λ outcome. IsWritten (IsTaskText (Value offset) input.items outcome)
-            (W.contents out.old) (W.contents out.new)) }
-    {
-        let document = match first_document(self.alloc, input)? {
-            Ok(document) => document,
-            Err(why) => return Ok(Outcome::Lacking(why)),
-        };
-        let block = match self.block_in(&document, offset)? {
+        let block = match self.block_in(document, offset)? {
             Ok(block) => block,
+            Err(why) => return self.push_lack(name, &why, printer),
+        };
+        let shown = Document {
+            label: None,
+            octets: Ok(block.octets),
+            field: block.place.spot(),
+        };
+        let verdict = self.push_named(name, shown, printer)?;
+        Ok(Outcome::Written(verdict))
+    }
+
+    // Says why an input has no such block.
+    fn push_lack<W: Write>(
+        &self,
+        name: &str,
+        why: &str,
+        printer: &mut Printer<W>,
+    ) -> Result<Outcome, StreamFault>
+        ensures { IfOk result (λ outcome. outcome ≡ Written Refused) }
+    {
+        let document = Document {
+            label: None,
+            octets: Err(why),
+            field: None,
+        };
+        self.push_named(name, document, printer)?;
+        Ok(Outcome::Written(Verdict::Refused))
+    }
+
+    // Writes a part of the block that begins at the offset in the document of an input.
+    pub fn push_part<W: Write>(
+        &self,
+        part: Part,
+        input: Vec<u8>,
+        offset: usize,
+        out: &mut W,
+    ) -> Result<Outcome, StreamFault>
+        ensures { IfOk result (λ outcome. IsWritten (IsTaskText (Extract part offset) input.items outcome)
+            (W.contents out.old) (W.contents out.new)) }
+    {
+        let document = match first_document(self.alloc, input)? {
+            Ok(document) => document,
             Err(why) => return Ok(Outcome::Lacking(why)),
         };
-        match octets_held(self.alloc, block.octets, offset)? {
-            Ok(octets) => write_octets(&octets, out),
+        match self.block_in(&document, offset)? {
+            Ok(block) => push_part_of(self.alloc, part, &block, offset, out),
             Err(why) => Ok(Outcome::Lacking(why)),
         }
     }
@@ -148,6 +130,22 @@ impl Show {
     }
 }
 
+// The document of an input, the first one of PEM, or why there is none.
+fn first_document(
+    alloc: Global,
+    input: Vec<u8>,
+) -> Result<Result<LabelledDocument, String>, AllocError>
+    ensures found { IfOk result (λ found. IfOk found (λ document.
+        IsReadAs input.items document.octets.items)) }
+    ensures none { IfOk result (λ found. IfErr found (λ _. document_of input.items ≡ None)) }
+{
+    match labelled_document_of(alloc, input) {
+        Ok(document) => Ok(Ok(document)),
+        Err(FormFault::OutOfMemory) => Err(AllocError),
+        Err(fault) => Ok(Err(format!(in alloc; "{fault}")?)),
+    }
+}
+
 // Why no block begins at the offset.
 fn no_block_text(alloc: Global, why: NoBlock, offset: usize) -> Result<String, AllocError> {
     match why {
@@ -164,15 +162,37 @@ fn no_block_text(alloc: Global, why: NoBlock, offset: usize) -> Result<String, A
     }
 }
 
-// The octets that a string holds which begins at the offset, or why a block holds none.
+// Writes a part of the block at the offset.
+fn push_part_of<W: Write>(
+    alloc: Global,
+    part: Part,
+    block: &Block<'_>,
+    offset: usize,
+    out: &mut W,
+) -> Result<Outcome, StreamFault>
+    ensures { IfOk result (λ outcome. (octets : Option (List ℕ))
+        × IsPartOf part block.now.octets.now block.now.contents.now octets
+        × IsWritten (IsPart octets outcome) (W.contents out.old) (W.contents out.new)) }
+{
+    match part {
+        Part::Whole => push_octets(block.octets, out),
+        Part::Contents => push_octets(block.contents, out),
+        Part::Value => match octets_held(alloc, block.octets, offset)? {
+            Ok(octets) => push_octets(&octets, out),
+            Err(why) => Ok(Outcome::Lacking(why)),
+        },
+    }
+}
+
+// The octets that the string holds which begins at the offset, or why a block holds none.
 fn octets_held(
     alloc: Global,
     block: &[u8],
     offset: usize,
 ) -> Result<Result<Vec<u8>, String>, AllocError>
-    ensures { IfOk result (λ held. MatchOption (octets_in held)
-        (HoldsNoOctets block.now)
-        (HoldsOctets block.now)) }
+    ensures { IfOk result (λ held. MatchResult held
+        (λ octets. HoldsOctets block.now octets.items)
+        (λ _. HoldsNoOctets block.now)) }
 {
     match string_octets(alloc, block)? {
         Ok(octets) => Ok(Ok(octets)),
@@ -186,7 +206,7 @@ fn octets_held(
 }
 
 // Writes octets as they stand.
-fn write_octets<W: Write>(octets: &[u8], out: &mut W) -> Result<Outcome, StreamFault>
+fn push_octets<W: Write>(octets: &[u8], out: &mut W) -> Result<Outcome, StreamFault>
     ensures { IfOk result (λ outcome. IsWritten (IsPart (Some octets.now) outcome)
         (W.contents out.old) (W.contents out.new)) }
 {

@@ -6,19 +6,14 @@
 //! and a page that of `dump_rows`. An [`Outcome`] says what was done with an input, and [`status`] is the exit status
 //! after a run.
 //!
-//! Two steps do it: `documents` says what documents an input has, and `show` writes the text of one. `objects` decodes
-//! one object of PEM after another, and writes the text of each before it decodes the next.
+//! `sources` reads the inputs, `show` writes their documents, each object of PEM before it decodes the next, and
+//! `blocks` finds the block at an offset, to show it or to write a part of it.
 //!
 //! It opens nothing by itself: `der_dump` gives it files and standard input, and tests give it octets.
 #![tactic(auto)]
 
-mod account;
 mod appended;
-mod before;
 mod blocks;
-mod documents;
-mod json;
-mod objects;
 mod outcome;
 mod show;
 mod sources;

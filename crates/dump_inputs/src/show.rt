@@ -1,41 +1,52 @@
 // How documents are shown.
-ghost use Rattle.std.specs.Prelude.{◌≡◌, IfOk, None, OnOk};
-ghost use Rattle.dump_inputs.specs.Blocks.{octets_in};
-ghost use Rattle.dump_inputs.specs.Growing.{Grows};
-ghost use Rattle.dump_inputs.specs.Inputs.{IsFrame, is_page};
-ghost use Rattle.der_io.specs.Output.{IsWritten};
-ghost use Rattle.dump_lines.specs.declared.document.Verdict.TheVariants.{Refused};
+ghost use Rattle.std.specs.Prelude.{◌≡◌, false, OnOk};
 
-use crate::documents::Document;
+use asn1_der::is_der;
+use der_forms::{FormFault, InputForm, Objects, PemObject, form_of, text_of};
 use der_io::{StreamFault, write_part};
+use dump_json::Origin;
 use dump_lines::{Dumper, Style, Verdict, push_refusal};
 use dump_names::{Names, OwnNames};
-use dump_options::{Color, Options, Output, Task};
+use dump_options::{Color, Options, Output};
 use dump_rows::{Look, Printer, push_foot, push_head};
-use dump_shapes::{DocumentType, Shapes};
+use dump_shapes::{DocumentType, Shapes, Spot};
+use dump_text::{account_of, joined};
 use dump_walk::style::Known;
 use jiff::civil::DateTime;
 use std::alloc::{AllocError, Global};
 use std::io::Write;
 use std::str;
 
-// What is done with each input, and how its documents are shown.
+// What is said of octets that have no account.
+const NO_ACCOUNT: &str =
+    "no certificate, certification request, list of revoked certificates or key";
+
+// A document that is shown.
+#[derive(Clone, Copy)]
+pub struct Document<'l, 'a> {
+    pub label: Option<&'l [u8]>,
+    // its octets, or why they are not read
+    pub octets: Result<&'a [u8], &'a str>,
+    // the field that it is, if it is a block of another document, in which it has a name
+    pub field: Option<Spot>,
+}
+
+// How documents are shown.
 #[derive(Drop)]
 pub struct Show {
     pub alloc: Global,
     pub names: Names,
-    pub task: Task,
-    // the name of each input is shown
-    pub is_named: bool,
-    pub output: Output,
-    pub is_strict: bool,
-    // lines are colored
-    pub is_colored: bool,
     pub style: Style,
+    // the name of each input is shown
+    is_named: bool,
+    output: Output,
+    is_strict: bool,
+    // that of lines
+    look: Look,
     // the type that all documents are of, where one is named
-    pub named_type: Option<DocumentType>,
-    // the time at which it is shown, in UTC
-    pub time: Option<DateTime>,
+    named_type: Option<DocumentType>,
+    // the time at which they are shown, in UTC
+    time: Option<DateTime>,
 }
 
 impl Show {
@@ -46,10 +57,7 @@ impl Show {
         own: OwnNames,
         count: usize,
         time: Option<DateTime>,
-    ) -> Result<Show, AllocError>
-        ensures task { IfOk result (λ show. show.task ≡ options.now.task) }
-        ensures output { IfOk result (λ show. show.output ≡ options.now.output) }
-    {
+    ) -> Result<Show, AllocError> {
         let names = Names::with(alloc, own)?.with_fields(Shapes::new(alloc)?);
         let named_type = match options.type_name {
             Some(name) => names.shapes.named_type(name),
@@ -58,11 +66,6 @@ impl Show {
         Ok(Show {
             alloc,
             names,
-            task: options.task,
-            is_named: matches!(options.output, Output::Json) || count > 1,
-            output: options.output,
-            is_strict: options.is_strict,
-            is_colored: matches!(options.color, Color::Always),
             style: Style {
                 is_full: options.is_full,
                 is_flat: options.is_flat,
@@ -70,131 +73,254 @@ impl Show {
                 is_plain: options.is_plain,
                 known: Known::Nothing,
             },
+            is_named: matches!(options.output, Output::Json) || count > 1,
+            output: options.output,
+            is_strict: options.is_strict,
+            look: match options.color {
+                Color::Always => Look::Colored,
+                Color::Auto | Color::Never => Look::Plain,
+            },
             named_type,
             time,
         })
     }
 
-    // Writes the text of a document, and returns whether all of it was read. JSON has the name of the file.
-    pub fn push<W: Write>(
+    // Writes each document of an input, one after another, behind its name where names are shown.
+    pub fn push_input<W: Write>(
+        &self,
+        name: &str,
+        input: Vec<u8>,
+        printer: &mut Printer<W>,
+    ) -> Result<Verdict, StreamFault> {
+        let file = self.push_file(name, printer)?;
+        let text = text_of(self.alloc, input)?;
+        let octets = match form_of(self.alloc, &text)? {
+            InputForm::Pem => return self.push_objects(file, &text, printer),
+            InputForm::Unread(fault) => return self.push_fault(file, None, &fault, printer),
+            InputForm::Spelled(octets) | InputForm::LaidOut(octets) => octets,
+            InputForm::Der => text,
+        };
+        let document = Document {
+            label: None,
+            octets: Ok(&octets),
+            field: None,
+        };
+        self.push(file, document, printer)
+    }
+
+    // Writes a document, or why it is not read, behind the name of its input where names are shown.
+    pub fn push_named<W: Write>(
+        &self,
+        name: &str,
+        document: Document<'_, '_>,
+        printer: &mut Printer<W>,
+    ) -> Result<Verdict, StreamFault> {
+        let file = self.push_file(name, printer)?;
+        self.push(file, document, printer)
+    }
+
+    // Writes the name of an input, and returns it, where names are shown. JSON has it in each line.
+    fn push_file<'a, W: Write>(
+        &self,
+        name: &'a str,
+        printer: &mut Printer<W>,
+    ) -> Result<Option<&'a str>, StreamFault> {
+        if !self.is_named {
+            return Ok(None);
+        }
+        match self.output {
+            Output::Json => {}
+            Output::Lines | Output::Accounts => {
+                printer.look = self.look;
+                printer.push_title(name.as_bytes())?;
+            }
+            Output::Page => {
+                printer.look = Look::Page;
+                printer.begin_section()?;
+                printer.push_title(name.as_bytes())?;
+                printer.end_section(&[])?;
+            }
+        }
+        Ok(Some(name))
+    }
+
+    // Writes each object of PEM, before the next is decoded.
+    fn push_objects<W: Write>(
         &self,
         file: Option<&str>,
-        document: &Document,
+        text: &[u8],
         printer: &mut Printer<W>,
-    ) -> Result<Verdict, StreamFault>
-        ensures refused { IfOk result (λ verdict. octets_in document.now.octets ≡ None → verdict ≡ Refused) }
-        ensures grown { OnOk result (Grows (W.contents printer.old.out) (W.contents printer.new.out)) }
-    {
+    ) -> Result<Verdict, StreamFault> {
+        let mut verdict = Verdict::AllRead;
+        for object in Objects::of(self.alloc, text) {
+            if let Verdict::Refused = self.push_object(file, &object?, printer)? {
+                verdict = Verdict::Refused;
+            }
+        }
+        Ok(verdict)
+    }
+
+    // Writes an object, and how it ends, if not as it should.
+    fn push_object<W: Write>(
+        &self,
+        file: Option<&str>,
+        object: &PemObject<'_>,
+        printer: &mut Printer<W>,
+    ) -> Result<Verdict, StreamFault> {
+        let label = Some(object.label);
+        let verdict = match &object.octets {
+            Ok(octets) => {
+                let document = Document {
+                    label,
+                    octets: Ok(octets),
+                    field: None,
+                };
+                self.push(file, document, printer)?
+            }
+            Err(fault) => self.push_fault(file, label, fault, printer)?,
+        };
+        match object.bad_end {
+            Some((line, how)) => {
+                self.push_fault(file, None, &FormFault::BadEnd(line, how), printer)
+            }
+            None => Ok(verdict),
+        }
+    }
+
+    // Writes why a document is not read.
+    fn push_fault<W: Write>(
+        &self,
+        file: Option<&str>,
+        label: Option<&[u8]>,
+        fault: &FormFault,
+        printer: &mut Printer<W>,
+    ) -> Result<Verdict, StreamFault> {
+        let why = format!(in self.alloc; "{fault}")?;
+        let document = Document {
+            label,
+            octets: Err(&why),
+            field: None,
+        };
+        self.push(file, document, printer)
+    }
+
+    // Writes a document, or why it is not read. JSON has the name of the file.
+    fn push<W: Write>(
+        &self,
+        file: Option<&str>,
+        document: Document<'_, '_>,
+        printer: &mut Printer<W>,
+    ) -> Result<Verdict, StreamFault> {
         match self.output {
-            Output::Lines => self.push_as_lines(document, printer),
+            Output::Lines => {
+                printer.look = self.look;
+                self.push_dump(document, printer)
+            }
             Output::Json => self.push_json(file, document, &mut printer.out),
-            Output::Page => self.push_on_page(document, printer),
-            Output::Accounts => self.push_account(document, printer),
+            Output::Page => {
+                printer.look = Look::Page;
+                printer.begin_section()?;
+                let verdict = self.push_dump(document, printer)?;
+                printer.end_section(document.octets.unwrap_or(&[]))?;
+                Ok(verdict)
+            }
+            Output::Accounts => {
+                printer.look = Look::Plain;
+                self.push_account(document, printer)
+            }
         }
     }
 
-    // Prints a dump as lines.
-    fn push_as_lines<W: Write>(
-        &self,
-        document: &Document,
-        printer: &mut Printer<W>,
-    ) -> Result<Verdict, StreamFault>
-        ensures refused { IfOk result (λ verdict. octets_in document.now.octets ≡ None → verdict ≡ Refused) }
-        ensures grown { OnOk result (Grows (W.contents printer.old.out) (W.contents printer.new.out)) }
-    {
-        printer.look = self.look();
-        let verdict = self.push_dump(document, printer)?;
-        Ok(verdict)
-    }
-
-    // Prints a section of a page: a dump, and the octets.
-    fn push_on_page<W: Write>(
-        &self,
-        document: &Document,
-        printer: &mut Printer<W>,
-    ) -> Result<Verdict, StreamFault>
-        ensures refused { IfOk result (λ verdict. octets_in document.now.octets ≡ None → verdict ≡ Refused) }
-        ensures grown { OnOk result (Grows (W.contents printer.old.out) (W.contents printer.new.out)) }
-    {
-        printer.look = Look::Page;
-        printer.begin_section()?;
-        let verdict = self.push_dump(document, printer)?;
-        printer.end_section(octets_or_empty(document))?;
-        Ok(verdict)
-    }
-
-    // How lines are shown.
-    fn look(&self) -> Look {
-        if self.is_colored {
-            Look::Colored
-        } else {
-            Look::Plain
-        }
-    }
-
-    // Prints a dump under the line of its label, if it has one.
+    // Writes a dump under the line of its label, if it has one.
     fn push_dump<W: Write>(
         &self,
-        document: &Document,
+        document: Document<'_, '_>,
         printer: &mut Printer<W>,
-    ) -> Result<Verdict, StreamFault>
-        ensures refused { IfOk result (λ verdict. octets_in document.now.octets ≡ None → verdict ≡ Refused) }
-        ensures grown { OnOk result (Grows (W.contents printer.old.out) (W.contents printer.new.out)) }
-    {
-        self.push_label_of(document, printer)?;
-        let verdict = self.push_dump_or_refusal(document, printer)?;
-        printer.end_folds()?;
-        Ok(verdict)
-    }
-
-    fn push_label_of<W: Write>(
-        &self,
-        document: &Document,
-        printer: &mut Printer<W>,
-    ) -> Result<(), StreamFault>
-        ensures { OnOk result (Grows (W.contents printer.old.out) (W.contents printer.new.out)) }
-    {
-        match &document.label {
-            Some(label) => printer.push_title(label),
-            None => Ok(()),
+    ) -> Result<Verdict, StreamFault> {
+        if let Some(label) = document.label {
+            printer.push_title(label)?;
         }
-    }
-
-    fn push_dump_or_refusal<W: Write>(
-        &self,
-        document: &Document,
-        printer: &mut Printer<W>,
-    ) -> Result<Verdict, StreamFault>
-        ensures refused { IfOk result (λ verdict. octets_in document.now.octets ≡ None → verdict ≡ Refused) }
-        ensures grown { OnOk result (Grows (W.contents printer.old.out) (W.contents printer.new.out)) }
-    {
-        match &document.octets {
-            Ok(octets) => self.push_octets(self.style_of(document), octets, printer),
-            Err(why) => push_refusal(why, printer),
-        }
-    }
-
-    fn push_octets<W: Write>(
-        &self,
-        style: Style,
-        octets: &[u8],
-        printer: &mut Printer<W>,
-    ) -> Result<Verdict, StreamFault>
-        ensures { OnOk result (Grows (W.contents printer.old.out) (W.contents printer.new.out)) }
-    {
         let dumper = Dumper {
             alloc: self.alloc,
             names: &self.names,
             is_strict: self.is_strict,
         };
-        dumper.push_document(style, octets, printer)
+        let verdict = match document.octets {
+            Ok(octets) => dumper.push_document(self.style_of(document), octets, printer)?,
+            Err(why) => push_refusal(why, printer)?,
+        };
+        printer.end_folds()?;
+        Ok(verdict)
+    }
+
+    // Writes the lines of JSON of a document.
+    fn push_json<W: Write>(
+        &self,
+        file: Option<&str>,
+        document: Document<'_, '_>,
+        out: &mut W,
+    ) -> Result<Verdict, StreamFault> {
+        let label = match document.label {
+            Some(label) => Some(String::from_utf8_lossy(self.alloc, label)?),
+            None => None,
+        };
+        let label = label.as_deref();
+        self.push_json_from(Origin { file, label }, document, out)
+    }
+
+    fn push_json_from<W: Write>(
+        &self,
+        origin: Origin<'_>,
+        document: Document<'_, '_>,
+        out: &mut W,
+    ) -> Result<Verdict, StreamFault> {
+        let dumper = dump_json::Dumper {
+            alloc: self.alloc,
+            names: &self.names,
+            origin,
+            is_strict: self.is_strict,
+        };
+        match document.octets {
+            Ok(octets) => {
+                let is_right = dumper.push_document(self.style_of(document), octets, out)?;
+                Ok(verdict_of(is_right))
+            }
+            Err(why) => {
+                dumper.push_refusal(why, out)?;
+                Ok(Verdict::Refused)
+            }
+        }
+    }
+
+    // Writes the account of a document, or that it has none. It is rejected if it is no whole encodings, and strictly
+    // if it is not DER.
+    fn push_account<W: Write>(
+        &self,
+        document: Document<'_, '_>,
+        printer: &mut Printer<W>,
+    ) -> Result<Verdict, StreamFault> {
+        let octets = match document.octets {
+            Ok(octets) => octets,
+            Err(why) => return push_refusal(why, printer),
+        };
+        let known = self.type_labelled(document.label);
+        let Some(account) = account_of(self.alloc, &self.names, known, octets, self.time)? else {
+            return push_refusal(NO_ACCOUNT, printer);
+        };
+        let text = joined(self.alloc, &account.lines)?;
+        write_part(&mut printer.out, text.as_bytes())?;
+        if let Some(fault) = &account.fault {
+            printer.push_fault(fault.offset, &fault.message)?;
+            return Ok(Verdict::Refused);
+        }
+        Ok(verdict_of(!self.is_strict || is_der(self.alloc, octets)?))
     }
 
     // How a document is shown.
-    pub fn style_of(&self, document: &Document) -> Style {
+    fn style_of(&self, document: Document<'_, '_>) -> Style {
         let known = match document.field {
             Some(spot) => Known::Field(spot),
-            None => self.known_of(document.label.as_deref()),
+            None => self.known_of(document.label),
         };
         Style {
             known,
@@ -211,141 +337,43 @@ impl Show {
     }
 
     // The type that a document is known to be of: the one that is named, or else the one that its label says.
-    pub fn type_of(&self, document: &Document) -> Option<DocumentType> {
-        self.type_labelled(document.label.as_deref())
-    }
-
     fn type_labelled(&self, label: Option<&[u8]>) -> Option<DocumentType> {
         self.named_type.or_else(|| self.type_of_label(label?))
     }
 
-    // The type that a label says.
     fn type_of_label(&self, label: &[u8]) -> Option<DocumentType> {
         self.names.shapes.labelled_type(str::from_utf8(label).ok()?)
     }
 
-    // Prints the line of a name above dumps, on a page or not: JSON has it in each line.
-    pub fn push_name<W: Write>(
-        &self,
-        name: &str,
-        printer: &mut Printer<W>,
-    ) -> Result<(), StreamFault>
-        ensures { OnOk result (Grows (W.contents printer.old.out) (W.contents printer.new.out)) }
-    {
-        match self.output {
-            Output::Lines | Output::Accounts => self.push_name_line(name, printer),
-            Output::Json => Ok(()),
-            Output::Page => self.push_name_on_page(name, printer),
+    // Writes what stands before all documents, if it is not there yet: the head of a page.
+    pub fn begin<W: Write>(&self, is_begun: &mut bool, out: &mut W) -> Result<(), StreamFault> {
+        if !*is_begun && matches!(self.output, Output::Page) {
+            let mut head = Vec::new(self.alloc);
+            push_head(&mut head)?;
+            write_part(out, &head)?;
         }
-    }
-
-    fn push_name_line<W: Write>(
-        &self,
-        name: &str,
-        printer: &mut Printer<W>,
-    ) -> Result<(), StreamFault>
-        ensures { OnOk result (Grows (W.contents printer.old.out) (W.contents printer.new.out)) }
-    {
-        printer.look = self.look();
-        self.push_title(name, printer)?;
-        Ok(())
-    }
-
-    fn push_name_on_page<W: Write>(
-        &self,
-        name: &str,
-        printer: &mut Printer<W>,
-    ) -> Result<(), StreamFault>
-        ensures { OnOk result (Grows (W.contents printer.old.out) (W.contents printer.new.out)) }
-    {
-        printer.look = Look::Page;
-        printer.begin_section()?;
-        self.push_title(name, printer)?;
-        printer.end_section(&[])?;
-        Ok(())
-    }
-
-    fn push_title<W: Write>(&self, name: &str, printer: &mut Printer<W>) -> Result<(), StreamFault>
-        ensures { OnOk result (Grows (W.contents printer.old.out) (W.contents printer.new.out)) }
-    {
-        printer.push_title(name.as_bytes())
-    }
-
-    // Writes what stands before all texts, if it is not there yet.
-    pub fn begin_once<W: Write>(&self, is_begun: &mut bool, out: &mut W) -> Result<(), StreamFault>
-        ensures { OnOk result (IsWritten (IsFrame (is_page self.now.output))
-            (W.contents out.old) (W.contents out.new)) }
-    {
-        if *is_begun {
-            return Ok(());
-        }
-        self.begin(out)?;
         *is_begun = true;
         Ok(())
     }
 
-    // Writes what stands before all texts.
-    fn begin<W: Write>(&self, out: &mut W) -> Result<(), StreamFault>
-        ensures { OnOk result (IsWritten (IsFrame (is_page self.now.output))
-            (W.contents out.old) (W.contents out.new)) }
+    // Writes what stands behind all documents, where they are begun: the foot of a page.
+    pub fn end<W: Write>(&self, is_begun: bool, out: &mut W) -> Result<(), StreamFault>
+        ensures { OnOk result (is_begun ≡ false → W.contents out.new ≡ W.contents out.old) }
     {
-        match self.output {
-            Output::Page => write_head(self.alloc, out),
-            Output::Lines | Output::Json | Output::Accounts => Ok(()),
-        }
-    }
-
-    // Writes what stands behind all texts, if what stands before them is there.
-    pub fn end_begun<W: Write>(&self, is_begun: bool, out: &mut W) -> Result<(), StreamFault>
-        ensures { OnOk result (IsWritten (IsFrame (is_page self.now.output))
-            (W.contents out.old) (W.contents out.new)) }
-    {
-        if is_begun {
-            self.end(out)?;
+        if is_begun && matches!(self.output, Output::Page) {
+            let mut foot = Vec::new(self.alloc);
+            push_foot(&mut foot)?;
+            write_part(out, &foot)?;
         }
         Ok(())
     }
-
-    // Writes what stands behind all texts.
-    fn end<W: Write>(&self, out: &mut W) -> Result<(), StreamFault>
-        ensures { OnOk result (IsWritten (IsFrame (is_page self.now.output))
-            (W.contents out.old) (W.contents out.new)) }
-    {
-        match self.output {
-            Output::Page => write_foot(self.alloc, out),
-            Output::Lines | Output::Json | Output::Accounts => Ok(()),
-        }
-    }
 }
 
-fn write_head<W: Write>(alloc: Global, out: &mut W) -> Result<(), StreamFault>
-    ensures { OnOk result (Grows (W.contents out.old) (W.contents out.new)) }
-{
-    let mut head = Vec::new(alloc);
-    push_head(&mut head)?;
-    write_part(out, &head)?;
-    Ok(())
-}
-
-fn write_foot<W: Write>(alloc: Global, out: &mut W) -> Result<(), StreamFault>
-    ensures { OnOk result (Grows (W.contents out.old) (W.contents out.new)) }
-{
-    let mut foot = Vec::new(alloc);
-    push_foot(&mut foot)?;
-    write_part(out, &foot)?;
-    Ok(())
-}
-
-fn octets_or_empty(document: &Document) -> &[u8] {
-    match &document.octets {
-        Ok(octets) => octets,
-        Err(_) => &[],
-    }
-}
-
-pub fn both_verdicts(a: Verdict, b: Verdict) -> Verdict {
-    match a {
-        Verdict::AllRead => b,
-        Verdict::Refused => Verdict::Refused,
+// The verdict on octets: all were read, if nothing is wrong with them.
+fn verdict_of(is_right: bool) -> Verdict {
+    if is_right {
+        Verdict::AllRead
+    } else {
+        Verdict::Refused
     }
 }

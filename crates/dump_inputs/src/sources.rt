@@ -1,15 +1,13 @@
 // A run over inputs: each is read to its end before anything of it is written.
-ghost use Rattle.std.specs.Prelude.{◌≡◌, IfOk, IfErr, IfSome, IsErr, IsSome, map};
+ghost use Rattle.std.specs.Prelude.{◌≡◌, IfOk, IfErr, IfSome, IsErr, IsSome, map, true};
 ghost use Rattle.std.specs.Io.KnownBytes.{IsAtEnd};
-ghost use Rattle.der_io.specs.Output.{IsWritten};
 ghost use Rattle.dump_inputs.specs.Growing.{Grows};
-ghost use Rattle.dump_inputs.specs.Inputs.{AreReadToEnds, IsFramed, IsInputText, IsReadToEnd, IsTaskText, is_page};
+ghost use Rattle.dump_inputs.specs.Inputs.{AreReadToEnds, IsDone, IsInputText, IsReadToEnd, is_extract};
 ghost use Rattle.dump_inputs.specs.Outcomes.{greatest_status};
 ghost use Rattle.dump_inputs.specs.Texts.{AreTexts};
 ghost use Rattle.der_io.specs.declared.StreamFault.TheVariants.{Memory as memory_fault};
 
-use crate::appended::Appended;
-use crate::before::Before;
+use crate::appended::{Appended, Before};
 use crate::outcome::{Outcome, greatest};
 use crate::show::Show;
 use der_io::{StreamFault, flush, read_all};
@@ -47,9 +45,9 @@ pub fn run<R: Read + Drop, W: Write>(
     sources: &mut [Source<'_, R>],
     w: W,
 ) -> (Result<Vec<Outcome>, StreamFault>, W)
-    ensures answered { IfOk result.0 (λ outcomes. IsWritten (IsFramed (is_page options.now.output)
+    ensures answered { IfOk result.0 (λ outcomes. IsDone options.now.task
         (AreTexts (IsInputText options.now.task)
-        (map (λ source. R.remaining source.reader) sources.old) outcomes.items))
+        (map (λ source. R.remaining source.reader) sources.old) outcomes.items)
         (W.contents w) (W.contents result.1)) }
     ensures read { IfOk result.0 (λ outcomes. AreReadToEnds outcomes.items
         (map (λ source. R.remaining source.reader) sources.new)) }
@@ -68,9 +66,9 @@ fn run_on<B: Before, R: Read + Drop, W: Write>(
     w: W,
 ) -> (Result<Vec<Outcome>, StreamFault>, W)
     requires { W.contents w ≡ B.before }
-    ensures answered { IfOk result.0 (λ outcomes. IsWritten (IsFramed (is_page options.now.output)
+    ensures answered { IfOk result.0 (λ outcomes. IsDone options.now.task
         (AreTexts (IsInputText options.now.task)
-        (map (λ source. R.remaining source.reader) sources.old) outcomes.items))
+        (map (λ source. R.remaining source.reader) sources.old) outcomes.items)
         (W.contents w) (W.contents result.1)) }
     ensures read { IfOk result.0 (λ outcomes. AreReadToEnds outcomes.items
         (map (λ source. R.remaining source.reader) sources.new)) }
@@ -84,74 +82,70 @@ fn run_on<B: Before, R: Read + Drop, W: Write>(
         since: PhantomData,
     };
     let mut printer = Printer::new(alloc, Look::Plain, out);
-    let outcomes = write_all_of(&show, sources, &mut printer);
+    let outcomes = answer_all(&show, options.task, sources, &mut printer);
     let Appended { writer, since: _ } = printer.into_writer();
     (outcomes, writer)
 }
 
-// Writes what is wanted of all inputs, with what stands before and behind it. Of inputs none of which can be read
-// nothing is written.
-fn write_all_of<R: Read + Drop, W: Write>(
+// Writes what is wanted of each input, one after another. Of inputs none of which can be read nothing is written.
+fn answer_all<R: Read + Drop, W: Write>(
     show: &Show,
+    task: Task,
     sources: &mut [Source<'_, R>],
     printer: &mut Printer<W>,
 ) -> Result<Vec<Outcome>, StreamFault>
-    ensures written { IfOk result (λ outcomes. IsWritten (IsFramed (is_page show.now.output)
-        (AreTexts (IsInputText show.now.task)
-        (map (λ source. R.remaining source.reader) sources.old) outcomes.items))
-        (W.contents printer.old.out) (W.contents printer.new.out)) }
-    ensures read { IfOk result (λ outcomes. AreReadToEnds outcomes.items
-        (map (λ source. R.remaining source.reader) sources.new)) }
-{
-    let mut is_begun = false;
-    let outcomes = push_sources(show, sources, &mut is_begun, printer)?;
-    show.end_begun(is_begun, &mut printer.out)?;
-    flush(&mut printer.out)?;
-    Ok(outcomes)
-}
-
-// Writes what is wanted of each input, one after another, behind what stands before all texts.
-fn push_sources<R: Read + Drop, W: Write>(
-    show: &Show,
-    sources: &mut [Source<'_, R>],
-    is_begun: &mut bool,
-    printer: &mut Printer<W>,
-) -> Result<Vec<Outcome>, StreamFault>
-    ensures written { IfOk result (λ outcomes. IsWritten (IsFramed (is_page show.now.output)
-        (AreTexts (IsInputText show.now.task)
-        (map (λ source. R.remaining source.reader) sources.old) outcomes.items))
+    ensures answered { IfOk result (λ outcomes. IsDone task
+        (AreTexts (IsInputText task) (map (λ source. R.remaining source.reader) sources.old) outcomes.items)
         (W.contents printer.old.out) (W.contents printer.new.out)) }
     ensures read { IfOk result (λ outcomes. AreReadToEnds outcomes.items
         (map (λ source. R.remaining source.reader) sources.new)) }
 {
     let mut outcomes = Vec::new(show.alloc);
+    let mut is_begun = false;
     for source in sources.iter_mut() {
-        let outcome = push_source(show, source, is_begun, printer)?;
+        let outcome = answer(show, task, source, &mut is_begun, printer)?;
         if outcomes.push(outcome).is_err() {
             return Err(StreamFault::Memory);
         }
     }
+    show.end(is_begun, &mut printer.out)?;
+    flush(&mut printer.out)?;
     Ok(outcomes)
 }
 
-// Writes what is wanted of an input, where it can be read, behind what stands before all texts.
-fn push_source<R: Read + Drop, W: Write>(
+// Writes what is wanted of an input, where it can be read; documents, behind what stands before them all.
+fn answer<R: Read + Drop, W: Write>(
     show: &Show,
+    task: Task,
     source: &mut Source<'_, R>,
     is_begun: &mut bool,
     printer: &mut Printer<W>,
 ) -> Result<Outcome, StreamFault>
-    ensures written { IfOk result (λ outcome. IsWritten (IsFramed (is_page show.now.output)
-        (IsInputText show.now.task (R.remaining source.old.reader) outcome))
+    ensures answered { IfOk result (λ outcome. IsDone task
+        (IsInputText task (R.remaining source.old.reader) outcome)
         (W.contents printer.old.out) (W.contents printer.new.out)) }
+    ensures begun { is_extract task ≡ true → is_begun.new ≡ is_begun.old }
     ensures read { IfOk result (λ outcome. IsReadToEnd outcome (R.remaining source.new.reader)) }
 {
     let Some(input) = read_source(show.alloc, &mut source.reader)? else {
         return Ok(Outcome::Unread);
     };
-    show.begin_once(is_begun, &mut printer.out)?;
-    let outcome = push_input(show, source.name, input, printer)?;
-    Ok(outcome)
+    match task {
+        Task::Dump => {
+            show.begin(is_begun, &mut printer.out)?;
+            let verdict = show.push_input(source.name, input, printer)?;
+            Ok(Outcome::Written(verdict))
+        }
+        Task::At(offset) => {
+            show.begin(is_begun, &mut printer.out)?;
+            let outcome = show.push_at(source.name, input, offset, printer)?;
+            Ok(outcome)
+        }
+        Task::Extract(part, offset) => {
+            let outcome = show.push_part(part, input, offset, &mut printer.out)?;
+            Ok(outcome)
+        }
+    }
 }
 
 // All that the reader has left, or `None` where a read fails. It is read to its end. The only error is `Memory`.
@@ -165,25 +159,6 @@ fn read_source<R: Read>(alloc: Global, r: &mut R) -> Result<Option<Vec<u8>>, Str
         Ok(input) => Ok(Some(input)),
         Err(StreamFault::Memory) => Err(StreamFault::Memory),
         Err(_) => Ok(None),
-    }
-}
-
-// Writes what is wanted of octets, which an input of this name has.
-fn push_input<W: Write>(
-    show: &Show,
-    name: &str,
-    input: Vec<u8>,
-    printer: &mut Printer<W>,
-) -> Result<Outcome, StreamFault>
-    ensures { IfOk result (λ outcome. IsWritten (IsTaskText show.now.task input.items outcome)
-        (W.contents printer.old.out) (W.contents printer.new.out)) }
-{
-    match show.task {
-        Task::Dump => show.push_named(name, input, printer),
-        Task::At(offset) => show.push_at(name, input, offset, printer),
-        Task::Extract(offset) => show.push_extracted(input, offset, &mut printer.out),
-        Task::Contents(offset) => show.push_contents(input, offset, &mut printer.out),
-        Task::Value(offset) => show.push_value(input, offset, &mut printer.out),
     }
 }
 

@@ -26,6 +26,13 @@ const NOT_WITH_OCTETS: [&str; 9] = [
     "at", "strict", "full", "flat", "depth", "oids", "color", "plain", "as",
 ];
 
+// The arguments that have a part of a block written.
+const PARTS: [(&str, Part); 3] = [
+    ("extract", Part::Whole),
+    ("contents", Part::Contents),
+    ("value", Part::Value),
+];
+
 /// What the arguments of a command line ask for.
 #[derive(Debug, Drop, PartialEq)]
 pub struct Options<'a> {
@@ -82,12 +89,19 @@ pub enum Task {
     Dump,
     /// The block at the offset is dumped, alone.
     At(usize),
-    /// The bytes of the block at the offset are written.
-    Extract(usize),
-    /// The contents octets of the block at the offset are written.
-    Contents(usize),
-    /// The octets of the value of the string at the offset are written.
-    Value(usize),
+    /// This part of the block at the offset is written.
+    Extract(Part, usize),
+}
+
+/// Which bytes of a block are written.
+#[derive(Clone, Copy, Debug, PartialEq)]
+pub enum Part {
+    /// All of them.
+    Whole,
+    /// Its contents octets.
+    Contents,
+    /// The octets of the value of the string that it is.
+    Value,
 }
 
 /// The options that the arguments ask for. The first argument is the program's name.
@@ -179,16 +193,12 @@ fn task_of<'a>(matches: &ArgMatches<'a>) -> Result<Task, OptionsFault<'a>> {
     if let Some(offset) = number_of(matches, "at")? {
         return Ok(Task::At(offset));
     }
-    if let Some(offset) = number_of(matches, "extract")? {
-        return Ok(Task::Extract(offset));
+    for (name, part) in &PARTS {
+        if let Some(offset) = number_of(matches, name)? {
+            return Ok(Task::Extract(*part, offset));
+        }
     }
-    if let Some(offset) = number_of(matches, "contents")? {
-        return Ok(Task::Contents(offset));
-    }
-    match number_of(matches, "value")? {
-        Some(offset) => Ok(Task::Value(offset)),
-        None => Ok(Task::Dump),
-    }
+    Ok(Task::Dump)
 }
 
 // The number that the value of an argument is, where it has one: in hex digits behind `0x`, or in decimal digits.

@@ -2,7 +2,7 @@
 use Rattle.std.proofs.Common.{◌≡◌, ◌++◌, ◌≤◌, ◌||◌, true, length}
 use Rattle.der_io.specs.Lines.{lines_of}
 use Rattle.der_forms.specs.Decoded.{symbols_read}
-use Rattle.der_forms.specs.Objects.{ending_in, is_encrypted, objects_in, symbols_in}
+use Rattle.der_forms.specs.Objects.{bad_end_in, is_encrypted, objects_in, symbols_in}
 use Rattle.der_forms.proofs.objects.read_body.Given as goal
 
 abbrev pub invariant-loop-alloc : goal.invariant-loop-alloc
@@ -11,7 +11,7 @@ invariant-loop-alloc l = record {
       ≡ symbols_read l.decoder ++ symbols_in (lines_of l.rest);
   encrypted : is_encrypted (lines_of l.fn.lines.rest.now)
       ≡ (l.is_encrypted || is_encrypted (lines_of l.rest));
-  ending : ending_in l.label (lines_of l.fn.lines.rest.now) ≡ ending_in l.label (lines_of l.rest);
+  ending : bad_end_in l.label (lines_of l.fn.lines.rest.now) ≡ bad_end_in l.label (lines_of l.rest);
   objects : objects_in true (lines_of l.fn.lines.rest.now) ≡ objects_in true (lines_of l.rest);
   shorter : length l.rest ≤ length l.fn.lines.rest.now;
 }
