@@ -1,38 +1,20 @@
-// Types of keys: SubjectPublicKeyInfo of RFC 5280, and OneAsymmetricKey of RFC 5958, which PKCS #8 is.
+// Types of keys: AlgorithmIdentifier and SubjectPublicKeyInfo of RFC 5280, and OneAsymmetricKey of RFC 5958, which
+// PKCS #8 is.
 use asn1_types::{
-    Apart, BitString, End, Field, ImplicitOctets, LastFields, Named, Null, OctetString, Optional,
-    Or, Sequence, Unlike,
+    Any, BitString, End, Field, ImplicitOctets, Last, LastFields, Named, OctetString, Optional,
+    Sequence,
 };
 use simple_asn1::{ASN1Block, ASN1EncodeErr, BigInt, OID};
 use std::alloc::Global;
-
-/// The parameters of an algorithm: NULL, as of RSA, or the OBJECT IDENTIFIER of a curve. Others are not read.
-pub type Parameters = Or<Null, OID, NullOrOid>;
-
-/// Shows that a NULL is no OBJECT IDENTIFIER.
-#[derive(Drop)]
-pub struct NullOrOid {}
-
-impl Unlike<Null, OID> for NullOrOid {
-    ghost unlike = { λ x y e. cc };
-}
 
 /// AlgorithmIdentifier ::= SEQUENCE { algorithm OBJECT IDENTIFIER, parameters ANY OPTIONAL } (RFC 5280, 4.1.1.2)
 #[derive(Drop)]
 pub struct AlgorithmIdentifier {
     pub algorithm: OID,
-    pub parameters: Option<Parameters>,
+    pub parameters: Option<Any>,
 }
 
-type AlgorithmParts = Sequence<Field<OID, Optional<Parameters, End<0>, NothingAfter>>>;
-
-/// Shows that nothing stands behind the parameters.
-#[derive(Drop)]
-pub struct NothingAfter {}
-
-impl Apart<Parameters, End<0>> for NothingAfter {
-    ghost apart = { λ x y rest. λ e. cc };
-}
+type AlgorithmParts = Sequence<Field<OID, Optional<Any, End<0>, Last>>>;
 
 impl Named for AlgorithmIdentifier {
     ghost use Rattle.std.proofs.Common.{ap};
@@ -133,20 +115,9 @@ pub struct OneAsymmetricKey {
 type PrivateKeyParts = Sequence<
     Field<
         BigInt,
-        Field<
-            AlgorithmIdentifier,
-            Field<OctetString, Optional<ImplicitOctets<1>, End<0>, NothingAfterPublicKey>>,
-        >,
+        Field<AlgorithmIdentifier, Field<OctetString, Optional<ImplicitOctets<1>, End<0>, Last>>>,
     >,
 >;
-
-/// Shows that nothing stands behind the public key.
-#[derive(Drop)]
-pub struct NothingAfterPublicKey {}
-
-impl Apart<ImplicitOctets<1>, End<0>> for NothingAfterPublicKey {
-    ghost apart = { λ x y rest. λ e. cc };
-}
 
 impl Named for OneAsymmetricKey {
     ghost use Rattle.std.proofs.Common.{ap};

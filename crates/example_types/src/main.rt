@@ -1,36 +1,46 @@
-//! Reads a public key, a private key, a validity or a name, says what it is, and writes it: an example of types that
-//! are made of parts. `rt run < KEY.der`
+//! Reads a value of the type that is named, of RFC 5280, 5958 or 8017, says what it is, and writes it: an example of
+//! types that are made of parts. `rt run -- Name < FILE.der`
 #![tactic(auto)]
 
+mod extensions;
 mod keys;
 mod names;
+mod rsa;
+mod show;
 
+use crate::extensions::{CrlReason, Extension};
 use crate::keys::{AlgorithmIdentifier, OneAsymmetricKey, SubjectPublicKeyInfo};
-use crate::names::{AttributeValue, Name, Time, Validity};
-use asn1_types::{Asn1Type, Asn1Write, Or, Whole, WholeErr};
+use crate::names::{Name, Validity};
+use crate::rsa::RsaPrivateKey;
+use crate::show::{
+    show_algorithm, show_extension, show_name, show_private_key, show_public_key, show_reason,
+    show_rsa_key, show_validity,
+};
+use asn1_types::{Asn1Type, Asn1Write, Whole, WholeErr};
 use simple_asn1::{der_decode, der_encode};
-use std::alloc::Global;
-use std::io;
+use std::alloc::{AllocError, Global};
 use std::io::{Read, Write};
 use std::process::ExitCode;
+use std::{env, io};
 use thiserror::Error;
 
 // Why nothing was printed.
 #[derive(Debug, Drop, Error)]
-enum ExampleErr {
+pub enum ExampleErr {
     #[error("{0}")]
     Stream(#[from] io::Error),
     #[error("{0}")]
     Value(#[from] WholeErr),
+    #[error("out of memory")]
+    Memory(#[from] AllocError),
+    #[error("no type has this name")]
+    Name,
 }
 
-// The value of the type that the octets are; `None` where they are another document.
-fn value_of<T: Asn1Type + Drop>(alloc: Global, octets: &[u8]) -> Result<Option<T>, WholeErr> {
-    match der_decode::<Whole<T>>(alloc, octets) {
-        Ok(whole) => Ok(Some(whole.value)),
-        Err(WholeErr::Shape(_)) => Ok(None),
-        Err(e) => Err(e),
-    }
+// The value of the type that the octets are.
+fn read<T: Asn1Type + Drop>(alloc: Global, octets: &[u8]) -> Result<T, WholeErr> {
+    let whole: Whole<T> = der_decode(alloc, octets)?;
+    Ok(whole.value)
 }
 
 // Writes the value, and says whether its octets are these.
@@ -46,67 +56,74 @@ fn print_written<T: Asn1Write + Drop>(
     Ok(())
 }
 
-fn print_algorithm(algorithm: &AlgorithmIdentifier, out: &mut impl Write) -> io::Result<()> {
-    match &algorithm.parameters {
-        None => writeln!(out, "algorithm {}", algorithm.algorithm),
-        Some(Or::First(_)) => writeln!(out, "algorithm {}, NULL", algorithm.algorithm),
-        Some(Or::Second(curve, _)) => writeln!(out, "algorithm {}, {curve}", algorithm.algorithm),
-    }
-}
-
-fn print_time(label: &str, time: &Time, out: &mut impl Write) -> io::Result<()> {
-    match time {
-        Or::First(time) => writeln!(out, "{label} {}", time.moment),
-        Or::Second(time, _) => writeln!(out, "{label} {}", time.moment),
-    }
-}
-
-// Prints each attribute on a line.
-fn print_name(name: &Name, out: &mut impl Write) -> io::Result<()> {
-    for relative in &name.values {
-        for attribute in &relative.values {
-            let fields = &attribute.fields;
-            writeln!(out, "{} {}", fields.first, text_of(&fields.rest.first))?;
+// Says what the octets are, as a value of the type of this name.
+fn print(alloc: Global, name: &str, octets: &[u8], out: &mut impl Write) -> Result<(), ExampleErr> {
+    match name {
+        "AlgorithmIdentifier" => {
+            let algorithm: AlgorithmIdentifier = read(alloc, octets)?;
+            show_algorithm(&algorithm, out)?;
+            print_written(alloc, algorithm, octets, out)
         }
+        "SubjectPublicKeyInfo" => {
+            let key: SubjectPublicKeyInfo = read(alloc, octets)?;
+            show_public_key(&key, out)?;
+            print_written(alloc, key, octets, out)
+        }
+        "OneAsymmetricKey" => {
+            let key: OneAsymmetricKey = read(alloc, octets)?;
+            show_private_key(&key, out)?;
+            print_written(alloc, key, octets, out)
+        }
+        "RSAPrivateKey" => {
+            let key: RsaPrivateKey = read(alloc, octets)?;
+            show_rsa_key(alloc, &key, out)?;
+            print_written(alloc, key, octets, out)
+        }
+        _ => print_of_certificate(alloc, name, octets, out),
     }
-    Ok(())
 }
 
-fn text_of(value: &AttributeValue) -> &str {
-    match value {
-        Or::First(text) => &text.characters,
-        Or::Second(Or::First(text), _) => &text.characters,
-        Or::Second(Or::Second(text, _), _) => &text.characters,
+// The same for certificates and what is in them.
+fn print_of_certificate(
+    alloc: Global,
+    name: &str,
+    octets: &[u8],
+    out: &mut impl Write,
+) -> Result<(), ExampleErr> {
+    match name {
+        "CRLReason" => {
+            let reason: CrlReason = read(alloc, octets)?;
+            show_reason(&reason, out)?;
+            print_written(alloc, reason, octets, out)
+        }
+        "Extension" => {
+            let extension: Extension = read(alloc, octets)?;
+            show_extension(&extension, out)?;
+            print_written(alloc, extension, octets, out)
+        }
+        "Name" => {
+            let name: Name = read(alloc, octets)?;
+            show_name(&name, out)?;
+            print_written(alloc, name, octets, out)
+        }
+        "Validity" => {
+            let validity: Validity = read(alloc, octets)?;
+            show_validity(&validity, out)?;
+            print_written(alloc, validity, octets, out)
+        }
+        _ => Err(ExampleErr::Name),
     }
-}
-
-// Says what the octets are.
-fn print(alloc: Global, octets: &[u8], out: &mut impl Write) -> Result<(), ExampleErr> {
-    if let Some(key) = value_of::<SubjectPublicKeyInfo>(alloc, octets)? {
-        print_algorithm(&key.algorithm, out)?;
-        writeln!(out, "public key of {} bits", key.subject_public_key.bits)?;
-        return print_written(alloc, key, octets, out);
-    }
-    if let Some(key) = value_of::<OneAsymmetricKey>(alloc, octets)? {
-        print_algorithm(&key.private_key_algorithm, out)?;
-        writeln!(out, "private key of {} bytes", key.private_key.octets.len())?;
-        return print_written(alloc, key, octets, out);
-    }
-    if let Some(validity) = value_of::<Validity>(alloc, octets)? {
-        print_time("from", &validity.not_before, out)?;
-        print_time("to", &validity.not_after, out)?;
-        return print_written(alloc, validity, octets, out);
-    }
-    let name: Whole<Name> = der_decode(alloc, octets)?;
-    print_name(&name.value, out)?;
-    print_written(alloc, name.value, octets, out)
 }
 
 fn main(rt: HostRuntime) -> io::Result<ExitCode> {
     let alloc = rt.alloc();
+    let Some(name) = env::args(&rt)?.nth(1) else {
+        eprintln!(rt; "usage: example_types TYPE < FILE.der")?;
+        return Ok(ExitCode::from(2));
+    };
     let mut octets = Vec::new(alloc);
     rt.stdin().read_to_end(&mut octets)?;
-    match print(alloc, &octets, &mut rt.stdout()) {
+    match print(alloc, &name, &octets, &mut rt.stdout()) {
         Ok(()) => Ok(ExitCode::SUCCESS),
         Err(e) => {
             eprintln!(rt; "error: {e}")?;

@@ -75,8 +75,43 @@ impl Unlike<Utf8String, Or<PrintableString, Ia5String, PrintableOrIa5>> for Stri
     ghost unlike = { λ x. elim [ First y ↦ λ e. cc | Second y u ↦ λ e. cc ] };
 }
 
-/// SEQUENCE { type OBJECT IDENTIFIER, value ANY } (RFC 5280, 4.1.2.4)
-pub type AttributeTypeAndValue = Sequence<Field<OID, Field<AttributeValue, End<0>>>>;
+/// AttributeTypeAndValue ::= SEQUENCE { type OBJECT IDENTIFIER, value ANY } (RFC 5280, 4.1.2.4). Of the values only the
+/// strings above are read.
+#[derive(Drop)]
+pub struct AttributeTypeAndValue {
+    pub attribute_type: OID,
+    pub value: AttributeValue,
+}
+
+type AttributeParts = Sequence<Field<OID, Field<AttributeValue, End<0>>>>;
+
+impl Named for AttributeTypeAndValue {
+    ghost use Rattle.std.proofs.Common.{ap};
+
+    type Parts = AttributeParts;
+
+    ghost parts = { λ x. record {
+      fields = record {
+        first = x.attribute_type;
+        rest = record { first = x.value; rest = record {} };
+      };
+    } };
+
+    fn from_parts(all: AttributeParts) -> AttributeTypeAndValue {
+        let Sequence { fields } = all;
+        AttributeTypeAndValue {
+            attribute_type: fields.first,
+            value: fields.rest.first,
+        }
+    }
+
+    fn write_named(&self, alloc: Global) -> Result<ASN1Block, ASN1EncodeErr> {
+        let fields = LastFields::none(alloc).preceded_by(alloc, &self.value)?;
+        Ok(fields.preceded_by(alloc, &self.attribute_type)?.sequence())
+    }
+
+    ghost same = { λ x y e. ap (λ p. record { attribute_type = p.fields.first; value = p.fields.rest.first }) e };
+}
 
 /// Name, whose only alternative is SEQUENCE OF SET OF AttributeTypeAndValue (RFC 5280, 4.1.2.4)
 pub type Name = SequenceOf<SetOf<AttributeTypeAndValue>>;
