@@ -28,6 +28,9 @@ DATA = TOP / "checks" / "data" / "arms"
 CRATES = ["dump_values", "dump_names", "dump_rows", "dump_walk", "dump_lines", "dump_json", "der_forms", "der_digits",
           "dump_options", "dump_inputs", "dump_shapes", "dump_text"]
 
+# so many rows of a body are run one after another, and then the others side by side
+FIRST = 30
+
 ARM = re.compile(r"^( +)(?!let |if |while |for |//)(\S.*?) => (.*)$")
 TEXT = re.compile(r'(?<![b\\\'])"(?:[^"\\{}]|\\.)+"')
 FUNCTION = re.compile(r"^ *(?:pub(?:\(\w+\))? )?(?:const )?fn (\w+)")
@@ -119,9 +122,15 @@ def judge(rows, room, bodies, program, library):
         if body not in seen and is_seen(row, program, environment):
             seen.add(body)
 
-    # the rows of a body side by side too: those of a body that none sees are all run
+    def look_first(body):
+        for row in found[body.number][:FIRST]:
+            look(body, row)
+
     with concurrent.futures.ThreadPoolExecutor(os.cpu_count()) as pool:
-        list(pool.map(lambda it: look(*it), ((body, row) for body in bodies for row in found[body.number])))
+        list(pool.map(look_first, bodies))
+        # of a body that none sees all rows are run, these side by side
+        left = [(body, row) for body in bodies if body not in seen for row in found[body.number][FIRST:]]
+        list(pool.map(lambda it: look(*it), left))
     known = allowed(DATA / "unseen")
     unseen = [body for body in bodies if body not in seen]
     unexpected = [body for body in unseen if name_of(body) not in known]
