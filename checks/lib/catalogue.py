@@ -75,7 +75,7 @@ LIBRARIES = Check(
 SECONDS = [
     Check("edits", "edits", "the prover rejects each wrong body in crates/NAME/edits; --apply: each can be made",
           words=("--apply",)),
-    Check("words", "lib/words.py", "the README has 800 words, pages for users no private word, lines 120 characters"),
+    Check("words", "lib/words.py", "the README has 800 words, pages for users no private word, lines 120 octets"),
     Check("unused", "lib/unused.py", "something uses each import, lemma and definition"),
     Check("links", "lib/links.py",
           "links resolve, named paths exist, quoted code stands in its file, one version number"),

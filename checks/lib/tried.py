@@ -51,9 +51,9 @@ def below():
 
 @functools.lru_cache(maxsize=None)
 def sum_of_text(crate):
-    """A sum of what the proof of a crate reads in this repository."""
+    """A sum of the words that the proof of a crate reads in this repository: lines may be broken elsewhere."""
     files = sorted(it for part in PARTS for it in (CRATES / crate / part).rglob("*") if it.is_file())
-    told = [(str(it.relative_to(CRATES)), hashlib.sha256(it.read_bytes()).hexdigest()) for it in files]
+    told = [(str(it.relative_to(CRATES)), hashlib.sha256(b" ".join(it.read_bytes().split())).hexdigest()) for it in files]
     told += [(it, sum_of_text(it)) for it in below().get(crate, [])]
     return hashlib.sha256(repr(told).encode()).hexdigest()
 

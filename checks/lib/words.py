@@ -1,6 +1,6 @@
 """Counts the words of the README, as `wc -w` does, and fails if it has more than 800. Warns of long sentences. Fails
-if a line in the sources, definitions or proofs of a crate has more than 120 characters, or if an import in definitions
-or proofs does not stand on one line. Fails if a page for users has a private word, one that only we know the meaning
+if a line in the sources or definitions of a crate has more than 120 octets, one in its proofs more than 120 characters,
+or if an import in definitions or proofs does not stand on one line. Fails if a page for users has a private word, one that only we know the meaning
 of, and warns of private words on other pages and in names of the sources.
 
     checks/run words              the README's words, and how many sentences of each page have more than 35 words
@@ -17,7 +17,7 @@ import sys
 TOP = pathlib.Path(__file__).resolve().parent.parent.parent
 README_WORDS = 800
 SENTENCE_WORDS = 35
-LINE_CHARACTERS = 120
+LINE = 120
 # words that say less than a plain one does, and what to write in their place
 PRIVATE_WORDS = {
     "told": "shown, known, distinguished",
@@ -52,8 +52,9 @@ def badly_broken(crate):
     for path in sorted(it for it in paths if it.suffix in (".rt", ".antt", ".rattle")):
         for number, line in enumerate(path.read_text().splitlines(), 1):
             is_import = re.match(r"\s*(pub |ghost )*use ", line)
-            if len(line) > LINE_CHARACTERS and not is_import:
-                yield f"{path.relative_to(TOP)}:{number}: more than {LINE_CHARACTERS} characters"
+            size = len(line) if "proofs" in path.parts else len(line.encode())
+            if size > LINE and not is_import:
+                yield f"{path.relative_to(TOP)}:{number}: {size}, where a line has at most {LINE}"
             if path.suffix == ".antt" and is_import and line.endswith("{"):
                 yield f"{path.relative_to(TOP)}:{number}: an import of several lines"
 

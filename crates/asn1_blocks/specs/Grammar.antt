@@ -89,7 +89,8 @@ pub data BlocksFaultAt : List ℕ → DecodeFault → ℕ → Type 0 where
 
 -- the first fault of octets that are no document, and its offset; 0 for no octets
 abbrev pub FirstFaultAt : List ℕ → DecodeFault → ℕ → Type 0
-FirstFaultAt octets e offset = ((octets ≡ []) × (e ≡ empty_buffer) × (offset ≡ 0)) ⊎ BlocksFaultAt octets e offset
+FirstFaultAt octets e offset =
+    ((octets ≡ []) × (e ≡ empty_buffer) × (offset ≡ 0)) ⊎ BlocksFaultAt octets e offset
 
 -- the first fault of octets that are no document, at whatever offset
 abbrev pub FirstFault : List ℕ → DecodeFault → Type 0

@@ -31,8 +31,10 @@ pub fn is_der_alone(octets: &[u8], _offset: usize, _limit: usize, header: &Place
 
 // Whether the header is the shortest of its tag and its length.
 fn is_shortest(header: &PlacedHeader) -> bool
-    ensures { (identifier len : List ℕ) → HasParts header.now identifier len → IsTrue result ↔ HasShortest identifier
-        len header.now.class header.now.constructed header.now.tag (header.now.end - header.now.start) }
+    ensures { (identifier len : List ℕ) → HasParts header.now identifier len
+        → IsTrue result
+        ↔ HasShortest identifier len header.now.class header.now.constructed header.now.tag
+            (header.now.end - header.now.start) }
 {
     header.has_shortest_identifier() && header.has_shortest_length()
 }

@@ -12,10 +12,12 @@ ReadsEach {A} {T} result Is IsRight = (x : T) → Is x → MatchResult result (I
 
 -- octets with a first fault are rejected with it, or memory ran out
 abbrev pub RejectsWith : {A : Type 0} → Result A ASN1DecodeErr → (DecodeFault → Type 0) → Type 0
-RejectsWith result IsFirst = (fault : DecodeFault) → IsFirst fault → IsErrAnd result (OutOfMemoryOr (λ e. e ≡ fault))
+RejectsWith result IsFirst =
+    (fault : DecodeFault) → IsFirst fault → IsErrAnd result (OutOfMemoryOr (λ e. e ≡ fault))
 
 -- whatever the octets are, the result of a call that locates faults is right for that, or memory ran out
-abbrev pub ReadsEachLocated : {A T : Type 0} → Result A LocatedErr → (T → Type 0) → (T → A → Type 0) → Type 0
+abbrev pub ReadsEachLocated :
+    {A T : Type 0} → Result A LocatedErr → (T → Type 0) → (T → A → Type 0) → Type 0
 ReadsEachLocated {A} {T} result Is IsRight =
     (x : T) → Is x → MatchResult result (IsRight x) (λ e. e.error ≡ OutOfMemory)
 

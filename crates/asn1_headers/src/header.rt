@@ -448,8 +448,8 @@ pub fn is_least_identifier(size: usize, class: ASN1Class, constructed: bool, tag
 // that the octet 80 is as short as 00.
 #[inline(always)]
 pub fn is_least_length(size: usize, is_80: bool, n: usize) -> bool
-    ensures { (len : List ℕ) → AreOctets len → IsLength len n → size ≡ length len → is_80 ≡ is_indefinite len
-        → IsTrue result ↔ (len ≡ shortest_length n) }
+    ensures { (len : List ℕ) → AreOctets len → IsLength len n → size ≡ length len
+        → is_80 ≡ is_indefinite len → IsTrue result ↔ (len ≡ shortest_length n) }
 {
     if size == 1 {
         return !is_80;

@@ -59,7 +59,8 @@ pub record IsFront (b : EntryBuilder) (all : List Entry) : Type 0 where
   pub count : length others ≡ b.beyond
 
 -- the entries, of which the builder keeps the first, are those of the blocks that the frames have
-abbrev pub entries_hold : List ℕ → EntryBuilder → List (OpenFrame EntryItems) → List (List (Tree ℕ)) → Type 0
+abbrev pub entries_hold :
+    List ℕ → EntryBuilder → List (OpenFrame EntryItems) → List (List (Tree ℕ)) → Type 0
 entries_hold document b fs trees = (all : List Entry) × IsFront b all × all_hold document all fs trees
 
 -- all entries were found; or their number, for which there is no room

@@ -26,7 +26,9 @@ OrNoMemory IsRefused status offset = IsNoMemory status offset ⊎ IsRefused stat
 -- ran out, and nothing was written
 pub data Answers {A : Type 0} (IsFound : List A → Type 0) (IsRefused : ℕ → ℕ → Type 0) (before after : List A)
     (o : Outcome) : Type 0 where
-  was_found : (found : List A) → IsFound found → ArePut found before after o → Answers IsFound IsRefused before after o
+  was_found :
+      (found : List A) → IsFound found → ArePut found before after o →
+      Answers IsFound IsRefused before after o
   was_refused :
       OrNoMemory IsRefused o.status o.offset → o.count ≡ 0 → after ≡ before →
       Answers IsFound IsRefused before after o

@@ -22,7 +22,8 @@ natural-only n (negsuc k) (pos m) p q = cc
 natural-only n (negsuc k) (negsuc m) p q = cc
 
 -- under an explicit tag
-pub explicit-only : {A : Type 0} {N : ℕ} (d : A → Bool) (only : (x y : A) → d x ≡ true → d y ≡ true → x ≡ y)
+pub explicit-only : {A : Type 0} {N : ℕ} (d : A → Bool)
+    (only : (x y : A) → d x ≡ true → d y ≡ true → x ≡ y)
     (x y : Explicit A N) → d x.value ≡ true → d y.value ≡ true → x ≡ y
 explicit-only {A = A} {N = N} d only x y p q =
     let with_value : A → Explicit A N = λ t. record { value = t } in

@@ -42,7 +42,8 @@ pub field-apart : {A B : Type 0} (f : A → Tree (Unit {0})) (g : B → Tree (Un
 field-apart f g unlike x y ts rest e = unlike x y (sym (first-same (g y) (f x) ts rest e))
 
 -- and where the next one may be missing, from those after it
-pub optional-apart : {A B C : Type 0} (f : A → Tree (Unit {0})) (g : B → Tree (Unit {0})) (h : C → Trees (Unit {0}))
+pub optional-apart : {A B C : Type 0} (f : A → Tree (Unit {0})) (g : B → Tree (Unit {0}))
+    (h : C → Trees (Unit {0}))
     (unlike : (x : A) (y : B) → f x ≢ g y)
     (apart : (x : A) (z : C) (rest : Trees (Unit {0})) → h z ≢ more_trees (f x) rest)
     (x : A) (y : Option B) (z : C) (rest : Trees (Unit {0})) → optional_trees g h y z ≢ more_trees (f x) rest
@@ -50,7 +51,8 @@ optional-apart f g h unlike apart x None z rest e = apart x z rest e
 optional-apart f g h unlike apart x (Some y) z rest e = field-apart f g unlike x y (h z) rest e
 
 -- values of which the same is written are equal, where only one is the default
-written_by-same : {A : Type 0} (d : A → Bool) (only : (x y : A) → d x ≡ true → d y ≡ true → x ≡ y) (x y : A)
+written_by-same : {A : Type 0} (d : A → Bool)
+    (only : (x y : A) → d x ≡ true → d y ≡ true → x ≡ y) (x y : A)
     (b c : Bool) → d x ≡ b → d y ≡ c
     → ◌≡◌ {A = Option A} (if b then None else Some x) (if c then None else Some y) → x ≡ y
 written_by-same d only x y true true p q e = only x y p q
@@ -58,11 +60,13 @@ written_by-same d only x y true false p q e = cc
 written_by-same d only x y false true p q e = cc
 written_by-same d only x y false false p q e = cc
 
-pub unless_default-same : {A : Type 0} (d : A → Bool) (only : (x y : A) → d x ≡ true → d y ≡ true → x ≡ y) (x y : A)
+pub unless_default-same : {A : Type 0} (d : A → Bool)
+    (only : (x y : A) → d x ≡ true → d y ≡ true → x ≡ y) (x y : A)
     → unless_default d x ≡ unless_default d y → x ≡ y
 unless_default-same d only x y e = written_by-same d only x y (d x) (d y) refl refl e
 
-pub defaulted-same : {A B C D : Type 0} (x y : Defaulted A B C D) → (x.first ≡ y.first) × (x.rest ≡ y.rest) → x ≡ y
+pub defaulted-same : {A B C D : Type 0} (x y : Defaulted A B C D)
+    → (x.first ≡ y.first) × (x.rest ≡ y.rest) → x ≡ y
 defaulted-same {A = A} {B = B} {C = C} {D = D} x y e =
     let made : A → B → Defaulted A B C D =
     λ t r. record { first = t; rest = r; apart = x.apart; default = x.default } in
@@ -80,8 +84,9 @@ defaulted-distinct f g fd gd apart d only x y e =
 
 pub four-distinct : {A B C D R : Type 0} (f : A → Tree (Unit {0})) (g : B → Tree (Unit {0}))
     (h : C → Tree (Unit {0})) (k : D → Tree (Unit {0})) (r : R → Trees (Unit {0}))
-    (fd : (x y : A) → f x ≡ f y → x ≡ y) (gd : (x y : B) → g x ≡ g y → x ≡ y) (hd : (x y : C) → h x ≡ h y → x ≡ y)
-    (kd : (x y : D) → k x ≡ k y → x ≡ y) (rd : (x y : R) → r x ≡ r y → x ≡ y) (x y : Fields4 A B C D R)
+    (fd : (x y : A) → f x ≡ f y → x ≡ y) (gd : (x y : B) → g x ≡ g y → x ≡ y)
+    (hd : (x y : C) → h x ≡ h y → x ≡ y) (kd : (x y : D) → k x ≡ k y → x ≡ y)
+    (rd : (x y : R) → r x ≡ r y → x ≡ y) (x y : Fields4 A B C D R)
     → four_trees f g h k r x ≡ four_trees f g h k r y → x ≡ y
 four-distinct {A = A} {B = B} {C = C} {D = D} {R = R} f g h k r fd gd hd kd rd x y e =
     let e1 = rest-same (f x.first) (f y.first) _ _ e in

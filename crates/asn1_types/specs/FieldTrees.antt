@@ -15,6 +15,7 @@ unless_default is_default x = if is_default x then None else Some x
 
 -- of four fields, and of those after them
 abbrev pub four_trees : {A B C D R : Type 0} → (A → Tree (Unit {0})) → (B → Tree (Unit {0}))
-    → (C → Tree (Unit {0})) → (D → Tree (Unit {0})) → (R → Trees (Unit {0})) → Fields4 A B C D R → Trees (Unit {0})
+    → (C → Tree (Unit {0})) → (D → Tree (Unit {0})) → (R → Trees (Unit {0}))
+    → Fields4 A B C D R → Trees (Unit {0})
 four_trees f g h k r x =
     more_trees (f x.first) (more_trees (g x.second) (more_trees (h x.third) (more_trees (k x.fourth) (r x.rest))))

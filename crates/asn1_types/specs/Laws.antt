@@ -29,10 +29,12 @@ text-distinct k x y e = cc
 pub utc_time-distinct : (x y : Moment) → leaf_tree (utc_time x) ≡ leaf_tree (utc_time y) → x ≡ y
 utc_time-distinct x y e = cc
 
-pub generalized_time-distinct : (x y : Moment) → leaf_tree (generalized_time x) ≡ leaf_tree (generalized_time y) → x ≡ y
+pub generalized_time-distinct : (x y : Moment)
+    → leaf_tree (generalized_time x) ≡ leaf_tree (generalized_time y) → x ≡ y
 generalized_time-distinct x y e = cc
 
-pub bit_string-distinct : (x y : ℕ × List ℕ) → leaf_tree (bit_string x.0 x.1) ≡ leaf_tree (bit_string y.0 y.1) → x ≡ y
+pub bit_string-distinct : (x y : ℕ × List ℕ)
+    → leaf_tree (bit_string x.0 x.1) ≡ leaf_tree (bit_string y.0 y.1) → x ≡ y
 bit_string-distinct (m, xs) (n, ys) e =
     let p : m ≡ n = cc in
     let q : xs ≡ ys = cc in
@@ -63,7 +65,8 @@ pub rest-same : (t u : Tree (Unit {0})) (ts us : Trees (Unit {0})) → more_tree
 rest-same t u ts us e = cc
 
 -- lists whose items have the same trees are equal
-pub list-distinct : {A : Type 0} (f : A → Tree (Unit {0})) (d : (x y : A) → f x ≡ f y → x ≡ y) (xs ys : List A)
+pub list-distinct : {A : Type 0} (f : A → Tree (Unit {0})) (d : (x y : A) → f x ≡ f y → x ≡ y)
+    (xs ys : List A)
     → trees_of (map f xs) ≡ trees_of (map f ys) → xs ≡ ys
 list-distinct f d [] [] e = refl
 list-distinct f d [] (y ∷ ys) e = cc

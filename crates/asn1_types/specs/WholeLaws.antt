@@ -17,7 +17,8 @@ value-read_back f d x y bs rest e r =
     let p : y ≡ x = d y x (first-same (f y) (f x) (shapes rest) no_trees s) in
     (p, none-left rest (rest-same (f y) (f x) (shapes rest) no_trees s))
 
-pub whole-read_back : {A : Type 0} (f : A → Tree (Unit {0})) (d : (x y : A) → f x ≡ f y → x ≡ y) (x y : Whole A)
+pub whole-read_back : {A : Type 0} (f : A → Tree (Unit {0})) (d : (x y : A) → f x ≡ f y → x ≡ y)
+    (x y : Whole A)
     (bs rest : Trees ℕ) → shapes bs ≡ more_trees (f x.value) no_trees
     → shapes bs ≡ more_trees (f y.value) (shapes rest) → (y ≡ x) × (rest ≡ no_trees)
 whole-read_back {A = A} f d x y bs rest e r =

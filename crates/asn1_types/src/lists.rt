@@ -17,7 +17,8 @@ use std::marker::Model;
 fn read_all<T: Asn1Type + Drop>(alloc: Global, blocks: &[ASN1Block]) -> Result<Vec<T>, TypeErr>
     ensures { MatchResult result
         (λ xs. shapes (views blocks.now) ≡ trees_of (map T.tree xs.items))
-        (λ e. (at : ℕ) → e ≡ Shape at → (xs : List T) → shapes (views blocks.now) ≢ trees_of (map T.tree xs)) }
+        (λ e. (at : ℕ) → e ≡ Shape at
+        → (xs : List T) → shapes (views blocks.now) ≢ trees_of (map T.tree xs)) }
 {
     let mut values = Vec::with_capacity(alloc, blocks.len())?;
     for block in blocks {

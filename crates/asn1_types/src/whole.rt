@@ -78,7 +78,8 @@ impl<T: Asn1Type + Drop> FromASN1 for Whole<T> {
     ghost reads = { λ bs r. MatchResult r
         (λ x. shapes bs ≡ more_trees (T.tree x.0.value) (shapes x.1))
         (λ e. (e ≡ Decode no_memory_to_read)
-        ⊎ ((at : ℕ) × (e ≡ Shape at) × ((x : T) (rest : Trees (Unit {0})) → shapes bs ≢ more_trees (T.tree x) rest))) };
+        ⊎ ((at : ℕ) × (e ≡ Shape at)
+        × ((x : T) (rest : Trees (Unit {0})) → shapes bs ≢ more_trees (T.tree x) rest))) };
 
     fn from_asn1<'a>(
         alloc: Global,

@@ -14,7 +14,9 @@ IsHexDigit c = IsDigit c ⊎ ((0x61 ≤ c) × (c ≤ 0x66))
 -- section 6: [ minus ] int
 pub data IsInt : List ℕ → Type 0 where
   zero : IsInt (codes "0")
-  digits : (d : ℕ) (ds : List ℕ) → (0x31 ≤ d) → (d ≤ 0x39) → AllByRecursion IsDigit ds → IsInt (d ∷ ds)
+  digits :
+      (d : ℕ) (ds : List ℕ) → (0x31 ≤ d) → (d ≤ 0x39) → AllByRecursion IsDigit ds →
+      IsInt (d ∷ ds)
 
 pub data IsNumber : List ℕ → Type 0 where
   positive : (t : List ℕ) → IsInt t → IsNumber t

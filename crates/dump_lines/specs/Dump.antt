@@ -83,7 +83,8 @@ verdict_of (offset ∷ offsets) = Refused
 -- That is faults outside of strings, and where they have to be DER each encoding that breaks a rule of it
 abbrev pub IsDumpOfSome : Bool → Option ℕ → List ℕ → Verdict → List ℕ → Type 0
 IsDumpOfSome strict most octets verdict text =
-    (fronts : List Front) × (faults : List ℕ) × (shown : List Shown) × (lines last : List ℕ) × (text ≡ lines ++ last)
+    (fronts : List Front) × (faults : List ℕ) × (shown : List Shown)
+    × (lines last : List ℕ) × (text ≡ lines ++ last)
     × AreFrontsOf octets fronts faults × AreShown false 0 0 octets fronts shown × AreTextsOf most shown lines
     × (verdict ≡ verdict_of (flat_map (marks_of strict) shown ++ faults))
 

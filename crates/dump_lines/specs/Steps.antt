@@ -65,6 +65,7 @@ IsOwn strict piece left before after text =
 
 -- what was printed is of the piece, wherever it stands
 abbrev pub PrintsHeld :
-    {W : Type 0} → (W → Option (List ℕ)) → (List ℕ → List ℕ → Type 0) → Piece → Printer W → Printer W → Type 0
+    {W : Type 0} → (W → Option (List ℕ)) → (List ℕ → List ℕ → Type 0)
+    → Piece → Printer W → Printer W → Type 0
 PrintsHeld contents Is piece old new =
     (left : List ℕ) → IsHolding left piece.kind piece.place piece.nested → IsPrinted contents (Is left) old new

@@ -36,7 +36,8 @@ IsNoEndOf depth front = (depth < front.depth) × (IsEndLine 2 front → front.de
 
 -- behind these lines stands that of an encoding, at the offset. So many octets are left from there to the end of the
 -- contents octets around it, or of all octets
-pub record HasLineAt (octets : List ℕ) (offset : ℕ) (before : List Front) (front : Front) (left : ℕ) : Type 0 where
+pub record HasLineAt (octets : List ℕ) (offset : ℕ) (before : List Front) (front : Front) (left : ℕ)
+    : Type 0 where
   pub end : End
   pub around : List End
   pub come : ComeTo octets before offset (end ∷ around)
@@ -50,7 +51,8 @@ pub record HasLineAt (octets : List ℕ) (offset : ℕ) (before : List Front) (f
 pub data IsElementAt (octets : List ℕ) (offset : ℕ) (block contents : List ℕ) : Type 0 where
   of_definite_length :
       (before : List Front) (front : Front) (left : ℕ) →
-      HasLineAt octets offset before front left → front.indefinite ≡ false → front.header + front.contents ≤ left →
+      HasLineAt octets offset before front left → front.indefinite ≡ false →
+      front.header + front.contents ≤ left →
       block ≡ slice_range octets offset (offset + (front.header + front.contents)) →
       contents ≡ slice_range octets (offset + front.header) (offset + (front.header + front.contents)) →
       IsElementAt octets offset block contents
@@ -82,7 +84,8 @@ pub data HasNoElementAt (octets : List ℕ) (offset : ℕ) (why : NoBlock) : Typ
       (fronts : List Front) → why ≡ Nothing → AllByRecursion (IsElsewhere offset) fronts →
       GoUpTo octets fronts (λ next. offset < next.offset) → HasNoElementAt octets offset why
   of_other :
-      (before : List Front) (front : Front) → BeginWith octets (before ++ front ∷ []) → front.offset ≡ offset →
+      (before : List Front) (front : Front) → BeginWith octets (before ++ front ∷ []) →
+      front.offset ≡ offset →
       IsLineOf why front → HasNoElementAt octets offset why
   too_short :
       (before : List Front) (front : Front) (left : ℕ) → why ≡ CutShort →
@@ -114,7 +117,8 @@ pub data LeadsTo : List ℕ → ℕ → List ℕ → ℕ → Type 0 where
 -- the element whose line stands at the offset of octets, or of those of a string in them
 abbrev pub HasElementAt : List ℕ → ℕ → List ℕ → List ℕ → Type 0
 HasElementAt octets offset block contents =
-    (others : List ℕ) × (further : ℕ) × LeadsTo octets offset others further × IsElementAt others further block contents
+    (others : List ℕ) × (further : ℕ) × LeadsTo octets offset others further
+    × IsElementAt others further block contents
 
 -- no whole element has its line there, and why
 abbrev pub LacksElementAt : List ℕ → ℕ → NoBlock → Type 0

@@ -53,7 +53,8 @@ EndsAt walk depth end =
     (octets : List ℕ) (fronts : List Front) (levels : ℕ) → HasPassed octets fronts walk →
     depth ≡ walk.place.depth + levels →
     (inside : List Front) × (last : Front) × BeginWith octets (fronts ++ (inside ++ last ∷ []))
-    × AllByRecursion (IsNoEndOf levels) inside × IsEndLine 2 last × (last.depth ≡ suc levels) × (last.offset ≡ end)
+    × AllByRecursion (IsNoEndOf levels) inside × IsEndLine 2 last × (last.depth ≡ suc levels)
+    × (last.offset ≡ end)
 
 -- none of the lines by which the walk goes on inside the element is that of its end
 abbrev pub HasNoEnd : Walk → ℕ → Type 0

@@ -92,25 +92,30 @@ end_of_contents size = other_front (codes "end-of-contents") size 0
 -- offset, whether or not it has a value
 abbrev pub AreRulesFound : List ℕ → Header → List Rule → Type 0
 AreRulesFound octets header rules =
-    (front : IsAtFront octets header) → AreBroken front.identifier front.len header.class header.constructed header.tag
-    (contents_in octets header) rules
+    (front : IsAtFront octets header)
+    → AreBroken front.identifier front.len header.class header.constructed header.tag
+        (contents_in octets header) rules
 
 -- the value of a whole encoding that begins the octets, and what is wrong with it, nothing or something at its offset.
 -- One that has no value is gone into, or something is wrong with it
 pub data IsJudged (octets : List ℕ) (header : Header) (offset : ℕ) (meaning : Option LeafValue) (faults : List ℕ)
     : Type 0 where
   of_stray_form :
-      is_stray header ≡ true → meaning ≡ None → faults ≡ offset ∷ [] → IsJudged octets header offset meaning faults
+      is_stray header ≡ true → meaning ≡ None → faults ≡ offset ∷ [] →
+      IsJudged octets header offset meaning faults
   with_encodings :
       is_stray header ≡ false → is_opened header ≡ true → meaning ≡ None → faults ≡ [] →
       IsJudged octets header offset meaning faults
   with_value :
       (value : LeafValue) → is_stray header ≡ false → is_opened header ≡ false →
-      HasValue header.class header.tag (contents_in octets header) value → meaning ≡ Some value → faults ≡ [] →
+      HasValue header.class header.tag (contents_in octets header) value →
+      meaning ≡ Some value → faults ≡ [] →
       IsJudged octets header offset meaning faults
   with_no_value :
-      (fault : DecodeFault) → is_stray header ≡ false → is_opened header ≡ false → header.class ≡ Universal →
-      LeafFault header.tag (contents_in octets header) fault → meaning ≡ None → faults ≡ offset ∷ [] →
+      (fault : DecodeFault) → is_stray header ≡ false → is_opened header ≡ false →
+      header.class ≡ Universal →
+      LeafFault header.tag (contents_in octets header) fault →
+      meaning ≡ None → faults ≡ offset ∷ [] →
       IsJudged octets header offset meaning faults
 
 -- what is known of an encoding with the header, which begins the octets, by its line, and what is wrong with it
@@ -130,13 +135,16 @@ pub data IsRead (octets : List ℕ) (header : Header) (front : Front) (faults : 
 pub data IsNextLine (within : Bool) (offset depth : ℕ) (left : List ℕ) (step : Step) (front : Front)
     (faults : List ℕ) : Type 0 where
   end_there :
-      within ≡ true → begins_with_end left ≡ true → step ≡ Out 2 → front ≡ end_of_contents 2 offset depth →
-      faults ≡ [] → IsNextLine within offset depth left step front faults
+      within ≡ true → begins_with_end left ≡ true → step ≡ Out 2 →
+      front ≡ end_of_contents 2 offset depth → faults ≡ [] →
+      IsNextLine within offset depth left step front faults
   end_missing :
-      within ≡ true → left ≡ [] → step ≡ Out 0 → front ≡ end_of_contents 0 offset depth → faults ≡ offset ∷ [] →
+      within ≡ true → left ≡ [] → step ≡ Out 0 →
+      front ≡ end_of_contents 0 offset depth → faults ≡ offset ∷ [] →
       IsNextLine within offset depth left step front faults
   no_header :
-      (within && begins_with_end left) ≡ false → 0 < length left → HasNoHeader left → step ≡ Past (length left) →
+      (within && begins_with_end left) ≡ false → 0 < length left → HasNoHeader left →
+      step ≡ Past (length left) →
       front ≡ unreadable (length left) offset depth → faults ≡ offset ∷ [] →
       IsNextLine within offset depth left step front faults
   an_encoding :
@@ -146,7 +154,8 @@ pub data IsNextLine (within : Bool) (offset depth : ℕ) (left : List ℕ) (step
       IsRead left header front faults → IsNextLine within offset depth left step front faults
 
 -- one line more, and the offsets of its faults
-abbrev pub AddsLine : Bool → ℕ → ℕ → List ℕ → Step → List Front × List ℕ → List Front × List ℕ → Type 0
+abbrev pub AddsLine :
+    Bool → ℕ → ℕ → List ℕ → Step → List Front × List ℕ → List Front × List ℕ → Type 0
 AddsLine within offset depth left step before after =
     (front : Front) × (own : List ℕ) × IsNextLine within offset depth left step front own
     × (after ≡ (before.0 ++ front ∷ [], before.1 ++ own))

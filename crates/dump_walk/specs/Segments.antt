@@ -42,7 +42,8 @@ IsSegmentHeader tag octets header =
 abbrev pub IsSegment : ℕ → List ℕ → Bool → Step → List ℕ → List ℕ → Type 0
 IsSegment tag octets within (Into first size indefinite) before after =
     ((within && begins_with_end octets) ≡ false)
-    × (header : Header) × IsSegmentHeader tag octets header × (header.constructed ≡ true) × (first ≡ header.size)
+    × (header : Header) × IsSegmentHeader tag octets header
+    × (header.constructed ≡ true) × (first ≡ header.size)
     × (size ≡ size_in octets header) × (indefinite ≡ header.is_indefinite) × (after ≡ before)
 IsSegment tag octets within (Past size) before after =
     ((within && begins_with_end octets) ≡ false)

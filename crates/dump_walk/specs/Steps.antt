@@ -35,8 +35,8 @@ IsTaken header size (Out all) = ⊥
 -- first result this came. `Adds` says what each step adds to the result: by whether end-of-contents octets end the
 -- innermost contents octets, the offset, how many others are around these, and what is left of them.
 -- Contents octets of definite length that have ended are left. Those of the indefinite form are left by a step
-pub data GoesTo {S : Type 0} (Adds : Bool → ℕ → ℕ → List ℕ → Step → S → S → Type 0) (octets : List ℕ)
-    (indefinite : Bool) (first : S) : ℕ → List End → S → Type 0 where
+pub data GoesTo {S : Type 0} (Adds : Bool → ℕ → ℕ → List ℕ → Step → S → S → Type 0)
+    (octets : List ℕ) (indefinite : Bool) (first : S) : ℕ → List End → S → Type 0 where
   none_yet :
       {offset : ℕ} {ends : List End} {result : S} →
       offset ≡ 0 → ends ≡ end_at (length octets) indefinite ∷ [] → result ≡ first →
@@ -58,8 +58,8 @@ abbrev pub ends_of : Cursor → List End
 ends_of cursor = reverse cursor.ends.items
 
 -- a cursor has gone over the octets so far
-pub record HasGone {S : Type 0} (Adds : Bool → ℕ → ℕ → List ℕ → Step → S → S → Type 0) (octets : List ℕ)
-    (indefinite : Bool) (first : S) (cursor : Cursor) (result : S) : Type 0 where
+pub record HasGone {S : Type 0} (Adds : Bool → ℕ → ℕ → List ℕ → Step → S → S → Type 0)
+    (octets : List ℕ) (indefinite : Bool) (first : S) (cursor : Cursor) (result : S) : Type 0 where
   pub same_octets : cursor.octets.now ≡ octets
   pub to : GoesTo Adds octets indefinite first cursor.offset (ends_of cursor) result
 

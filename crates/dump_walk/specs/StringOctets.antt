@@ -44,7 +44,8 @@ AreOctetsOf tag contents octets =
 -- an element with the header of a string holds the octets
 abbrev pub IsHeldBy : List ℕ → ℕ → Header → List ℕ → Type 0
 IsHeldBy element tag header octets =
-    (contents : List ℕ) × AreInOnePiece element tag header header.constructed contents × AreOctetsOf tag contents octets
+    (contents : List ℕ) × AreInOnePiece element tag header header.constructed contents
+    × AreOctetsOf tag contents octets
 
 -- its contents octets are in no piece, or hold no octets
 abbrev pub IsNoneHeldBy : List ℕ → ℕ → Header → Type 0

@@ -25,7 +25,8 @@ constructed_bit-injective true false e = absurd (omega (arith, e))
 constructed_bit-injective false true e = absurd (omega (arith, e))
 
 -- equality that a test decides
-Discrete-by_test : {A : Type 0} (test : A → A → Bool) → ((a b : A) → Decides (test a b) (a ≡ b)) → Discrete A
+Discrete-by_test : {A : Type 0} (test : A → A → Bool)
+    → ((a b : A) → Decides (test a b) (a ≡ b)) → Discrete A
 Discrete-by_test test decides a b = elim (cases_Bool (test a b)) [
   | inl same ↦ yes ((decides a b).0 same)
   | inr other ↦ no (λ e. false≢true (sym other ∙ (decides a b).1 e))

@@ -28,7 +28,8 @@ ObjectIdentifierContents (x ∷ y ∷ ns) contents =
 
 -- the octets mean no object identifier, with this fault
 abbrev pub ObjectIdentifierFault : List ℕ → DecodeFault → Type 0
-ObjectIdentifierFault contents fault = (fault ≡ incomplete) × ((ns : List ℕ) → ObjectIdentifierContents ns contents → ⊥)
+ObjectIdentifierFault contents fault =
+    (fault ≡ incomplete) × ((ns : List ℕ) → ObjectIdentifierContents ns contents → ⊥)
 
 -- the octets that are written, each subidentifier in its shortest form (X.690 8.19.2)
 abbrev pub object_identifier_contents : List ℕ → List ℕ

@@ -32,7 +32,8 @@ TextContents Octets cs contents = cs ≡ contents
 -- the octets mean no characters in this form, with this fault
 abbrev pub TextFault : TextForm → List ℕ → DecodeFault → Type 0
 TextFault Utf8 contents fault = (IsUtf8 contents → ⊥) × (fault ≡ utf8_fault contents)
-TextFault Printable contents fault = (list_all is_printable contents ≡ true → ⊥) × (fault ≡ printable_string_failure)
+TextFault Printable contents fault =
+    (list_all is_printable contents ≡ true → ⊥) × (fault ≡ printable_string_failure)
 TextFault Octets contents fault = ⊥
 
 -- the octets that are written

@@ -38,4 +38,5 @@ utc_time_fault contents = invalid_date_value (
 
 -- the contents octets mean no moment, with this fault
 abbrev pub UtcTimeFault : List ℕ → DecodeFault → Type 0
-UtcTimeFault contents fault = ((m : Moment) → UtcTimeContents m contents → ⊥) × (fault ≡ utc_time_fault contents)
+UtcTimeFault contents fault =
+    ((m : Moment) → UtcTimeContents m contents → ⊥) × (fault ≡ utc_time_fault contents)

@@ -24,7 +24,8 @@ pub record IsCanonicalEncoding (octets : List ℕ) (class : ASN1Class) (construc
 -- whatever encoding stands at the front of the octets is a canonical encoding
 abbrev pub BeginsCanonical : List ℕ → Type 0
 BeginsCanonical octets = (own rest : List ℕ) (class : ASN1Class) (constructed : Bool) (tag : ℕ)
-    (contents : List ℕ) (header : ℕ) → octets ≡ own ++ rest → Encoding own class constructed tag contents header →
+    (contents : List ℕ) (header : ℕ) → octets ≡ own ++ rest →
+    Encoding own class constructed tag contents header →
     IsCanonicalEncoding own class constructed tag contents
 
 -- leading octets: of a SEQUENCE, a SET, an OCTET STRING, a UTF8String, a PrintableString, an IA5String and a UTCTime
