@@ -6,8 +6,9 @@ what a check of it alone would say. Where one calls another that is refused, its
 only waits for the other, and is tried again in the next check. One that is proved so is tried in a check of the whole
 crate, and so is a change outside a body.
 
-A verdict is kept in `checks/data/edits/NAME`, with a sum of all that it stands on: the edit, the text of the crate, and
-that of the crates below.
+A verdict is kept in `checks/data/edits/NAME`, with a sum of all that it stands on: the edit, what the crate and those
+below promise, and the bodies and proofs of the functions that the edit changes. Comments and line breaks are no part
+of it.
 """
 import collections
 import contextlib
@@ -49,17 +50,65 @@ def below():
     return found
 
 
+def words_of(text, comment):
+    """The words of a text, in one line, without lines that are comments."""
+    return " ".join(" ".join(it for it in text.split("\n") if not it.lstrip().startswith(comment)).split())
+
+
+def sum_of_all(told):
+    return hashlib.sha256(repr(told).encode()).hexdigest()[:16]
+
+
 @functools.lru_cache(maxsize=None)
-def sum_of_text(crate):
-    """A sum of the words that the proof of a crate reads in this repository: lines may be broken elsewhere."""
-    files = sorted(it for part in PARTS for it in (CRATES / crate / part).rglob("*") if it.is_file())
-    told = [(str(it.relative_to(CRATES)), hashlib.sha256(b" ".join(it.read_bytes().split())).hexdigest()) for it in files]
-    told += [(it, sum_of_text(it)) for it in below().get(crate, [])]
-    return hashlib.sha256(repr(told).encode()).hexdigest()
+def sources(crate):
+    """Of each source of a crate what stands outside the bodies of functions, and these bodies by their functions."""
+    found = {}
+    for path in sorted((CRATES / crate / "src").rglob("*.rt")):
+        lines, bodies = path.read_text().split("\n"), {}
+        for it in reversed(functions("\n".join(lines))):
+            if 0 <= it.body < it.last:
+                bodies[it] = words_of("\n".join(lines[it.body:it.last]), "//")
+                del lines[it.body + 1:it.last]
+        found[str(path.relative_to(CRATES / crate))] = words_of("\n".join(lines), "//"), bodies
+    return found
+
+
+@functools.lru_cache(maxsize=None)
+def sum_of_promises(crate):
+    """A sum of what other functions may be proved by: definitions, types, contracts of this crate and those below."""
+    told = [(str(it), words_of(it.read_text(), "--")) for it in sorted((CRATES / crate / "specs").rglob("*.antt"))]
+    told += [(path, outside) for path, (outside, _) in sources(crate).items()]
+    return sum_of_all([told, [(it, sum_of_promises(it)) for it in below().get(crate, [])]])
+
+
+def proofs_of(crate, names):
+    """The proofs of the functions of these names, and those of the crate that they import."""
+    top = CRATES / crate / "proofs"
+    found = [it for it in top.rglob("*.antt") if it.parent.name in names]
+    for path in found:
+        imported = re.findall(rf"^use Rattle\.{crate}\.proofs\.([\w.-]+)", path.read_text(), re.M)
+        paths = [top / (it.rstrip(".").replace(".", "/") + ".antt") for it in imported]
+        found += [it for it in dict.fromkeys(paths) if it.is_file() and it not in found]
+    return sorted(found)
 
 
 def sum_of(edit):
-    return hashlib.sha256(repr((sum_of_text(edit.crate), edit.name, edit.text)).encode()).hexdigest()[:16]
+    """A sum of what the verdict on an edit stands on: promises, and of the crate's bodies and proofs those of the
+    functions that it changes, or all where it changes something else."""
+    folder = CRATES / edit.crate
+    told = [edit.name, edit.text, sum_of_promises(edit.crate)]
+    try:
+        changed = changed_functions(edit, folder)
+    except Unmade:
+        changed = []
+    bodies = [(path, it, body) for path, (_, of) in sources(edit.crate).items() for it, body in of.items()
+              if not changed or (it.name, it.owner) in {(one.name, one.owner) for at, one in changed if at == path}]
+    names = {it.name for _, it in changed}
+    paths = proofs_of(edit.crate, names) if changed else sorted(folder.glob("proofs/**/*.antt"))
+    told += [sorted((path, it.name, it.owner, body) for path, it, body in bodies)]
+    told += [(str(it.relative_to(folder)), words_of(it.read_text(), "--")) for it in paths]
+    told += [(it.name, it.read_bytes()) for it in sorted((folder / "c").rglob("*")) if it.is_file()]
+    return sum_of_all(told)
 
 
 def verdicts(crate):

@@ -34,7 +34,7 @@ fn is_shortest(header: &PlacedHeader) -> bool
     ensures { (identifier len : List ℕ) → HasParts header.now identifier len
         → IsTrue result
         ↔ HasShortest identifier len header.now.class header.now.constructed header.now.tag
-            (header.now.end - header.now.start) }
+        (header.now.end - header.now.start) }
 {
     header.has_shortest_identifier() && header.has_shortest_length()
 }

@@ -94,7 +94,7 @@ abbrev pub AreRulesFound : List ℕ → Header → List Rule → Type 0
 AreRulesFound octets header rules =
     (front : IsAtFront octets header)
     → AreBroken front.identifier front.len header.class header.constructed header.tag
-        (contents_in octets header) rules
+    (contents_in octets header) rules
 
 -- the value of a whole encoding that begins the octets, and what is wrong with it, nothing or something at its offset.
 -- One that has no value is gone into, or something is wrong with it

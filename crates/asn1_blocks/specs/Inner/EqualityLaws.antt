@@ -146,9 +146,10 @@ mutual
 -- two trees are the same exactly where their shapes are equal
 pub same_tree-decides : {O P : Type 0} (s : Tree O) (t : Tree P)
     → Decides (same_tree s t) (shape s ≡ shape t)
-same_tree-decides s t =
-    (same_tree-same_shape s t,
-    λ e. sym (same_tree-shape_right s t) ∙ (ap (same_tree s) (sym e) ∙ same_tree-shape s))
+same_tree-decides s t = (
+  same_tree-same_shape s t,
+  λ e. sym (same_tree-shape_right s t) ∙ (ap (same_tree s) (sym e) ∙ same_tree-shape s),
+)
 
 same_block-decides : (a b : ASN1Block) → Decides (same_block a b) (shape (view a) ≡ shape (view b))
 same_block-decides a b = same_tree-decides (view a) (view b)
