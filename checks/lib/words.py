@@ -1,7 +1,7 @@
 """Counts the words of the README, as `wc -w` does, and fails if it has more than 800. Warns of long sentences. Fails
-if a line in the sources or definitions of a crate has more than 120 octets, one in its proofs more than 120 characters,
-or if an import in definitions or proofs does not stand on one line. Fails if a page for users has a private word, one that only we know the meaning
-of, and warns of private words on other pages and in names of the sources.
+if a line in the sources or definitions of a crate has more than 120 octets, or one in its proofs more than 120
+characters, or if an import in definitions or proofs does not stand on one line. Fails if a page for users has a private
+word, one that only we know the meaning of, and warns of private words on other pages and in names of the sources.
 
     checks/run words              the README's words, and how many sentences of each page have more than 35 words
     checks/run words -- --long    prints these sentences too, and the places of the private words that it warns of
