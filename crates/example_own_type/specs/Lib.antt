@@ -1,2 +1,0 @@
-pub mod NameTrees
-pub mod NameLaws
