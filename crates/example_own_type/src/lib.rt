@@ -1,4 +1,4 @@
-//! An example of a type of one's own: a name in a subjectAltName (RFC 5280, 4.2.1.6) of one of the kinds that are texts.
+//! An example of a type of one's own: a name in a subjectAltName (RFC 5280, 4.2.1.6) of a kind that is a text.
 #![tactic(auto)]
 
 ghost use Rattle.asn1_types.specs.declared.choice.Or.TheVariants.{First, Second};
