@@ -68,6 +68,50 @@ pub enum Rule {
 }
 
 impl Rule {
+    /// The name of the rule: that of its variant, for programs that write or keep it. It stays the same.
+    ///
+    /// ```rust
+    /// use simple_asn1::Departure;
+    ///
+    /// // Which rule is broken: by `01 01 2A` "BooleanValue".
+    /// fn name(departure: &Departure) -> &'static str {
+    ///     departure.rule.name()
+    /// }
+    /// ```
+    pub fn name(self) -> &'static str {
+        match self {
+            Rule::LongIdentifier => "LongIdentifier",
+            Rule::PaddedTag => "PaddedTag",
+            Rule::IndefiniteLength => "IndefiniteLength",
+            Rule::LongLength => "LongLength",
+            Rule::ReservedTag => "ReservedTag",
+            Rule::NotConstructed => "NotConstructed",
+            Rule::NotPrimitive => "NotPrimitive",
+            Rule::ConstructedString => "ConstructedString",
+            Rule::BooleanSize => "BooleanSize",
+            Rule::BooleanValue => "BooleanValue",
+            Rule::NoInteger => "NoInteger",
+            Rule::PaddedInteger => "PaddedInteger",
+            Rule::SpecialReal => "SpecialReal",
+            Rule::BinaryReal => "BinaryReal",
+            Rule::DecimalReal => "DecimalReal",
+            Rule::UnusedCount => "UnusedCount",
+            Rule::UnusedOfNone => "UnusedOfNone",
+            Rule::UnusedBits => "UnusedBits",
+            Rule::NullContents => "NullContents",
+            Rule::Subidentifiers => "Subidentifiers",
+            Rule::Iri => "Iri",
+            Rule::Characters => "Characters",
+            Rule::UtcTime => "UtcTime",
+            Rule::GeneralizedTime => "GeneralizedTime",
+            Rule::Time => "Time",
+            Rule::Order => "Order",
+            Rule::NotEncodings => "NotEncodings",
+            Rule::External => "External",
+            Rule::Identification => "Identification",
+        }
+    }
+
     /// The clauses that say the rule: of X.690, unless X.680 is named.
     ///
     /// ```rust
