@@ -112,7 +112,7 @@ def kinds_of_rust():
 def numbers_of_rust():
     for it in STATUSES:
         if it.variant != "-":
-            yield f"            {it.number} => FaultKind::{it.variant},"
+            yield f"            sys::{it.name} => FaultKind::{it.variant},"
 
 
 def texts_of_rust():
@@ -201,19 +201,18 @@ def compared():
     crates = "crates/asn1_der"
     texts, clauses = {it.name: it.text for it in RULES}, {it.name: it.more["clauses"] for it in RULES}
     source = (TOP / crates / "src/rule.rt").read_text()
-    section, text = source.split("pub fn text(")
-    for words, wanted in [(section, clauses), (text, texts)]:
+    named, section, text = re.split(r"pub fn (?:section|text)\(", source)
+    names = {it.name: it.name for it in RULES}
+    for words, wanted in [(named, names), (section, clauses), (text, texts)]:
         yield f"{crates}/src/rule.rt", dict(re.findall(r'Rule::(\w+) => "(.*)",', words)), wanted
     demanded = dict((name, " ".join(re.sub(r"^ *///", "", line).strip() for line in said.splitlines()))
-                    for said, name in re.findall(r"((?:    ///.*\n)+)    (\w+),\n", section))
+                    for said, name in re.findall(r"((?:    ///.*\n)+)    (\w+),\n", named))
     yield f"{crates}/src/rule.rt", demanded, {it.name: it.more["demands"] for it in RULES}
     for word, wanted in [("section_of", clauses), ("text_of", texts)]:
         yield f"{crates}/specs/Rules.antt", arms(f"{crates}/specs/Rules.antt", word + r' (\w+) = codes "(.*)"'), wanted
     numbers = {it.name: str(it.number) for it in RULES}
     yield "crates/asn1_records/src/departures.rt", arms("crates/asn1_records/src/departures.rt",
                                                         r"Rule::(\w+) => (\d+),"), numbers
-    names = {it.name: it.name for it in RULES}
-    yield "crates/dump_walk/src/marks.rt", arms("crates/dump_walk/src/marks.rt", r'Rule::(\w+) => "(\w+)",'), names
     said = arms("crates/asn1_records/src/status.rt", r"pub const (\w+): u32 = (\d+);")
     named = {"OUT_OF_RANGE": "RANGE", "DONE": "OK"}
     yield "crates/asn1_records/src/status.rt", said, {

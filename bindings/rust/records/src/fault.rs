@@ -1,5 +1,6 @@
 //! Why bytes cannot be read, why a block has no value of a kind, and why records cannot be written.
 
+use simple_asn1_sys as sys;
 use std::error::Error;
 use std::fmt;
 
@@ -56,22 +57,22 @@ pub enum FaultKind {
 impl Fault {
     pub(crate) fn of_status(status: u32, offset: usize) -> Fault {
         let kind = match status {
-            1 => FaultKind::Empty,
-            2 => FaultKind::BooleanLength,
-            3 => FaultKind::Length,
-            4 => FaultKind::Utf8,
-            5 => FaultKind::Printable,
-            6 => FaultKind::Date,
-            7 => FaultKind::BitStringLength,
-            8 => FaultKind::Incomplete,
-            9 => FaultKind::NotCanonical,
-            10 => FaultKind::NoMemory,
-            12 => FaultKind::NoSuchValue,
-            13 => FaultKind::Range,
-            14 => FaultKind::NotSigned,
-            15 => FaultKind::BadRecord,
-            16 => FaultKind::NotOid,
-            17 => FaultKind::TooLong,
+            sys::EMPTY => FaultKind::Empty,
+            sys::BOOLEAN_LENGTH => FaultKind::BooleanLength,
+            sys::LENGTH => FaultKind::Length,
+            sys::UTF8 => FaultKind::Utf8,
+            sys::PRINTABLE => FaultKind::Printable,
+            sys::DATE => FaultKind::Date,
+            sys::BIT_STRING_LENGTH => FaultKind::BitStringLength,
+            sys::INCOMPLETE => FaultKind::Incomplete,
+            sys::NOT_CANONICAL => FaultKind::NotCanonical,
+            sys::NO_MEMORY => FaultKind::NoMemory,
+            sys::NO_SUCH_VALUE => FaultKind::NoSuchValue,
+            sys::RANGE => FaultKind::Range,
+            sys::NOT_SIGNED => FaultKind::NotSigned,
+            sys::BAD_RECORD => FaultKind::BadRecord,
+            sys::NOT_OID => FaultKind::NotOid,
+            sys::TOO_LONG => FaultKind::TooLong,
             _ => FaultKind::Unknown(status),
         };
         Fault { kind, offset }
