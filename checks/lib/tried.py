@@ -6,9 +6,9 @@ what a check of it alone would say. Where one calls another that is refused, its
 only waits for the other, and is tried again in the next check. One that is proved so is tried in a check of the whole
 crate, and so is a change outside a body.
 
-A verdict is kept in `checks/data/edits/NAME`, with a sum of all that it stands on: the edit, what the crate and those
-below promise, and the bodies and proofs of the functions that the edit changes. Comments and line breaks are no part
-of it.
+A verdict is kept in `checks/data/edits/NAME`, with a sum of all that it stands on: the edit, the bodies and proofs of
+the functions that it changes, the contracts of those that these name, and the definitions and types of the crate and
+those below. Comments and line breaks are no part of it.
 """
 import collections
 import contextlib
@@ -61,24 +61,36 @@ def sum_of_all(told):
 
 @functools.lru_cache(maxsize=None)
 def sources(crate):
-    """Of each source of a crate what stands outside the bodies of functions, and these bodies by their functions."""
+    """Of each source of a crate what stands outside its functions, and their heads and bodies by the functions."""
     found = {}
     for path in sorted((CRATES / crate / "src").rglob("*.rt")):
-        lines, bodies = path.read_text().split("\n"), {}
+        lines, parts = path.read_text().split("\n"), {}
         for it in reversed(functions("\n".join(lines))):
-            if 0 <= it.body < it.last:
-                bodies[it] = words_of("\n".join(lines[it.body:it.last]), "//")
-                del lines[it.body + 1:it.last]
-        found[str(path.relative_to(CRATES / crate))] = words_of("\n".join(lines), "//"), bodies
+            behind = it.body if 0 <= it.body < it.last else it.last
+            parts[it] = (words_of("\n".join(lines[it.first:behind + 1]), "//"),
+                         words_of("\n".join(lines[behind:it.last]), "//"))
+            del lines[it.first:it.last + 1]
+        found[str(path.relative_to(CRATES / crate))] = words_of("\n".join(lines), "//"), parts
     return found
 
 
 @functools.lru_cache(maxsize=None)
-def sum_of_promises(crate):
-    """A sum of what other functions may be proved by: definitions, types, contracts of this crate and those below."""
-    told = [(str(it), words_of(it.read_text(), "--")) for it in sorted((CRATES / crate / "specs").rglob("*.antt"))]
+def sum_of_types(crate):
+    """A sum of what stands outside the functions of this crate and those below: definitions, types, macros."""
+    folder = CRATES / crate
+    told = [(str(it.relative_to(folder)), words_of(it.read_text(), "--"))
+            for it in sorted(folder.glob("specs/**/*.antt"))]
     told += [(path, outside) for path, (outside, _) in sources(crate).items()]
-    return sum_of_all([told, [(it, sum_of_promises(it)) for it in below().get(crate, [])]])
+    return sum_of_all([told, [(it, sum_of_types(it)) for it in below().get(crate, [])]])
+
+
+def heads(crate, words):
+    """The heads of the functions of a crate that these words name, and of those that nothing has to name: of a trait's
+    impl, and in a macro."""
+    outside = " ".join(it for it, _ in sources(crate).values() if "macro_rules!" in it)
+    named = words | set(re.findall(r"\w+", outside))
+    return [(path, it.name, it.owner, head) for path, (_, of) in sources(crate).items()
+            for it, (head, _) in of.items() if it.owner[1] or it.name in named]
 
 
 def proofs_of(crate, names):
@@ -93,20 +105,23 @@ def proofs_of(crate, names):
 
 
 def sum_of(edit):
-    """A sum of what the verdict on an edit stands on: promises, and of the crate's bodies and proofs those of the
-    functions that it changes, or all where it changes something else."""
+    """A sum of what the verdict on an edit stands on: types and definitions, and of the crate's bodies and proofs those
+    of the functions that it changes, or all where it changes something else. Of other functions, the heads of those
+    that all this names."""
     folder = CRATES / edit.crate
-    told = [edit.name, edit.text, sum_of_promises(edit.crate)]
+    told = [edit.name, edit.text, sum_of_types(edit.crate)]
     try:
         changed = changed_functions(edit, folder)
     except Unmade:
         changed = []
-    bodies = [(path, it, body) for path, (_, of) in sources(edit.crate).items() for it, body in of.items()
-              if not changed or (it.name, it.owner) in {(one.name, one.owner) for at, one in changed if at == path}]
+    parts = [(path, it.name, it.owner, part) for path, (_, of) in sources(edit.crate).items() for it, part in of.items()
+             if not changed or (it.name, it.owner) in {(one.name, one.owner) for at, one in changed if at == path}]
     names = {it.name for _, it in changed}
     paths = proofs_of(edit.crate, names) if changed else sorted(folder.glob("proofs/**/*.antt"))
-    told += [sorted((path, it.name, it.owner, body) for path, it, body in bodies)]
+    told += [sorted(parts)]
     told += [(str(it.relative_to(folder)), words_of(it.read_text(), "--")) for it in paths]
+    words = set(re.findall(r"\w+", repr(told)))
+    told += [(it, sorted(heads(it, words))) for it in sorted({edit.crate, *whole_below(edit.crate)})]
     told += [(it.name, it.read_bytes()) for it in sorted((folder / "c").rglob("*")) if it.is_file()]
     return sum_of_all(told)
 
