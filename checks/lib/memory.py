@@ -37,7 +37,8 @@ TOP = pathlib.Path(__file__).resolve().parent.parent.parent
 DATA = TOP / "checks" / "data" / "memory"
 # seconds in which a run ends
 PATIENCE = 120
-CRATES = ["asn1_numbers", "asn1_headers", "asn1_leaves", "asn1_blocks", "asn1_outline", "asn1_der", "simple_asn1"]
+CRATES = ["asn1_numbers", "asn1_headers", "asn1_leaves", "asn1_blocks", "asn1_writing", "asn1_outline", "asn1_der",
+          "simple_asn1"]
 
 # the switch in the copy: calls of the C library that the loaded library answers
 SWITCH = """// Which body says that memory ran out. Where it is to do so only if a call took memory, `before` is the

@@ -16,8 +16,8 @@ import sys
 
 TOP = pathlib.Path(__file__).resolve().parent.parent.parent
 TRUST = TOP / "docs/TRUST.md"
-CALLS = {"from_der": "asn1_blocks/src/read.rt", "to_der": "simple_asn1/src/write.rt",
-         "rewrite": "simple_asn1/src/write.rt", "from_der_strict": "simple_asn1/src/write/strict.rt",
+CALLS = {"from_der": "asn1_blocks/src/read.rt", "to_der": "asn1_writing/src/write.rt",
+         "rewrite": "asn1_writing/src/write.rt", "from_der_strict": "asn1_writing/src/strict.rt",
          "is_der": "asn1_der/src/der.rt", "departures": "asn1_der/src/listing.rt",
          "law_departures": "asn1_der/src/laws.rt", "law_der_is_read": "asn1_laws/src/laws.rt",
          "law_der_is_canonical": "asn1_laws/src/laws.rt", "law_written_is_der": "asn1_laws/src/laws.rt"}

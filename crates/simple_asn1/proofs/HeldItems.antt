@@ -14,11 +14,11 @@ use Rattle.asn1_blocks.proofs.BlockLists.{tree_count, tree_count-views}
 use Rattle.asn1_blocks.proofs.Faults.{tree_count-block}
 use Rattle.asn1_blocks.proofs.OneReading.{EncodesAll-unique}
 use Rattle.asn1_headers.specs.declared.error.ASN1EncodeErr.{ASN1EncodeErr}
-use Rattle.simple_asn1.specs.Canonical.{all_canonical, canonical, first_write_fault, shortest_encoding, write_fault}
+use Rattle.asn1_writing.specs.Canonical.{all_canonical, canonical, first_write_fault, shortest_encoding, write_fault}
 use Rattle.simple_asn1.specs.HeldBlocks.{Holds, HoldsNothing, items_trees}
 use Rattle.simple_asn1.specs.declared.items.Items.{Items}
-use Rattle.simple_asn1.proofs.Placed.{EncodesAll-all_canonical, all_placed, shapes-all_placed}
-use Rattle.simple_asn1.proofs.WriteSteps.{first_of-none}
+use Rattle.asn1_writing.proofs.Placed.{EncodesAll-all_canonical, all_placed, shapes-all_placed}
+use Rattle.asn1_writing.proofs.WriteSteps.{first_of-none}
 
 -- a tree holds blocks in one way
 pub Holds-unique : (t : Tree ℕ) (xs ys : Trees ℕ) → Holds t xs → Holds t ys → xs ≡ ys

@@ -3,15 +3,15 @@ use Rattle.std.proofs.Common.{◌≡◌, ℕ, ◌<◌, ◌^◌, List, length, Re
 use Rattle.std.proofs.lemmas.Option.{none-some}
 use Rattle.asn1_headers.specs.declared.error.ASN1DecodeErr.{ASN1DecodeErr}
 use Rattle.asn1_headers.specs.declared.error.ASN1EncodeErr.{ASN1EncodeErr}
-use Rattle.simple_asn1.specs.Canonical.{canonical, all_canonical, first_write_fault}
+use Rattle.asn1_writing.specs.Canonical.{canonical, all_canonical, first_write_fault}
 use Rattle.simple_asn1.specs.Conversions.{AreReadAgain, Decodes, DecodeFails, Encodes, EncodeFails, OwnDecodeFault, OwnEncodeFault}
 use Rattle.asn1_blocks.specs.Faithful.{AreFaithful}
 use Rattle.asn1_headers.specs.Fault.{fault_of}
 use Rattle.asn1_blocks.specs.Grammar.{IsDocument}
 use Rattle.asn1_blocks.specs.Tree.{Tree, Trees, leaf, group, explicit, unknown, no_trees, more_trees, shape, shapes}
 use Rattle.asn1_blocks.proofs.OneReading.{EncodesAll-unique}
-use Rattle.simple_asn1.proofs.Placed.{all_placed, EncodesAll-all_canonical, canonical-not_empty, shapes-all_placed, first_write_fault-faithful}
-use Rattle.simple_asn1.proofs.Shapes.{all_canonical-shapes, first_write_fault-shapes}
+use Rattle.asn1_writing.proofs.Placed.{all_placed, EncodesAll-all_canonical, canonical-not_empty, shapes-all_placed, first_write_fault-faithful}
+use Rattle.asn1_writing.proofs.Shapes.{all_canonical-shapes, first_write_fault-shapes}
 use Rattle.asn1_blocks.proofs.Readings.{IsDocument-no_fault}
 
 mutual

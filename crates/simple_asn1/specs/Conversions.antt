@@ -8,7 +8,7 @@ use Rattle.simple_asn1.specs.declared.convert.TripFault.TheVariants.{Encode, Dec
 use Rattle.asn1_headers.specs.declared.error.ASN1DecodeErr.TheVariants.{OutOfMemory}
 use Rattle.asn1_headers.specs.declared.error.ASN1EncodeErr.{ASN1EncodeErr}
 use Rattle.asn1_headers.specs.declared.error.ASN1EncodeErr.TheVariants.{OutOfMemory as no_memory}
-use Rattle.simple_asn1.specs.Canonical.{all_canonical, first_write_fault}
+use Rattle.asn1_writing.specs.Canonical.{all_canonical, first_write_fault}
 use Rattle.asn1_headers.specs.Fault.{OutOfMemoryOr}
 use Rattle.asn1_blocks.specs.Grammar.{IsDocument, FirstFault}
 use Rattle.asn1_blocks.specs.Faithful.{AreFaithful}

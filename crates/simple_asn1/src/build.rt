@@ -14,10 +14,9 @@ ghost use Rattle.asn1_leaves.specs.Contents.Moment.{moment_of};
 ghost use Rattle.asn1_leaves.specs.StringKind.{ia5, printable, utf8};
 ghost use Rattle.asn1_numbers.specs.Octets.{FitInSlice};
 ghost use Rattle.asn1_numbers.specs.TwosComplement.{shortest_octets};
-ghost use Rattle.simple_asn1.specs.Canonical.{all_canonical, canonical, first_write_fault, shortest_encoding, write_fault};
+ghost use Rattle.asn1_writing.specs.Canonical.{all_canonical, canonical, first_write_fault, shortest_encoding, write_fault};
 ghost use Rattle.simple_asn1.specs.HeldBlocks.{Holds};
 
-use crate::write::write_all;
 use asn1_blocks::block::ASN1Block;
 use asn1_blocks::held::HeldBlocks;
 use asn1_blocks::postponed::explicit_block;
@@ -28,6 +27,7 @@ use asn1_headers::tags::ENUMERATED;
 use asn1_leaves::oid::OID;
 use asn1_numbers::number::big_int::BigInt;
 use asn1_numbers::number::big_uint::BigUint;
+use asn1_writing::write::write_all;
 use jiff::civil::DateTime;
 use std::alloc::{AllocError, Global};
 
@@ -93,13 +93,13 @@ pub fn big_integer(number: BigInt) -> ASN1Block
 ///     build::bit_string(alloc, bytes)
 /// }
 /// ```
-pub fn bit_string(alloc: Global, bytes: &[u8]) -> Result<ASN1Block, AllocError>
-    ensures { IfOk result (λ b. view b ≡ leaf 0 (bit_string (8 * length bytes.now) bytes.now)) }
+pub fn bit_string(alloc: Global, octets: &[u8]) -> Result<ASN1Block, AllocError>
+    ensures { IfOk result (λ b. view b ≡ leaf 0 (bit_string (8 * length octets.now) octets.now)) }
 {
-    let Some(bits) = bytes.len().checked_mul(8) else {
+    let Some(bits) = octets.len().checked_mul(8) else {
         return Err(AllocError);
     };
-    Ok(ASN1Block::BitString(0, bits, Vec::from_slice(alloc, bytes)?))
+    Ok(ASN1Block::BitString(0, bits, Vec::from_slice(alloc, octets)?))
 }
 
 /// An OCTET STRING.
@@ -113,10 +113,10 @@ pub fn bit_string(alloc: Global, bytes: &[u8]) -> Result<ASN1Block, AllocError>
 ///     build::octet_string(alloc, &[0xCA, 0xFE])
 /// }
 /// ```
-pub fn octet_string(alloc: Global, bytes: &[u8]) -> Result<ASN1Block, AllocError>
-    ensures { IfOk result (λ b. view b ≡ leaf 0 (octet_string bytes.now)) }
+pub fn octet_string(alloc: Global, octets: &[u8]) -> Result<ASN1Block, AllocError>
+    ensures { IfOk result (λ b. view b ≡ leaf 0 (octet_string octets.now)) }
 {
-    Ok(ASN1Block::OctetString(0, Vec::from_slice(alloc, bytes)?))
+    Ok(ASN1Block::OctetString(0, Vec::from_slice(alloc, octets)?))
 }
 
 /// A NULL.
@@ -388,12 +388,12 @@ pub fn implicit_primitive(
     alloc: Global,
     class: ASN1Class,
     tag: u64,
-    bytes: &[u8],
+    octets: &[u8],
 ) -> Result<ASN1Block, AllocError>
-    ensures { IfOk result (λ b. view b ≡ unknown class false 0 tag bytes.now) }
+    ensures { IfOk result (λ b. view b ≡ unknown class false 0 tag octets.now) }
 {
     let tag = BigUint::from_u64(alloc, tag)?;
-    Ok(ASN1Block::Unknown(class, false, 0, tag, Vec::from_slice(alloc, bytes)?))
+    Ok(ASN1Block::Unknown(class, false, 0, tag, Vec::from_slice(alloc, octets)?))
 }
 
 /// An ENUMERATED (X.690 8.4).

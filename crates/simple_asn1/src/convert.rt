@@ -4,7 +4,7 @@
 // once, for all types, by these relations alone.
 ghost use Rattle.std.specs.Prelude.{◌≡◌, ◌≢◌, ℕ, List, Result, Ok, Err, IfOk, IfErr, MatchOption, MatchResult};
 ghost use Rattle.simple_asn1.specs.Conversions.{AreReadAgain, Decodes, DecodeFails, Encodes, EncodeFails, OwnDecodeFault, OwnEncodeFault, TripFails};
-ghost use Rattle.simple_asn1.specs.Canonical.{all_canonical};
+ghost use Rattle.asn1_writing.specs.Canonical.{all_canonical};
 ghost use Rattle.asn1_blocks.specs.Faithful.{AreFaithful};
 ghost use Rattle.asn1_blocks.specs.Tree.{Trees, group, no_trees, shape, shapes};
 ghost use Rattle.asn1_blocks.specs.View.{tree_offset, view, views};
@@ -15,12 +15,12 @@ ghost use Rattle.asn1_headers.specs.declared.header.ASN1Class.TheVariants.{Unive
 pub mod point;
 pub mod signed;
 
-use crate::write::write_all;
 use asn1_blocks::block::ASN1Block;
 use asn1_blocks::block::discard::discard;
 use asn1_blocks::document::Document;
 use asn1_headers::error::{ASN1DecodeErr, ASN1EncodeErr};
 use asn1_headers::header::ASN1Class;
+use asn1_writing::write::write_all;
 use std::alloc::Global;
 
 /// A type that is read from the blocks of a document and from the document's own octets, as the content of a signature

@@ -3,9 +3,9 @@ use Rattle.std.specs.Prelude.{◌≡◌, ◌↔◌, ℕ, List, None}
 use Rattle.asn1_numbers.specs.Octets.{AreOctets, FitInSlice}
 use Rattle.asn1_blocks.specs.Tree.{Tree, Trees}
 use Rattle.asn1_blocks.specs.Grammar.{IsDocument}
-use Rattle.simple_asn1.specs.Canonical.{canonical, all_canonical, write_fault}
+use Rattle.asn1_writing.specs.Canonical.{canonical, all_canonical, write_fault}
 use Rattle.asn1_blocks.specs.Faithful.{all_normalized, IsFaithful, AreFaithful}
-use Rattle.simple_asn1.specs.ReadBack.{ReadsBackAs, AllReadBackAs, AreEqualNormalized}
+use Rattle.asn1_writing.specs.ReadBack.{ReadsBackAs, AllReadBackAs, AreEqualNormalized}
 
 -- what rewriting keeps
 pub record RewritingIsCanonical : Type 0 where

@@ -4,9 +4,9 @@ use Rattle.asn1_numbers.specs.Octets.{FitInSlice}
 use Rattle.asn1_headers.specs.Fault.{DecodeFault}
 use Rattle.asn1_blocks.specs.Tree.{Trees}
 use Rattle.asn1_blocks.specs.Grammar.{IsDocument}
-use Rattle.simple_asn1.specs.Canonical.{all_canonical}
-use Rattle.simple_asn1.specs.ReadBack.{CanonicalDocument}
-use Rattle.simple_asn1.specs.Strict.{EqualByOctets, EachIsCanonical, StrictFault}
+use Rattle.asn1_writing.specs.Canonical.{all_canonical}
+use Rattle.asn1_writing.specs.ReadBack.{CanonicalDocument}
+use Rattle.asn1_writing.specs.Strict.{EqualByOctets, EachIsCanonical, StrictFault}
 
 pub record StrictReading : Type 0 where
   -- a document is the canonical octets of its trees exactly if each tree of the top level stands in its own

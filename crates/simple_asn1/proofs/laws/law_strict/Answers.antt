@@ -1,5 +1,5 @@
 -- For `laws::law_strict`: what it returns is right.
-use Rattle.simple_asn1.proofs.Strict.{EachIsCanonical-iff_canonical, CanonicalDocument-or_fault, EqualByOctets-canonical, StrictFault-unique, CanonicalDocument-no_fault}
+use Rattle.asn1_writing.proofs.CanonicalDocuments.{EachIsCanonical-iff_canonical, CanonicalDocument-or_fault, EqualByOctets-canonical, StrictFault-unique, CanonicalDocument-no_fault}
 use Rattle.simple_asn1.proofs.laws.law_strict.Goals as goal
 
 pub returns : goal.returns

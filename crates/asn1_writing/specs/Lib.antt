@@ -1,0 +1,5 @@
+pub mod Canonical
+pub mod ReadBack
+pub mod Unfaithful
+pub mod Strict
+pub mod Inner
