@@ -1,5 +1,5 @@
 -- Entries of a document are those of whichever trees it encodes, and it has no first fault, for
--- `outline::Outline::from_der_counted`.
+-- `outline::Outline::from_der`.
 use Rattle.std.proofs.Common.{ℕ, ◌<◌, ◌^◌, List, length, subst}
 use Rattle.asn1_headers.specs.Fault.{DecodeFault}
 use Rattle.asn1_blocks.specs.Grammar.{FirstFaultAt, IsDocument}

@@ -17,3 +17,5 @@ mod Walks
 pub mod Fronts
 mod ShapesWithin
 mod SignedHeaders
+mod CanonicalEntries
+mod StrictOutlines

@@ -1,4 +1,4 @@
--- Octets have one list of shapes, or one first header fault, and not both, for `headers::Headers::read` and the
+-- Octets have one list of shapes, or one first header fault, and not both, for `headers::Headers::from_der` and the
 -- functions of `signed`.
 use Rattle.std.proofs.Common.{◌≡◌, ◌&&◌, Bool, ℕ, ◌-◌, ◌<◌, ◌≤◌, ◌^◌, ◌++◌, List, drop, inl, inr, length, refl, sym, ap, ap₂, ◌∙◌, subst, arith}
 use Rattle.std.specs.List.{slice_range}

@@ -10,3 +10,4 @@ pub mod Iterated
 pub mod Building
 pub mod Triple
 pub mod TripleHeaders
+pub mod Inner

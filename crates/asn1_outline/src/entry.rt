@@ -2,7 +2,7 @@
 use asn1_headers::header::ASN1Class;
 
 /// The header of a block, and its place among the blocks of its document.
-#[derive(Clone, Copy)]
+#[derive(Clone, Copy, Debug, PartialEq)]
 pub struct Entry {
     /// The class of the tag.
     pub class: ASN1Class,

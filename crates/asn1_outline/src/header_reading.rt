@@ -18,7 +18,7 @@ impl<'a> Headers<'a> {
     /// # Errors
     /// `OutOfMemory`; `EmptyBuffer` of no octets; else the first fault of a header, `Incomplete` or `LengthTooLarge`,
     /// with the offset of its encoding.
-    pub fn read(alloc: Global, octets: &'a [u8]) -> Result<Headers<'a>, LocatedErr>
+    pub fn from_der(alloc: Global, octets: &'a [u8]) -> Result<Headers<'a>, LocatedErr>
         ensures document { IfOk result (λ headers. (all : Shapes) × HasShapes octets.now all
             × (walked_entries headers ≡ entries_of 0 0 all)) }
         ensures lent { IfOk result (λ headers. walked_octets headers ≡ octets.now) }

@@ -29,14 +29,14 @@ enum Turn {
     Stop,
 }
 
-/// Checks whether octets are encodings by their headers (X.690 8.1.1), one or more, as [`Headers::read`] does, in
+/// Checks whether octets are encodings by their headers (X.690 8.1.1), one or more, as [`Headers::from_der`] does, in
 /// linear time. It takes memory for the encodings that are open at a time alone. Stack use does not grow with nesting.
 ///
 /// # Errors
 /// `OutOfMemory`; `EmptyBuffer` of no octets; else the first fault of a header, `Incomplete` or `LengthTooLarge`,
 /// with the offset of its encoding.
 ///
-/// [`Headers::read`]: crate::headers::Headers::read
+/// [`Headers::from_der`]: crate::headers::Headers::from_der
 pub fn check_headers(alloc: Global, octets: &[u8]) -> Result<(), LocatedErr>
     ensures document { OnOk result ((all : Shapes) × HasShapes octets.now all) }
     ensures fault { IfErr result (OutOfMemoryOrAt (FirstHeaderFaultAt octets.now)) }

@@ -16,7 +16,7 @@ use crate::entry::Entry;
 ///
 /// // How many encodings a document has: three in `30 07 1E 02 00 E4 02 01 05`, of which one is not text.
 /// fn count(alloc: Global, octets: &[u8]) -> Option<usize> {
-///     let Ok(headers) = Headers::read(alloc, octets) else {
+///     let Ok(headers) = Headers::from_der(alloc, octets) else {
 ///         return None;
 ///     };
 ///     Some(headers.entries().len())
@@ -24,7 +24,7 @@ use crate::entry::Entry;
 /// ```
 ///
 /// [`Outline`]: crate::outline::Outline
-#[derive(Drop)]
+#[derive(Debug, Drop)]
 pub struct Headers<'a> {
     pub(crate) octets: &'a [u8],
     pub(crate) entries: Vec<Entry>,

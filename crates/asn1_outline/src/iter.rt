@@ -13,7 +13,7 @@ use std::iter::FusedIterator;
 use std::marker::Model;
 
 /// Entries in order, each with its index, as [`Outline::blocks`], [`Outline::items`] and [`Outline::all`] return them.
-#[derive(Drop)]
+#[derive(Debug, Drop)]
 pub struct Entries<'a> {
     // The next entry, and those after it.
     rest: &'a [Entry],

@@ -6,6 +6,7 @@
 #![tactic(auto)]
 
 mod building;
+mod canonical;
 pub mod entry;
 pub mod entry_builder;
 mod header_reading;
@@ -17,5 +18,6 @@ pub mod listing;
 pub mod outline;
 mod outline_reading;
 pub mod signed;
+pub mod strict;
 pub mod triple;
 pub mod value;

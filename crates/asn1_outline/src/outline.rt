@@ -24,7 +24,7 @@ use crate::entry::Entry;
 ///     outline.entries().iter().map(|entry| entry.depth).max()
 /// }
 /// ```
-#[derive(Drop)]
+#[derive(Debug, Drop)]
 pub struct Outline<'a> {
     pub(crate) octets: &'a [u8],
     pub(crate) entries: Vec<Entry>,

@@ -1,10 +1,10 @@
--- For `headers::Headers::read`: what it returns is right (`accepts`, `refuses`) and its result keeps the invariant of
--- its type.
+-- For `headers::Headers::from_der`: what it returns is right (`accepts`, `refuses`) and its result keeps the invariant
+-- of its type.
 use Rattle.std.proofs.Common.{◌<◌, ◌^◌, length, inl, inr, ◌∙◌, ap, arith}
 use Rattle.std.proofs.lemmas.Grind.{merely}
 use Rattle.asn1_outline.specs.Shapes.{entries_of}
 use Rattle.asn1_outline.proofs.ShapesAlone.{FirstHeaderFaultAt-unique, HasShapes-unique, HasShapes-no_fault}
-use Rattle.asn1_outline.proofs.headers.Headers.read.Goals as goal
+use Rattle.asn1_outline.proofs.headers.Headers.from_der.Goals as goal
 
 pub returns-in-Ok-clause-accepts : goal.returns-in-Ok-clause-accepts
 returns-in-Ok-clause-accepts c all h =

@@ -1,0 +1,15 @@
+-- For `canonical::is_canonical_universal`: what it returns is right.
+use Rattle.asn1_outline.proofs.CanonicalEntries.{HasCanonicalAt-group, HasCanonicalAt-leaf}
+use Rattle.asn1_outline.proofs.canonical.is_canonical_universal.Goals as goal
+
+pub returns-then-is_group_tag : goal.returns-then-is_group_tag
+returns-then-is_group_tag c constructed =
+    let r = c.args.entry.now in
+    HasCanonicalAt-group c.args.octets.now r c.requires.shortest
+    (c.is_group_tag.ensures c.if-is_group_tag.true) constructed
+
+pub returns : goal.returns
+returns c is_true =
+    let r = c.args.entry.now in
+    HasCanonicalAt-leaf c.args.octets.now c.contents_in.result.now r c.requires.shortest c.if-entry.false
+    c.contents_in.ensures (c.are_leaf_contents_canonical.ensures is_true)

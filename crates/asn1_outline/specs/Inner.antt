@@ -1,0 +1,2 @@
+-- What private contracts name, but no public contract.
+pub mod InEntries
