@@ -17,13 +17,13 @@ use Rattle.asn1_blocks.proofs.Slices.{end_before-encodes, middle-contents, middl
 use Rattle.asn1_der.specs.Der.{IsDer, IsDerEncoding}
 use Rattle.asn1_der.specs.Steps.{AreDer}
 use Rattle.asn1_der.proofs.DerEncodings.{IsWhole-der, AreDer-first}
-use Rattle.simple_asn1.specs.Canonical.{all_canonical, canonical, shortest_encoding}
-use Rattle.simple_asn1.proofs.Placed.{length-le_shortest_encoding, Encoding-shortest_encoding}
-use Rattle.simple_asn1.proofs.Strict.{IsEncoding-canonical}
+use Rattle.asn1_writing.specs.Canonical.{all_canonical, canonical, shortest_encoding}
+use Rattle.asn1_writing.proofs.Placed.{length-le_shortest_encoding, Encoding-shortest_encoding}
+use Rattle.asn1_writing.proofs.CanonicalDocuments.{IsEncoding-canonical}
 use Rattle.asn1_laws.specs.Spellings.{HasNoOtherSpelling, is_written_otherwise}
 use Rattle.asn1_laws.proofs.Encodings.{length-contents-lt, IsRightAlone-group, IsRightAlone-leaf}
 use Rattle.asn1_laws.proofs.Kept.{LeafContents-plain, is_written_otherwise-leaf_contents}
-use Rattle.simple_asn1.proofs.Writable.{AreOctets-first, AreOctets-second, AreOctets-contents}
+use Rattle.asn1_writing.proofs.Writable.{AreOctets-first, AreOctets-second, AreOctets-contents}
 
 -- the leaf from an offset to an end is not written otherwise
 abbrev IsPlain : List ℕ → ℕ → Leaf → ℕ → Type 0

@@ -11,9 +11,9 @@ use Rattle.asn1_blocks.specs.declared.block.GroupKind.TheVariants.{Sequence, Set
 use Rattle.asn1_der.specs.Der.{AreDerEncodings, IsDer, IsDerEncoding, IsShortest, is_constructed_type, is_reserved, more_encodings, no_encodings, of_constructed_not_universal, of_constructed_type, of_primitive_type}
 use Rattle.asn1_der.specs.Steps.{AreDer, IsWhole}
 use Rattle.asn1_der.proofs.DerEncodings.{IsWhole-der, IsDerEncoding-whole, AreDer-first}
-use Rattle.simple_asn1.specs.Canonical.{all_canonical, canonical, shortest_encoding}
-use Rattle.simple_asn1.proofs.Placed.{canonical-not_empty, length-le_shortest_encoding, header_size, Encoding-shortest_encoding}
-use Rattle.simple_asn1.proofs.Strict.{IsEncoding-canonical}
+use Rattle.asn1_writing.specs.Canonical.{all_canonical, canonical, shortest_encoding}
+use Rattle.asn1_writing.proofs.Placed.{canonical-not_empty, length-le_shortest_encoding, header_size, Encoding-shortest_encoding}
+use Rattle.asn1_writing.proofs.CanonicalDocuments.{IsEncoding-canonical}
 use Rattle.asn1_laws.specs.DerTrees.{AreDerTrees, IsDerTree, each_canonical}
 use Rattle.asn1_laws.proofs.Encodings.{IsRightAlone-leaf}
 use Rattle.asn1_laws.proofs.WrittenLeaves.{is_der_leaf-leaf_contents, HasDerContents-leaf_contents}

@@ -9,7 +9,7 @@ use Rattle.asn1_blocks.specs.declared.block.GroupKind.TheVariants.{Sequence, Set
 use Rattle.asn1_der.specs.Contents.{are_bmp, are_universal}
 use Rattle.asn1_der.specs.Der.{AreDerEncodings, IsInOrder, IsRightAlone}
 use Rattle.asn1_der.specs.Padding.{last_octet}
-use Rattle.simple_asn1.specs.Canonical.{canonical}
+use Rattle.asn1_writing.specs.Canonical.{canonical}
 
 -- a bit or more (8.6.2.3: without bits an octet is missing), at most 7 unused ones behind them (8.6.2.2), which are 0
 -- (11.2.1)

@@ -6,7 +6,7 @@ use Rattle.asn1_blocks.specs.Faithful.{AreFaithful, IsFaithful}
 use Rattle.asn1_blocks.specs.Grammar.{FirstFault, IsDocument}
 use Rattle.asn1_blocks.specs.Tree.{Tree, Trees, no_trees}
 use Rattle.asn1_der.specs.Der.{IsDer}
-use Rattle.simple_asn1.specs.Canonical.{all_canonical, canonical}
+use Rattle.asn1_writing.specs.Canonical.{all_canonical, canonical}
 use Rattle.asn1_laws.specs.DerTrees.{AreDerTrees, IsDerTree}
 use Rattle.asn1_laws.specs.Refused.{IsFaultOfDer}
 use Rattle.asn1_laws.specs.Spellings.{HasNoOtherSpelling}
