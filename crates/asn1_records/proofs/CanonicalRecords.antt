@@ -12,7 +12,7 @@ use Rattle.asn1_blocks.specs.Contents.{IsUnknownTag, group_tag}
 use Rattle.asn1_blocks.specs.Grammar.{EncodesAll, IsDocument, StaysAsItCame}
 use Rattle.asn1_blocks.specs.Tree.{Trees, explicit, group, leaf, more_trees, no_trees, unknown}
 use Rattle.simple_asn1.specs.Canonical.{all_canonical, shortest_encoding}
-use Rattle.simple_asn1.proofs.Placed.{Encoding-shortest_encoding, header_size}
+use Rattle.asn1_writing.proofs.Placed.{Encoding-shortest_encoding, header_size}
 use Rattle.asn1_records.specs.Inner.InRecords.{AreCanonicalBlocks, AreWrittenOfLeaf, HoldsBlocks, IsCanonicalBlock}
 
 -- the shortest encoding of contents octets that are written of a leaf is a canonical block

@@ -1,7 +1,6 @@
 mod Headers
 mod OffsetLeaves
 mod HeldBits
-mod Refusals
 pub mod TwoEach
 pub mod TwoEachHeader
 pub mod Outcomes

@@ -1,10 +1,9 @@
 // Entries of documents, or the number of their fault with its place.
 ghost use Rattle.std.specs.Prelude.{◌≡◌, ◌≢◌, ℕ, List, IfErr, IfOk, MatchOption, OnOk};
 ghost use Rattle.simple_asn1.specs.Canonical.{all_canonical};
-ghost use Rattle.simple_asn1.specs.Fault.{DecodeFault, OutOfMemoryOr, fault_of};
-ghost use Rattle.simple_asn1.specs.Grammar.{IsDocument, FirstFault};
+ghost use Rattle.simple_asn1.specs.Fault.{fault_of};
+ghost use Rattle.simple_asn1.specs.Grammar.{IsDocument};
 ghost use Rattle.simple_asn1.specs.ReadBack.{CanonicalDocument};
-ghost use Rattle.simple_asn1.specs.Strict.{StrictFault};
 ghost use Rattle.simple_asn1.specs.Tree.{Trees};
 ghost use Rattle.asn1_outline.specs.Entries.{AreEntriesOf, IsOutline};
 ghost use Rattle.asn1_outline.specs.declared.entry.Entry.{Entry};
@@ -15,16 +14,16 @@ ghost use Rattle.asn1_records.specs.Room.{IsNoMemory, OrNoMemory};
 ghost use Rattle.asn1_records.specs.Status.{status_of};
 ghost use Rattle.asn1_headers.specs.declared.error.ASN1DecodeErr.TheVariants.{OutOfMemory};
 
-use crate::status::{NO_MEMORY, NOT_CANONICAL, status_of_fault};
+use crate::status::{NO_MEMORY, status_of_fault};
 use asn1_headers::header::HeaderCount;
 use asn1_outline::entry::Entry;
 use asn1_outline::entry_builder::Found;
 use asn1_outline::header_walk::{check_headers, list_headers, list_headers_within};
 use asn1_outline::listing::{list, list_within};
-use simple_asn1::outline::check_canonical;
+use asn1_outline::strict::check_canonical;
+use asn1_writing::strict::strict_blocks;
 use simple_asn1::{
-    ASN1DecodeErr, LocatedErr, check_document, discard, from_der_strict, law_one_reading,
-    rewrite_unless_canonical,
+    ASN1DecodeErr, LocatedErr, check_document, discard, law_one_reading, rewrite_unless_canonical,
 };
 use std::alloc::Global;
 
@@ -119,7 +118,7 @@ fn check_strict(alloc: Global, octets: &[u8], found: &Found) -> Result<(), Fault
     if let Found::Entries(entries) = found {
         return match check_canonical(alloc, octets, entries) {
             Ok(()) => Ok(()),
-            Err(e) => Err(strict_fault(alloc, octets, &e)),
+            Err(located) => Err(fault_at(&located)),
         };
     }
     match canonical_octets(alloc, octets) {
@@ -134,40 +133,12 @@ fn check_blocks(alloc: Global, octets: &[u8]) -> Result<(), Fault>
     ensures document { OnOk result ((bs : Trees ℕ) × CanonicalDocument octets.now bs) }
     ensures fault { IfErr result (λ f. OrNoMemory (IsRefusedStrict octets.now) f.status f.offset) }
 {
-    match from_der_strict(alloc, octets) {
+    match strict_blocks(alloc, octets) {
         Ok(blocks) => {
             discard(blocks);
             Ok(())
         }
-        Err(e) => Err(strict_fault(alloc, octets, &e)),
-    }
-}
-
-// The fault of octets that were refused strictly.
-fn strict_fault(alloc: Global, octets: &[u8], e: &ASN1DecodeErr) -> Fault
-    requires { OutOfMemoryOr (StrictFault octets.now) e.now }
-    ensures { OrNoMemory (IsRefusedStrict octets.now) result.status result.offset }
-{
-    law_one_reading();
-    match e {
-        ASN1DecodeErr::NotCanonical(offset) => Fault {
-            status: NOT_CANONICAL,
-            offset: *offset,
-        },
-        ASN1DecodeErr::OutOfMemory => OUT_OF_MEMORY,
-        _ => fault_of_refused(alloc, octets),
-    }
-}
-
-// The fault of octets that are no document.
-fn fault_of_refused(alloc: Global, octets: &[u8]) -> Fault
-    requires { (fault : DecodeFault) × FirstFault octets.now fault }
-    ensures { OrNoMemory (IsRefused octets.now) result.status result.offset }
-{
-    law_one_reading();
-    match check(alloc, octets) {
-        Ok(()) => unreachable!(),
-        Err(fault) => fault,
+        Err(located) => Err(fault_at(&located)),
     }
 }
 
