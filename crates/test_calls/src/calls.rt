@@ -18,7 +18,6 @@ pub fn answer(alloc: Global, name: &str, octets: &[u8]) -> Answer {
         "signed" => documents::signed(alloc, octets),
         "made" => of(alloc, octets, made::survival),
         "decode_tag" => headers::tag(alloc, octets),
-        "Outline::from_der_counted" => documents::outline_count(alloc, octets),
         _ => tried::answer(alloc, name, octets),
     }
 }

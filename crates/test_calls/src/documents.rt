@@ -50,21 +50,6 @@ pub fn count(alloc: Global, octets: &[u8]) -> Answer {
     Ok(format!(in alloc; "{begun} begun, {read}")?)
 }
 
-// The number of headers begun, and that of entries, or the first fault with its place.
-pub fn outline_count(alloc: Global, octets: &[u8]) -> Answer {
-    let mut count = HeaderCount::new();
-    let read = Outline::from_der_counted(alloc, octets, &mut count);
-    let begun = count.count();
-    let read = match read {
-        Ok(outline) => format!(in alloc; "entries {}", outline.entries().len())?,
-        Err(located) => match Refusal::from(located) {
-            Refusal::Memory => return Err(ran_out(alloc, begun <= octets.len() as u64)),
-            refusal => refusal.text(alloc)?,
-        },
-    };
-    Ok(format!(in alloc; "{begun} begun, {read}")?)
-}
-
 // The canonical octets of the document.
 pub fn rewritten(alloc: Global, octets: &[u8]) -> Answer {
     let canonical = rewrite(alloc, octets)?;

@@ -22,11 +22,10 @@
 // `rewrite` by the canonical octets, `strict` as `read`, of canonical documents alone, `is_der` by `true` or `false`,
 // `departures` by the offset and the name of each rule of DER that is broken, or by `none`, and `signed` by the
 // content, the algorithm, the number of bits and the octets of the signature: `content 30 00, algorithm 1.2, 8 bits,
-// AB`. `first` is answered by the offsets of the first block of a tree and of an outline, `Outline::from_der_counted`
-// by the number of headers that were begun and that of entries, `decode_tag` by the tag, the index after it and the
-// number of headers, and `made` by what becomes of a block made by hand (`made.rt`). A call that refuses its octets is
-// answered by `refused`, the name of the fault, and after a space what the fault holds: its number in decimal, or its
-// characters as in the notation. A line that is anything else is answered by `badline`.
+// AB`. `first` is answered by the offsets of the first block of a tree and of an outline, `decode_tag` by the tag, the
+// index after it and the number of headers, and `made` by what becomes of a block made by hand (`made.rt`). A call that
+// refuses its octets is answered by `refused`, the name of the fault, and after a space what the fault holds: its
+// number in decimal, or its characters as in the notation. A line that is anything else is answered by `badline`.
 use crate::calls::answer;
 use crate::refusal::{Refusal, ran_out};
 use der_io::split_line;
