@@ -33,13 +33,13 @@ BEGIN, END = "<!-- made by checks/run calling -->\n", "<!-- end -->\n"
 SECTIONS = [
     ("Reading into blocks", "simple_asn1", "Document from_der from_der_located from_der_strict from_der_counted"
      " HeaderCount"),
-    ("Reading without blocks", "simple_asn1", "check_document Outline outline_strict Entry Entries Headers"),
+    ("Reading without blocks", "simple_asn1", "check_document Outline Entry Entries Headers"),
     ("DER or not", "simple_asn1", "is_der departures Departure Rule"),
     ("Blocks", "simple_asn1", "ASN1Block ASN1Class items_of Items all_blocks discard encoding_at sequence_items"),
     ("Making blocks", "simple_asn1", "build::*"),
     ("Writing", "simple_asn1", "to_der to_der_faithful rewrite rewrite_unless_canonical"),
     ("Numbers and object identifiers", "simple_asn1", "BigInt BigUint OID oid FromBigUint"),
-    ("Errors", "simple_asn1", "ASN1DecodeErr ASN1EncodeErr FaithfulErr Unfaithful LocatedErr"),
+    ("Errors", "simple_asn1", "ASN1DecodeErr ASN1EncodeErr FaithfulErr UnfaithfulErr LocatedErr"),
     ("Signed triples", "simple_asn1", "read_signed SignedTriple TripleErr"),
     ("Types of your own", "simple_asn1", "FromASN1 FromASN1WithBody ToASN1 RoundTrip der_decode der_encode round_trip"
      " TripFault Point PointErr"),
@@ -221,12 +221,28 @@ def derived(lines, at):
     return found
 
 
+def traits_in(crate):
+    """The traits that each type of a crate has, derived or by an `impl`."""
+    found = {}
+    for path in (TOP / "crates" / crate / "src").rglob("*.rt"):
+        lines = path.read_text().splitlines()
+        for at, line in enumerate(lines):
+            item, impl = ITEM.match(line), IMPL.match(line)
+            if item:
+                traits = derived(lines, at)
+                found.setdefault(item[2], set()).update(traits, ["Display"] if "Error" in traits else [])
+            elif impl and impl[1]:
+                found.setdefault(impl[2], set()).add(impl[1].removeprefix("fmt::"))
+    return {name: ", ".join(f"`{it}`" for it in sorted(traits - {"Model"})) for name, traits in found.items()}
+
+
 def ghosts_of(lines):
     return [it[1] for it in map(GHOST.match, lines) if it and it[1] not in ("Value", "view", "invariant")]
 
 
 def items_in(crate, exported):
     """The public types and calls of a crate, in the order of its files."""
+    traits = traits_in(crate)
     for path in sorted((TOP / "crates" / crate / "src").rglob("*.rt"), key=lambda it: (len(it.parts), it)):
         source = path.read_text()
         lines, owner, kind, doc = source.splitlines(), None, None, []
@@ -243,6 +259,8 @@ def items_in(crate, exported):
             elif item and exported.get(f"{path.stem}::{item[2]}") == crate:
                 yield top_item(item, f"{path.stem}::{item[2]}", lines, at, doc, source)
             elif item and exported.get(item[2]) == crate:
+                if traits.get(item[2]):
+                    doc += ["", "# Traits", traits[item[2]] + "."]
                 yield top_item(item, item[2], lines, at, doc, source)
                 if item[1] == "trait":
                     owner, kind = item[2], "trait"
@@ -395,9 +413,10 @@ class Calls:
             text.append(line)
         joined = re.sub(r"\n{3,}", "\n\n", "\n".join(text)).strip()
         joined = re.sub(r"(\*\*\w+\.\*\*)\n(?=\S)", r"\1 ", joined)
-        return [line for part in re.split(r"(?s)(```.*?```)", joined) for line in (
+        lines = [line for part in re.split(r"(?s)(```.*?```)", joined) for line in (
             part.splitlines() if part.startswith("```") else
             "\n\n".join("\n".join(wrapped(it)) for it in part.split("\n\n")).splitlines())]
+        return [line for before, line in zip([None, *lines], lines) if line or before != ""]
 
 
 def fenced(language, lines):
