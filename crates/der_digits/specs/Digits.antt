@@ -28,37 +28,35 @@ abbrev pub begins_space : List ℕ → Bool
 begins_space [] = true
 begins_space (b ∷ text) = is_ascii_whitespace b
 
--- the text comes in columns as `od -t x1` prints them: an offset of seven octal digits, and pairs of hex digits
-abbrev pub has_octets : List ℕ → Bool
-has_octets text = begins (codes "0000000 ") text && begins_space (drop 10 text)
-
--- the text comes in columns as `od -A x -t x1` prints them: an offset of six hex digits, and pairs of hex digits
-abbrev pub has_hex_offsets : List ℕ → Bool
-has_hex_offsets text = begins (codes "000000 ") text && begins_space (drop 9 text)
+-- a pair of digits stands behind this offset, as `od -t x1` prints it
+abbrev pub has_pairs : List ℕ → List ℕ → Bool
+has_pairs offset text = begins offset text && begins_space (drop 2 (drop (length offset) text))
 
 -- a binary digit
-abbrev pub is_binary : ℕ → Bool
-is_binary b = b == 48 || b == 49
+abbrev pub is_bit : ℕ → Bool
+is_bit b = nat_le 48 b && nat_le b 49
 
--- the text comes in columns of bits, as `xxd -b` prints them: eight binary digits for an octet
+-- eight bits stand behind the offset, as `xxd -b` prints an octet
 abbrev pub has_bits : List ℕ → Bool
 has_bits text =
     begins (codes "00000000: ") text
-    && (nat_le 18 (length text) && (list_all is_binary (take 8 (drop 10 text)) && begins_space (drop 18 text)))
+    && (nat_le 18 (length text)
+    && (list_all is_bit (take 8 (drop 10 text)) && begins_space (drop 18 text)))
 
--- the text comes in columns, as `xxd`, `hexdump -C` and `od -t x1` print them: offset, digits, and maybe characters
+-- the text comes in columns, as `xxd`, `hexdump -C` and `od -t x1` print them: an offset, digits, and maybe characters.
+-- `od` prints seven octal digits of an offset, or six hex digits
 abbrev pub has_columns : List ℕ → Bool
 has_columns text =
     begins (codes "00000000: ") text
     || (begins (codes "00000000  ") text && list_any (λ b. b == vertical_bar) text)
-    || (has_octets text || has_hex_offsets text)
+    || (has_pairs (codes "0000000 ") text || has_pairs (codes "000000 ") text)
 
 -- the text begins with an offset, and then comes in another way, as that of `hexdump`, `od` and `xxd -b`: in words
 -- whose octets are turned round, in octal digits or in bits
 abbrev pub has_other_columns : List ℕ → Bool
 has_other_columns text =
-    (begins (codes "0000000 ") text && not (has_octets text))
-    || ((begins (codes "000000 ") text && not (has_hex_offsets text)) || has_bits text)
+    (begins (codes "0000000 ") text && not (has_pairs (codes "0000000 ") text))
+    || ((begins (codes "000000 ") text && not (has_pairs (codes "000000 ") text)) || has_bits text)
 
 -- the offset in a line: the hex digits at its front
 abbrev pub offset_of : List ℕ → List ℕ

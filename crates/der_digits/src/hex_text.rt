@@ -3,20 +3,22 @@ ghost use Rattle.std.specs.Prelude.{◌≡◌, ◌++◌, ℕ, List, if◌then◌
 ghost use Rattle.std.specs.Iterator.{YieldsFirst, item_count};
 ghost use Rattle.std.specs.List.{list_all};
 ghost use Rattle.der_digits.specs.Decoded.{HasRead, IsRead};
-ghost use Rattle.der_digits.specs.Digits.{begins_prefix, begins_space, column_behind, column_of, digits_of, has_bits, has_columns, has_hex_offsets, has_octets, has_other_columns, is_binary, is_separator, offset_of, without_separators};
+ghost use Rattle.der_digits.specs.Digits.{begins_prefix, begins_space, column_behind, column_of, digits_of, has_bits, has_columns, has_other_columns, has_pairs, is_bit, is_separator, offset_of, without_separators};
 ghost use Rattle.der_digits.specs.Spelled.{IsSpelling};
 ghost use Rattle.der_digits.specs.Symbols.{symbols_left};
 ghost use Rattle.der_io.specs.Lines.{lines_of};
 
 use crate::hex_decoder::{HexDecoder, Spelling};
-use crate::lines::LineIter;
+use crate::lines::Lines;
 use crate::search::{behind, part_before};
 use std::alloc::{AllocError, Global};
 
-// Where the first pair of digits ends in what `od -t x1` and `od -A x -t x1` print.
-const OCTAL_PAIR_END: usize = 10;
+// The first offset in columns of octets: of `xxd`, of `od` by itself, and of `od -A x`.
+const XXD_OFFSET: &[u8] = b"00000000: ";
 
-const HEX_PAIR_END: usize = 9;
+pub(crate) const OCTAL_OFFSET: &[u8] = b"0000000 ";
+
+const HEX_OFFSET: &[u8] = b"000000 ";
 
 // Where the first eight bits stand in what `xxd -b` prints.
 const BITS_START: usize = 10;
@@ -33,7 +35,7 @@ pub fn spelling_in(alloc: Global, text: &[u8]) -> Result<Spelling, AllocError>
 {
     let in_columns = is_in_columns(text);
     let mut decoder = HexDecoder::new(alloc);
-    for line in LineIter(text) {
+    for line in Lines::of(text) {
         if !read_symbols(digits_part(in_columns, line), &mut decoder)? {
             return Ok(Spelling::Nothing);
         }
@@ -58,55 +60,42 @@ pub(crate) fn read_symbols(text: &[u8], decoder: &mut HexDecoder) -> Result<bool
 pub fn is_in_columns(text: &[u8]) -> bool
     ensures { result ≡ has_columns text.now }
 {
-    text.starts_with(b"00000000: ")
+    text.starts_with(XXD_OFFSET)
         || (text.starts_with(b"00000000  ") && text.contains(&b'|'))
-        || has_octets(text)
-        || has_hex_offsets(text)
-}
-
-// Whether the text comes in columns as `od -t x1` prints them.
-pub(crate) fn has_octets(text: &[u8]) -> bool
-    ensures { result ≡ has_octets text.now }
-{
-    text.starts_with(b"0000000 ") && begins_space(behind(OCTAL_PAIR_END, text))
-}
-
-// Whether the text comes in columns as `od -A x -t x1` prints them.
-fn has_hex_offsets(text: &[u8]) -> bool
-    ensures { result ≡ has_hex_offsets text.now }
-{
-    text.starts_with(b"000000 ") && begins_space(behind(HEX_PAIR_END, text))
-}
-
-// Whether the text comes in columns of bits, as `xxd -b` prints them.
-fn has_bits(text: &[u8]) -> bool
-    ensures { result ≡ has_bits text.now }
-{
-    text.starts_with(b"00000000: ")
-        && text.len() >= BITS_END
-        && are_all_binary(&text[BITS_START..BITS_END])
-        && begins_space(&text[BITS_END..])
-}
-
-fn are_all_binary(text: &[u8]) -> bool
-    ensures { result ≡ list_all is_binary text.now }
-{
-    text.iter().all(|b| is_binary(*b))
-}
-
-fn is_binary(b: u8) -> bool
-    ensures { result ≡ is_binary b }
-{
-    b == b'0' || b == b'1'
+        || has_pairs(OCTAL_OFFSET, text)
+        || has_pairs(HEX_OFFSET, text)
 }
 
 /// Whether the text comes in columns of another kind, as `hexdump` and `od` print them by default, and `xxd -b`.
 pub fn has_other_columns(text: &[u8]) -> bool
     ensures { result ≡ has_other_columns text.now }
 {
-    (text.starts_with(b"0000000 ") && !has_octets(text))
-        || (text.starts_with(b"000000 ") && !has_hex_offsets(text))
+    (text.starts_with(OCTAL_OFFSET) && !has_pairs(OCTAL_OFFSET, text))
+        || (text.starts_with(HEX_OFFSET) && !has_pairs(HEX_OFFSET, text))
         || has_bits(text)
+}
+
+// Whether a pair of digits stands behind this offset, as `od -t x1` prints it.
+pub(crate) fn has_pairs(offset: &[u8], text: &[u8]) -> bool
+    ensures { result ≡ has_pairs offset.now text.now }
+{
+    text.starts_with(offset) && begins_space(behind(2, behind(offset.len(), text)))
+}
+
+// Whether the text comes in columns of bits, as `xxd -b` prints them.
+fn has_bits(text: &[u8]) -> bool
+    ensures { result ≡ has_bits text.now }
+{
+    text.starts_with(XXD_OFFSET)
+        && text.len() >= BITS_END
+        && are_bits(&text[BITS_START..BITS_END])
+        && begins_space(&text[BITS_END..])
+}
+
+fn are_bits(text: &[u8]) -> bool
+    ensures { result ≡ list_all is_bit text.now }
+{
+    text.iter().all(|b| (b'0'..=b'1').contains(b))
 }
 
 fn begins_space(text: &[u8]) -> bool

@@ -6,9 +6,9 @@ ghost use Rattle.std.specs.List.{list_all};
 ghost use Rattle.der_digits.specs.Layouts.{has_value, leaves_out, some_left_out};
 ghost use Rattle.der_io.specs.Lines.{lines_of};
 
-use crate::hex_decoder::{HexDecoder, Spelling};
-use crate::hex_text::{digits_column, has_octets, offset_of, read_symbols};
-use crate::lines::LineIter;
+use crate::hex_decoder::HexDecoder;
+use crate::hex_text::{OCTAL_OFFSET, digits_column, has_pairs, offset_of, read_symbols};
+use crate::lines::Lines;
 use crate::search::{contains, without_indent};
 use std::alloc::{AllocError, Global};
 use std::str;
@@ -34,7 +34,7 @@ fn is_blank(text: &[u8]) -> bool
 pub fn are_some_left_out(text: &[u8]) -> bool
     ensures { result ≡ some_left_out (lines_of text.now) }
 {
-    for line in LineIter(text) {
+    for line in Lines::of(text) {
         if leaves_out(line) {
             return true;
         }
@@ -44,11 +44,11 @@ pub fn are_some_left_out(text: &[u8]) -> bool
 
 /// The octets of a text in columns, with those of lines that are left out, if they agree with their offsets.
 pub fn columns_octets(alloc: Global, text: &[u8]) -> Result<Option<Vec<u8>>, AllocError> {
-    let is_octal = has_octets(text);
+    let is_octal = has_pairs(OCTAL_OFFSET, text);
     let mut octets = Vec::new(alloc);
     let mut last = Vec::new(alloc);
     let mut is_left_out = false;
-    for line in LineIter(text) {
+    for line in Lines::of(text) {
         if leaves_out(line) {
             is_left_out = true;
         } else if let Some(offset) = offset_in(is_octal, line) {
@@ -112,10 +112,7 @@ pub fn source_octets(alloc: Global, text: &[u8]) -> Result<Option<Vec<u8>>, Allo
             return Ok(None);
         }
     }
-    match decoder.finish() {
-        Spelling::Octets(octets) => Ok(Some(octets)),
-        Spelling::Odd | Spelling::Nothing => Ok(None),
-    }
+    Ok((!decoder.octets.is_empty()).then_some(decoder.octets))
 }
 
 // What stands between the first `=`, if there is one, and the next `;`, and what stands behind that.

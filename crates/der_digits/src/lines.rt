@@ -1,14 +1,32 @@
 // Lines of a text, one after another.
+ghost use Rattle.std.specs.Prelude.{◌≡◌};
 ghost use Rattle.std.specs.Iterator.{YieldsFirstRef, item_count};
 ghost use Rattle.der_digits.specs.Lines.{lines_left};
 
 use der_io::split_line;
 
 /// The lines of a text.
-#[derive(Drop)]
-pub struct LineIter<'a>(pub &'a [u8]);
+#[derive(Clone, Copy, Drop)]
+pub struct Lines<'a> {
+    /// What is still to be read.
+    pub rest: &'a [u8],
+    /// How many lines were read: the number of the last one, the first being 1.
+    pub count: usize,
+}
 
-impl<'a> Iterator for LineIter<'a> {
+impl<'a> Lines<'a> {
+    /// All lines of a text.
+    pub fn of(text: &'a [u8]) -> Lines<'a>
+        ensures { result.rest.now ≡ text.now }
+    {
+        Lines {
+            rest: text,
+            count: 0,
+        }
+    }
+}
+
+impl<'a> Iterator for Lines<'a> {
     type Item = &'a [u8];
 
     ghost next_gives = { YieldsFirstRef lines_left };
@@ -16,11 +34,12 @@ impl<'a> Iterator for LineIter<'a> {
     ghost remaining = { item_count lines_left };
 
     fn next(&mut self) -> Option<&'a [u8]> {
-        if self.0.is_empty() {
+        if self.rest.is_empty() {
             return None;
         }
-        let (line, rest) = split_line(self.0);
-        self.0 = rest;
+        let (line, rest) = split_line(self.rest);
+        self.rest = rest;
+        self.count = self.count.saturating_add(1);
         Some(line)
     }
 }
