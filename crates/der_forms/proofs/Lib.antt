@@ -1,4 +1,3 @@
 mod Decoded
-mod LineFronts
 mod Numbers
 mod Utf8

@@ -1,11 +1,11 @@
 -- The form of an input, by its text.
-use Rattle.std.specs.Prelude.{ℕ, Bool, false, not, ◌==◌, ◌||◌, ◌&&◌, ◌+◌, ◌-◌, ◌*◌, nat_le, nat_lt, List, [], ◌∷◌, Option, Some, None, Result, Ok, Err, drop, take, fold, if◌then◌else◌, length}
-use Rattle.std.specs.Char.{is_ascii_hexdigit}
+use Rattle.std.specs.Prelude.{ℕ, Bool, false, not, ◌==◌, ◌||◌, ◌&&◌, ◌+◌, ◌-◌, ◌*◌, nat_le, nat_lt, List, [], ◌∷◌, Option, Some, None, drop, take, fold, if◌then◌else◌, length}
+use Rattle.std.specs.Char.{is_ascii_hexdigit, is_ascii_whitespace}
 use Rattle.std.specs.Result.{result_ok}
 use Rattle.std.specs.Str.{is_utf8}
 use Rattle.base64.specs.Engines.{standard, standard_pad_indifferent, url_safe_pad_indifferent}
 use Rattle.base64.specs.GeneralPurpose.{decode_of as decode_base64}
-use Rattle.base64.specs.declared.decode.DecodeError.{DecodeError}
+use Rattle.der_io.specs.Characters.{space}
 use Rattle.der_io.specs.Lines.{lines_of}
 use Rattle.der_forms.specs.Forms.{InputKind, objects, unknown_text, plain_octets, spelled, has_object, without_mark, without_spaces, is_printed}
 use Rattle.der_digits.specs.Search.{all_of_some, begins}
@@ -44,10 +44,10 @@ of_loose_base64 symbols =
     if_sequence (result_ok (decode_base64 standard_pad_indifferent symbols))
     (if_sequence (result_ok (decode_base64 url_safe_pad_indifferent symbols)) unknown_text)
 
--- base 64 with its padding is told from words by its first octet, that of a SEQUENCE
-abbrev pub of_base64 : Result (List ℕ) DecodeError → List ℕ → InputKind
-of_base64 (Ok octets) symbols = if begins (48 ∷ []) octets then spelled octets else unknown_text
-of_base64 (Err e) symbols = of_loose_base64 symbols
+-- base 64 with its padding, if it is that, is told from words by its first octet, that of a SEQUENCE
+abbrev pub of_base64 : Option (List ℕ) → List ℕ → InputKind
+of_base64 (Some octets) symbols = if begins (48 ∷ []) octets then spelled octets else unknown_text
+of_base64 None symbols = of_loose_base64 symbols
 
 -- the form of hex digits, of which one may be left over
 abbrev pub of_hex_digits : Option (List ℕ) → InputKind
@@ -64,7 +64,7 @@ abbrev pub of_symbols : List ℕ → InputKind
 of_symbols text =
     if_digits (digits_of (has_columns text) (lines_of text))
     (if has_value text then unknown_text
-    else of_base64 (decode_base64 standard (without_spaces text)) (without_spaces text))
+    else of_base64 (result_ok (decode_base64 standard (without_spaces text))) (without_spaces text))
 
 -- the form of a text, which columns with lines left out are not told of
 abbrev pub form_of_text : List ℕ → InputKind
@@ -73,10 +73,9 @@ form_of_text text =
     else if has_columns text && some_left_out (lines_of text) then unknown_text
     else of_symbols text
 
--- a character of ASCII that is printed, or white space but a form feed, the identifier octet of a UTF8String; or an
--- octet of any other character
+-- no control character of ASCII, but white space. A form feed is the identifier octet of a UTF8String
 abbrev pub is_in_words : ℕ → Bool
-is_in_words b = nat_le 128 b || (is_printed b && not (b == 12))
+is_in_words b = (nat_le space b && not (b == 127)) || (is_ascii_whitespace b && not (b == 12))
 
 -- the octets are words in UTF-8
 abbrev pub are_words : List ℕ → Bool

@@ -71,17 +71,13 @@ behind_words place text =
     else if begins_end text then Ended
     else place
 
--- how many hyphens in a row stand in a label, up to five
-abbrev pub more_hyphens : ℕ → ℕ
-more_hyphens hyphens = if nat_lt hyphens 5 then hyphens + 1 else 5
-
+-- the place behind the first octet of a text that is in a label, behind so many hyphens in a row, up to five
 abbrev pub behind_label : ℕ → List ℕ → Place
 behind_label hyphens text =
     if begins (line_feed ∷ []) text then Blank
-    else if hyphens == 5 && begins_end text then Ended
-    else if begins (hyphen ∷ []) text then Label (more_hyphens hyphens)
-    else if nat_lt hyphens 5 then Label 0
-    else if begins_space text then Label hyphens else Words
+    else if nat_lt hyphens 5 then Label (if begins (hyphen ∷ []) text then hyphens + 1 else 0)
+    else if begins_end text then Ended
+    else if begins_space text || begins (hyphen ∷ []) text then Label hyphens else Words
 
 -- the place behind the first octet of the text
 abbrev pub place_behind : Place → List ℕ → Place

@@ -1,9 +1,9 @@
 // The line breaks of PEM that came on one line, or with its line breaks spelled.
-ghost use Rattle.std.specs.Prelude.{◌≡◌, ◌++◌, ◌||◌, codes, true, IfOk, OnOk};
+ghost use Rattle.std.specs.Prelude.{◌≡◌, ◌||◌, codes, true, IfOk};
 ghost use Rattle.std.specs.Char.{is_ascii_whitespace};
 ghost use Rattle.der_digits.specs.Search.{begins, begins_by};
 ghost use Rattle.der_forms.specs.Forms.{without_mark};
-ghost use Rattle.der_forms.specs.Texts.{behind_label as behind_label_is, behind_words as behind_words_is, broken, lacks_break as lacks_break_is, more_hyphens as more_hyphens_is, octet_or_break, place_behind as place_behind_is, unfolded as unfolded_is, with_breaks as with_breaks_are};
+ghost use Rattle.der_forms.specs.Texts.{behind_label as behind_label_is, behind_words as behind_words_is, lacks_break as lacks_break_is, octet_or_break, place_behind as place_behind_is, unfolded as unfolded_is, with_breaks as with_breaks_are};
 ghost use Rattle.der_forms.specs.declared.breaks.Place.TheVariants.{Blank as blank};
 
 use crate::lines::{BEGIN, END};
@@ -96,31 +96,20 @@ pub fn unfolded(alloc: Global, text: &[u8]) -> Result<Vec<u8>, AllocError>
     let mut place = Place::Blank;
     let mut rest = text;
     while !rest.is_empty() {
-        push_broken(lacks_break(place, rest), rest[0], &mut whole)?;
+        if lacks_break(place, rest) {
+            whole.push(b'\n')?;
+        }
+        whole.push(rest[0])?;
         place = place_behind(place, rest);
         rest = &rest[1..];
     }
     Ok(whole)
 }
 
-// Pushes an octet, behind a line break where one is wanting.
-fn push_broken(is_wanting: bool, b: u8, whole: &mut Vec<u8>) -> Result<(), AllocError>
-    ensures { OnOk result (whole.new.items ≡ whole.old.items ++ broken is_wanting b) }
-{
-    if is_wanting {
-        whole.extend_from_slice(&[b'\n', b])
-    } else {
-        whole.extend_from_slice(&[b])
-    }
-}
-
 fn begins_space(text: &[u8]) -> bool
     ensures { result ≡ begins_by is_ascii_whitespace text.now }
 {
-    match text.first() {
-        Some(b) => b.is_ascii_whitespace(),
-        None => false,
-    }
+    text.first().is_some_and(|b| b.is_ascii_whitespace())
 }
 
 // Whether a line break is wanting before the text.
@@ -170,26 +159,17 @@ fn behind_label(hyphens: u8, text: &[u8]) -> Place
 {
     if text.starts_with(b"\n") {
         Place::Blank
-    } else if hyphens == HYPHENS && text.starts_with(END) {
-        Place::Ended
-    } else if text.starts_with(b"-") {
-        Place::Label(more_hyphens(hyphens))
     } else if hyphens < HYPHENS {
-        Place::Label(0)
-    } else if begins_space(text) {
+        Place::Label(if text.starts_with(b"-") {
+            hyphens + 1
+        } else {
+            0
+        })
+    } else if text.starts_with(END) {
+        Place::Ended
+    } else if begins_space(text) || text.starts_with(b"-") {
         Place::Label(hyphens)
     } else {
         Place::Words
-    }
-}
-
-// One hyphen more, up to five.
-fn more_hyphens(hyphens: u8) -> u8
-    ensures { result ≡ more_hyphens_is hyphens }
-{
-    if hyphens < HYPHENS {
-        hyphens + 1
-    } else {
-        HYPHENS
     }
 }

@@ -1,12 +1,12 @@
 // Base 64 that is decoded while its lines are read, so that its symbols are not all held.
-ghost use Rattle.std.specs.Prelude.{◌≡◌, ◌%◌, length, IfOk, MatchOption, None, Ok};
+ghost use Rattle.std.specs.Prelude.{◌≡◌, ◌%◌, length, Err, IfOk, MatchResult, None, Ok, Some};
 ghost use Rattle.std.specs.Result.{result_ok};
 ghost use Rattle.base64.specs.Engines.{standard};
-ghost use Rattle.base64.specs.GeneralPurpose.{IsBytes, decode_of};
+ghost use Rattle.base64.specs.GeneralPurpose.{IsBytes, IsStrict, decode_of, encode_of};
 ghost use Rattle.der_forms.specs.Forms.{without_spaces};
 
-use crate::base64_text::{decode, symbols_of_octets};
-use base64::DecodeError;
+use base64::engine::general_purpose::{GeneralPurpose, STANDARD};
+use base64::{DecodeAllocError, DecodeError};
 use std::alloc::{AllocError, Global};
 
 // How many symbols are decoded at once, in whole groups of four.
@@ -23,7 +23,7 @@ pub struct Decoder {
 }
 
 impl Decoder {
-    ghost use Rattle.std.specs.Prelude.{◌++◌, ◌∷◌, [], MatchResult, OnOk};
+    ghost use Rattle.std.specs.Prelude.{◌++◌, ◌∷◌, [], OnOk};
     ghost use Rattle.der_forms.specs.Decoded.{symbols_read};
 
     // A decoder that has read no symbols.
@@ -63,7 +63,7 @@ impl Decoder {
     fn decode_front(&mut self, alloc: Global) -> Result<(), AllocError>
         ensures { OnOk result (symbols_read self.new ≡ symbols_read self.old) }
     {
-        match decode(alloc, &self.symbols)? {
+        match decode(alloc, &STANDARD, &self.symbols)? {
             Ok(octets) if octets.len() % 3 == 0 => {
                 self.octets.extend_from_slice(&octets)?;
                 self.symbols.clear();
@@ -73,45 +73,79 @@ impl Decoder {
         Ok(())
     }
 
-    // What all symbols spell, or how many of them stand before the one at fault.
-    pub fn finish(self, alloc: Global) -> Result<Result<Vec<u8>, usize>, AllocError>
+    // What all symbols spell, or all of them, and why they spell nothing.
+    pub fn finish(self, alloc: Global) -> Result<Result<Vec<u8>, NoBase64>, AllocError>
         ensures { IfOk result (λ decoded. MatchResult decoded
             (λ octets. decode_of standard (symbols_read self) ≡ Ok octets.items)
-            (λ _. result_ok (decode_of standard (symbols_read self)) ≡ None)) }
+            (λ e. (e.symbols.items ≡ symbols_read self)
+            × (result_ok (decode_of standard (symbols_read self)) ≡ None))) }
     {
         let mut octets = self.octets;
-        if let Ok(last) = decode(alloc, &self.symbols)? {
+        if let Ok(last) = decode(alloc, &STANDARD, &self.symbols)? {
             octets.extend_from_slice(&last)?;
             return Ok(Ok(octets));
         }
-        let mut symbols = symbols_of_octets(alloc, &octets)?;
+        let mut symbols = STANDARD.encode(alloc, &octets)?.into_bytes();
         symbols.extend_from_slice(&self.symbols)?;
-        match decode(alloc, &symbols)? {
+        match decode(alloc, &STANDARD, &symbols)? {
             Ok(octets) => Ok(Ok(octets)),
-            Err(fault) => Ok(Err(place_of(&fault, symbols.len()))),
+            Err(fault) => Ok(Err(NoBase64 { symbols, fault })),
         }
     }
 }
 
-// How many symbols stand before the one at fault, the last one where their number is at fault.
-fn place_of(fault: &DecodeError, count: usize) -> usize {
-    match fault {
-        DecodeError::InvalidByte(offset, _) | DecodeError::InvalidLastSymbol { offset, .. } =>
-            *offset,
-        DecodeError::InvalidLength(_) | DecodeError::InvalidPadding => count.saturating_sub(1),
+// Symbols that spell nothing.
+#[derive(Drop)]
+pub struct NoBase64 {
+    pub symbols: Vec<u8>,
+    fault: DecodeError,
+}
+
+impl NoBase64 {
+    // How many symbols stand before the one at fault, the last one where their number is at fault.
+    pub fn place(&self) -> usize {
+        match self.fault {
+            DecodeError::InvalidByte(offset, _) | DecodeError::InvalidLastSymbol { offset, .. } =>
+                offset,
+            DecodeError::InvalidLength(_) | DecodeError::InvalidPadding => self
+                .symbols
+                .len()
+                .saturating_sub(1),
+        }
     }
 }
 
-// What the symbols of a text spell, decoded in parts, if anything.
-pub fn octets_in(alloc: Global, text: &[u8]) -> Result<Option<Vec<u8>>, AllocError>
-    ensures { IfOk result (λ octets. MatchOption octets
-        (result_ok (decode_of standard (without_spaces text.now)) ≡ None)
-        (λ v. decode_of standard (without_spaces text.now) ≡ Ok v.items)) }
+// What the symbols of a text spell, decoded in parts, or these symbols where they spell nothing.
+pub fn octets_in(alloc: Global, text: &[u8]) -> Result<Result<Vec<u8>, Vec<u8>>, AllocError>
+    ensures { IfOk result (λ octets. MatchResult octets
+        (λ v. result_ok (decode_of standard (without_spaces text.now)) ≡ Some v.items)
+        (λ symbols. (symbols.items ≡ without_spaces text.now)
+        × (result_ok (decode_of standard (without_spaces text.now)) ≡ None))) }
 {
     let mut decoder = Decoder::new(alloc);
     decoder.read(alloc, text)?;
     match decoder.finish(alloc)? {
-        Ok(octets) => Ok(Some(octets)),
-        Err(_) => Ok(None),
+        Ok(octets) => Ok(Ok(octets)),
+        Err(e) => Ok(Err(e.symbols)),
+    }
+}
+
+// What the symbols spell in a form of base 64, or why they spell nothing.
+pub fn decode(
+    alloc: Global,
+    form: &GeneralPurpose,
+    symbols: &[u8],
+) -> Result<Result<Vec<u8>, DecodeError>, AllocError>
+    ensures decoded { IfOk result (λ decoded. MatchResult decoded
+        (λ octets. decode_of form.now symbols.now ≡ Ok octets.items)
+        (λ e. decode_of form.now symbols.now ≡ Err e)) }
+    ensures exact { IsStrict form.now → IfOk result (λ decoded. IfOk decoded (λ octets.
+        symbols.now ≡ encode_of form.now octets.items)) }
+    ensures bytes { IfOk result (λ decoded. IfOk decoded (λ octets. IsBytes octets.items)) }
+{
+    match form.decode(alloc, symbols) {
+        Ok(octets) => Ok(Ok(octets)),
+        Err(DecodeAllocError::OutOfMemory) => Err(AllocError),
+        Err(DecodeAllocError::DecodeError(e)) => Ok(Err(e)),
     }
 }

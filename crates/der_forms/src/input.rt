@@ -1,9 +1,9 @@
 // What an input is, and the document that it has.
-ghost use Rattle.std.specs.Prelude.{◌≡◌, ◌⊎◌, if◌then◌else◌, IfOk, IfErr, None, Some};
+ghost use Rattle.std.specs.Prelude.{◌≡◌, ◌⊎◌, IfOk, IfErr, None, Some};
 ghost use Rattle.base64.specs.GeneralPurpose.{decode_of as decode_base64};
 ghost use Rattle.base64.specs.Engines.{standard};
+ghost use Rattle.std.specs.Result.{result_ok};
 ghost use Rattle.std.specs.List.{list_all};
-ghost use Rattle.der_digits.specs.Layouts.{has_value};
 ghost use Rattle.der_digits.specs.Search.{all_of_some};
 ghost use Rattle.der_forms.specs.Forms.{is_printed, unknown_text, without_spaces};
 ghost use Rattle.der_forms.specs.Known.{are_words, form_is, form_of_text, is_in_words, is_sequence, length_fits, number_fits, of_base64, of_loose_base64, of_symbols};
@@ -11,15 +11,16 @@ ghost use Rattle.der_forms.specs.Objects.{IsReadAs, document_in as document_in_f
 ghost use Rattle.der_forms.specs.Shown.{shown};
 ghost use Rattle.der_forms.specs.declared.fault.FormFault.TheVariants.{OutOfMemory};
 
+use crate::decoder::{decode, octets_in};
 use crate::fault::FormFault;
 use crate::lines::{is_pem, without_mark};
-use crate::objects::{Objects, PemObject};
+use crate::objects::Objects;
 use crate::text::text_of;
-use crate::unknown::{fault_in_columns, fault_in_text};
-use crate::{base64_text, decoder};
+use crate::unknown::fault_in_text;
 use base64::engine::general_purpose::{STANDARD_PAD_INDIFFERENT, URL_SAFE_PAD_INDIFFERENT};
 use der_digits::{Spelling, hex_text, layouts};
 use std::alloc::{AllocError, Global};
+use std::str;
 
 /// What an input is.
 #[derive(Debug, Drop, PartialEq)]
@@ -59,12 +60,19 @@ fn text_form(alloc: Global, text: &[u8]) -> Result<InputForm, AllocError>
     if hex_text::has_other_columns(text) {
         Ok(InputForm::Unread(FormFault::OtherColumns))
     } else if hex_text::is_in_columns(text) && layouts::are_some_left_out(text) {
-        match layouts::columns_octets(alloc, text)? {
-            Some(octets) => Ok(InputForm::LaidOut(octets)),
-            None => Ok(InputForm::Unread(fault_in_columns(text))),
-        }
+        Ok(laid_out(layouts::columns_octets(alloc, text)?, text))
     } else {
         symbols_form(alloc, text)
+    }
+}
+
+// The form of text that has these octets in another layout, if it has any.
+fn laid_out(octets: Option<Vec<u8>>, text: &[u8]) -> InputForm
+    ensures { shown result ≡ unknown_text }
+{
+    match octets {
+        Some(octets) => InputForm::LaidOut(octets),
+        None => InputForm::Unread(fault_in_text(text)),
     }
 }
 
@@ -75,46 +83,34 @@ fn symbols_form(alloc: Global, text: &[u8]) -> Result<InputForm, AllocError>
     match hex_text::spelling_in(alloc, text)? {
         Spelling::Octets(octets) => Ok(InputForm::Spelled(octets)),
         Spelling::Odd => Ok(InputForm::Unread(FormFault::OddDigits)),
-        Spelling::Nothing => form_without_digits(alloc, text),
-    }
-}
-
-// The form of text with other symbols than hex digits.
-fn form_without_digits(alloc: Global, text: &[u8]) -> Result<InputForm, AllocError>
-    ensures { IfOk result (λ form. shown form ≡ (if has_value text.now then unknown_text
-        else of_base64 (decode_base64 standard (without_spaces text.now)) (without_spaces text.now))) }
-{
-    if !layouts::has_value(text) {
-        return base64_form(alloc, text);
-    }
-    match layouts::source_octets(alloc, text)? {
-        Some(octets) => Ok(InputForm::LaidOut(octets)),
-        None => Ok(InputForm::Unread(fault_in_text(text))),
+        Spelling::Nothing if layouts::has_value(text) => {
+            Ok(laid_out(layouts::source_octets(alloc, text)?, text))
+        }
+        Spelling::Nothing => base64_form(alloc, text),
     }
 }
 
 fn base64_form(alloc: Global, text: &[u8]) -> Result<InputForm, AllocError>
     ensures { IfOk result (λ form. shown form
-        ≡ of_base64 (decode_base64 standard (without_spaces text.now)) (without_spaces text.now)) }
+        ≡ of_base64 (result_ok (decode_base64 standard (without_spaces text.now))) (without_spaces text.now)) }
 {
-    match decoder::octets_in(alloc, text)? {
-        Some(octets) if octets.starts_with(&[0x30]) => Ok(InputForm::Spelled(octets)),
-        Some(_) => Ok(InputForm::Unread(fault_in_text(text))),
-        None => loose_base64_form(alloc, text),
+    match octets_in(alloc, text)? {
+        Ok(octets) if octets.starts_with(&[0x30]) => Ok(InputForm::Spelled(octets)),
+        Ok(_) => Ok(InputForm::Unread(fault_in_text(text))),
+        Err(symbols) => loose_base64_form(alloc, &symbols, text),
     }
 }
 
-// The form of base64 without its padding, or of base64url.
-fn loose_base64_form(alloc: Global, text: &[u8]) -> Result<InputForm, AllocError>
-    ensures { IfOk result (λ form. shown form ≡ of_loose_base64 (without_spaces text.now)) }
+// The form of text with these symbols: base64 without its padding, or base64url.
+fn loose_base64_form(alloc: Global, symbols: &[u8], text: &[u8]) -> Result<InputForm, AllocError>
+    ensures { IfOk result (λ form. shown form ≡ of_loose_base64 symbols.now) }
 {
-    let symbols = base64_text::without_spaces(alloc, text)?;
-    if let Some(octets) = base64_text::decode_by(alloc, &STANDARD_PAD_INDIFFERENT, &symbols)?
+    if let Ok(octets) = decode(alloc, &STANDARD_PAD_INDIFFERENT, symbols)?
         && is_sequence(&octets)
     {
         return Ok(InputForm::Spelled(octets));
     }
-    if let Some(octets) = base64_text::decode_by(alloc, &URL_SAFE_PAD_INDIFFERENT, &symbols)?
+    if let Ok(octets) = decode(alloc, &URL_SAFE_PAD_INDIFFERENT, symbols)?
         && is_sequence(&octets)
     {
         return Ok(InputForm::Spelled(octets));
@@ -170,20 +166,15 @@ fn is_printed_text(text: &[u8]) -> bool
 fn are_printed(text: &[u8]) -> bool
     ensures { result ≡ list_all is_printed text.now }
 {
-    text.iter().all(|b| may_be_printed(*b))
-}
-
-fn may_be_printed(b: u8) -> bool
-    ensures { result ≡ is_printed b }
-{
-    (b' '..=b'~').contains(&b) || b.is_ascii_whitespace()
+    text.iter()
+        .all(|b| (b' '..=b'~').contains(b) || b.is_ascii_whitespace())
 }
 
 // Whether the octets are words in UTF-8.
 fn are_words(octets: &[u8]) -> bool
     ensures { result ≡ are_words octets.now }
 {
-    are_all_in_words(octets) && std::str::from_utf8(octets).is_ok()
+    are_all_in_words(octets) && str::from_utf8(octets).is_ok()
 }
 
 fn are_all_in_words(octets: &[u8]) -> bool
@@ -202,7 +193,7 @@ fn are_in_words(octets: &[u8]) -> bool
 fn may_be_in_words(b: u8) -> bool
     ensures { result ≡ is_in_words b }
 {
-    b >= 0x80 || (may_be_printed(b) && b != 0x0C)
+    (b >= b' ' && b != 0x7F) || (b.is_ascii_whitespace() && b != 0x0C)
 }
 
 /// The octets of an input's document: its own, those it spells, or those of its first PEM object if that has its own
@@ -227,18 +218,6 @@ pub struct LabelledDocument {
     pub octets: Vec<u8>,
 }
 
-impl LabelledDocument {
-    // A document that is no object of PEM.
-    fn without(octets: Vec<u8>) -> LabelledDocument
-        ensures { result.octets ≡ octets }
-    {
-        LabelledDocument {
-            label: None,
-            octets,
-        }
-    }
-}
-
 /// The document whose octets [`document_of`] returns, with its label; or that of a source of C, or of columns with
 /// lines left out.
 ///
@@ -250,7 +229,10 @@ pub fn labelled_document_of(alloc: Global, input: Vec<u8>) -> Result<LabelledDoc
 {
     let text = text_of(alloc, input)?;
     match form_of(alloc, &text)? {
-        InputForm::LaidOut(octets) => Ok(LabelledDocument::without(octets)),
+        InputForm::LaidOut(octets) => Ok(LabelledDocument {
+            label: None,
+            octets,
+        }),
         form => document_in(alloc, form, text),
     }
 }
@@ -261,13 +243,17 @@ fn document_in(alloc: Global, form: InputForm, text: Vec<u8>) -> Result<Labelled
         document_in_form (shown form) text.items ≡ Some document.octets.items) }
     ensures fault { IfErr result (λ e. (e ≡ OutOfMemory) ⊎ (document_in_form (shown form) text.items ≡ None)) }
 {
-    match form {
-        InputForm::Pem => first_object(alloc, &text),
-        InputForm::Spelled(octets) => Ok(LabelledDocument::without(octets)),
-        InputForm::LaidOut(_) => Err(FormFault::LaidOut),
-        InputForm::Unread(fault) => Err(fault),
-        InputForm::Der => Ok(LabelledDocument::without(text)),
-    }
+    let octets = match form {
+        InputForm::Pem => return first_object(alloc, &text),
+        InputForm::Spelled(octets) => octets,
+        InputForm::LaidOut(_) => return Err(FormFault::LaidOut),
+        InputForm::Unread(fault) => return Err(fault),
+        InputForm::Der => text,
+    };
+    Ok(LabelledDocument {
+        label: None,
+        octets,
+    })
 }
 
 fn first_object(alloc: Global, input: &[u8]) -> Result<LabelledDocument, FormFault>
@@ -277,18 +263,13 @@ fn first_object(alloc: Global, input: &[u8]) -> Result<LabelledDocument, FormFau
     let Some(object) = Objects::of(alloc, input).next() else {
         return Err(FormFault::Text(1));
     };
-    let PemObject {
-        label,
-        octets,
-        bad_end,
-        ..
-    } = object?;
-    let octets = octets?;
-    if let Some((line, how)) = bad_end {
+    let object = object?;
+    let octets = object.octets?;
+    if let Some((line, how)) = object.bad_end {
         return Err(FormFault::BadEnd(line, how));
     }
     Ok(LabelledDocument {
-        label: Some(Vec::from_slice(alloc, label)?),
+        label: Some(Vec::from_slice(alloc, object.label)?),
         octets,
     })
 }

@@ -4,7 +4,6 @@
 //! alone. Of PEM, [`Objects`] are one object after another; [`document_of`] is for programs that want one document.
 #![tactic(auto)]
 
-mod base64_text;
 mod breaks;
 mod decoder;
 mod fault;

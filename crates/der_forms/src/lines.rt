@@ -1,12 +1,11 @@
 // Lines of an input, and which of them begin and end objects.
-ghost use Rattle.std.specs.Prelude.{◌≡◌, MatchOption, codes, false, true};
+ghost use Rattle.std.specs.Prelude.{◌≡◌, MatchOption, false, true};
 ghost use Rattle.std.specs.List.{list_all};
-ghost use Rattle.der_digits.specs.Search.{begins, without_indent};
 ghost use Rattle.der_forms.specs.Forms.{begins_object, has_object, is_text_octet, without_mark};
-ghost use Rattle.der_forms.specs.Objects.{end_label_in, ends_object, label_in};
+ghost use Rattle.der_forms.specs.Objects.{begun_in, end_label_in, ends_object, label_in};
 ghost use Rattle.der_io.specs.Lines.{lines_of};
 
-use der_digits::lines::LineIter;
+use der_digits::lines::Lines;
 use der_digits::search::{behind, part_before, without_indent};
 
 // How a line begins that begins an object.
@@ -17,26 +16,6 @@ pub const END: &[u8] = b"-----END ";
 
 // How the rest of such a line begins, behind the label.
 const HYPHENS: &[u8] = b"-----";
-
-// Lines that are still to be read.
-#[derive(Clone, Copy, Drop)]
-pub struct Lines<'a> {
-    pub rest: &'a [u8],
-    // how many lines were read before
-    pub before: usize,
-}
-
-impl<'a> Lines<'a> {
-    // All lines of an input, without a byte order mark.
-    pub fn of(input: &'a [u8]) -> Lines<'a>
-        ensures { result.rest.now ≡ without_mark input.now }
-    {
-        Lines {
-            rest: without_mark(input),
-            before: 0,
-        }
-    }
-}
 
 // The input without the byte order mark of UTF-8 at its front.
 pub fn without_mark(input: &[u8]) -> &[u8]
@@ -53,8 +32,8 @@ pub fn without_mark(input: &[u8]) -> &[u8]
 pub fn is_pem(text: &[u8]) -> bool
     ensures { result ≡ has_object (lines_of text.now) }
 {
-    for line in LineIter(text) {
-        if is_begin(line) {
+    for line in Lines::of(text) {
+        if label_of(line).is_some() {
             return true;
         }
         if !is_text(line) {
@@ -64,27 +43,6 @@ pub fn is_pem(text: &[u8]) -> bool
     false
 }
 
-// Whether a line begins an object.
-pub fn is_begin(line: &[u8]) -> bool
-    ensures { result ≡ begins_object line.now }
-{
-    without_indent(line).starts_with(BEGIN)
-}
-
-// Whether a line ends an object.
-pub fn is_end(line: &[u8]) -> bool
-    ensures { result ≡ ends_object line.now }
-{
-    without_indent(line).starts_with(END)
-}
-
-// Whether a line says that its object is encrypted.
-pub fn tells_encryption(line: &[u8]) -> bool
-    ensures { result ≡ begins (codes "Proc-Type: 4,ENCRYPTED") (without_indent line.now) }
-{
-    without_indent(line).starts_with(b"Proc-Type: 4,ENCRYPTED")
-}
-
 // The label in a line, if it begins an object.
 pub fn label_of(line: &[u8]) -> Option<&[u8]>
     ensures { MatchOption result (begins_object line.now ≡ false)
@@ -92,6 +50,20 @@ pub fn label_of(line: &[u8]) -> Option<&[u8]>
 {
     let label = without_indent(line).strip_prefix(BEGIN)?;
     Some(part_before(HYPHENS, label))
+}
+
+// What a line has from the words on that begin an object.
+pub fn begun_in(line: &[u8]) -> &[u8]
+    ensures { result.now ≡ begun_in line.now }
+{
+    behind(part_before(BEGIN, line).len(), line)
+}
+
+// Whether a line ends an object.
+pub fn is_end(line: &[u8]) -> bool
+    ensures { result ≡ ends_object line.now }
+{
+    without_indent(line).starts_with(END)
 }
 
 // The label in a line that ends an object.
@@ -104,11 +76,5 @@ pub fn end_label_of(line: &[u8]) -> &[u8]
 pub fn is_text(line: &[u8]) -> bool
     ensures { result ≡ list_all is_text_octet line.now }
 {
-    line.iter().all(|b| may_stand_in_text(*b))
-}
-
-fn may_stand_in_text(b: u8) -> bool
-    ensures { result ≡ is_text_octet b }
-{
-    b >= b' ' || b.is_ascii_whitespace()
+    line.iter().all(|b| *b >= b' ' || b.is_ascii_whitespace())
 }

@@ -1,20 +1,20 @@
 // The objects of PEM, one after another.
-ghost use Rattle.std.specs.Prelude.{◌≡◌, ◌<◌, ◌≤◌, ◌∷◌, ℕ, List, [], true, false, length, IfOk, MatchOption};
+ghost use Rattle.std.specs.Prelude.{◌≡◌, ◌<◌, ◌≤◌, ◌∷◌, [], codes, true, false, length, IfOk, MatchOption};
 ghost use Rattle.std.specs.Iterator.{at_most};
 ghost use Rattle.std.specs.Option.{option_map};
 ghost use Rattle.std.specs.Result.{result_ok};
+ghost use Rattle.der_digits.specs.Lines.{lines_left};
+ghost use Rattle.der_digits.specs.Search.{begins, without_indent};
 ghost use Rattle.der_forms.specs.Decoded.{symbols_read};
 ghost use Rattle.der_forms.specs.Forms.{without_spaces};
-ghost use Rattle.der_forms.specs.Objects.{bad_end_by, bad_end_in, ends_object, is_encrypted, object_in, objects_in, objects_of, octets_in, symbols_in, symbols_of, unless_openssh};
-ghost use Rattle.der_forms.specs.Shown.{Gives, objects_left, shown_object};
-ghost use Rattle.der_io.specs.Lines.{lines_of};
+ghost use Rattle.der_forms.specs.Objects.{bad_end_by, bad_end_in, is_encrypted, object_in, objects_in, objects_of, octets_in, symbols_in, symbols_of, unless_openssh};
+ghost use Rattle.der_forms.specs.Shown.{Gives, at_most_behind, at_most_left, objects_behind, objects_left, shown_object};
 
 use crate::decoder::Decoder;
 use crate::fault::{BadEnd, FormFault};
-use crate::lines::{BEGIN, Lines, end_label_of, is_end, label_of, tells_encryption};
-use der_digits::lines::LineIter;
-use der_digits::search::{contains, part_before};
-use der_io::split_line;
+use crate::lines::{BEGIN, begun_in, end_label_of, is_end, label_of, without_mark};
+use der_digits::lines::Lines;
+use der_digits::search::{contains, without_indent};
 use std::alloc::{AllocError, Global};
 
 /// An object of PEM.
@@ -36,6 +36,8 @@ pub struct PemObject<'a> {
 pub struct Objects<'a> {
     alloc: Global,
     lines: Lines<'a>,
+    // the label of an object that begins in the line which ended the last one
+    joined: Option<&'a [u8]>,
 }
 
 impl<'a> Objects<'a> {
@@ -45,26 +47,27 @@ impl<'a> Objects<'a> {
     {
         Objects {
             alloc,
-            lines: Lines::of(text),
+            lines: Lines::of(without_mark(text)),
+            joined: None,
         }
     }
 
     // The object with the label, in whose lines these begin.
     fn read(&mut self, label: &'a [u8]) -> Result<PemObject<'a>, AllocError>
         ensures object { IfOk result (λ object.
-            shown_object object ≡ object_in label.now (lines_of self.old.lines.rest.now)) }
-        ensures left { IfOk result (λ _.
-            objects_in true (lines_of self.old.lines.rest.now) ≡ objects_left self.new) }
-        ensures shorter { length self.new.lines.rest.now ≤ length self.old.lines.rest.now }
+            shown_object object ≡ object_in label.now (lines_left self.old.lines)) }
+        ensures left { IfOk result (λ _. objects_in true (lines_left self.old.lines) ≡ objects_left self.new) }
+        ensures shorter { at_most_left self.new ≤ length (lines_left self.old.lines) }
     {
+        self.joined = None;
         let lines = self.lines;
-        let body = read_body(self.alloc, label, lines)?;
-        let (bad_end, after) = (body.bad_end, body.after);
+        let body = read_body(self.alloc, label, &mut self.lines)?;
+        self.joined = body.joined;
+        let bad_end = body.bad_end;
         let octets = octets_of(self.alloc, body, lines)?;
-        self.lines = after;
         Ok(PemObject {
             label,
-            line: lines.before,
+            line: lines.count,
             octets,
             bad_end,
         })
@@ -76,31 +79,28 @@ impl<'a> Iterator for Objects<'a> {
 
     ghost next_gives = { Gives };
 
-    ghost remaining = { λ objects. at_most (length objects.lines.rest.now) };
+    ghost remaining = { λ objects. at_most (at_most_left objects) };
 
     fn next(&mut self) -> Option<Result<PemObject<'a>, AllocError>> {
-        let (label, lines) = find_object(self.lines)?;
-        self.lines = lines;
+        let label = match self.joined {
+            Some(label) => label,
+            None => next_label(&mut self.lines)?,
+        };
         Some(self.read(label))
     }
 }
 
-// The label of the next object, and the lines after the one that begins it.
-fn find_object<'a>(lines: Lines<'a>) -> Option<(&'a [u8], Lines<'a>)>
+// The label in the next line that begins an object.
+fn next_label<'a>(lines: &mut Lines<'a>) -> Option<&'a [u8]>
     ensures { MatchOption result
-        (objects_in false (lines_of lines.entry.rest.now) ≡ [])
-        (λ found. (objects_in false (lines_of lines.entry.rest.now)
-        ≡ object_in found.0.now (lines_of found.1.rest.now) ∷ objects_in true (lines_of found.1.rest.now))
-        × (length found.1.rest.now < length lines.entry.rest.now)) }
+        (objects_in false (lines_left lines.old) ≡ [])
+        (λ label. (objects_in false (lines_left lines.old)
+        ≡ object_in label.now (lines_left lines.new) ∷ objects_in true (lines_left lines.new))
+        × (length (lines_left lines.new) < length (lines_left lines.old))) }
 {
-    let mut rest = lines.rest;
-    let mut before = lines.before;
-    while !rest.is_empty() {
-        let (line, after) = split_line(rest);
-        rest = after;
-        before = before.saturating_add(1);
+    while let Some(line) = lines.next() {
         if let Some(label) = label_of(line) {
-            return Some((label, Lines { rest, before }));
+            return Some(label);
         }
     }
     None
@@ -112,64 +112,50 @@ struct Body<'a> {
     decoder: Decoder,
     is_encrypted: bool,
     bad_end: Option<(usize, BadEnd)>,
-    after: Lines<'a>,
+    // the label of an object that begins in the line which ends this one
+    joined: Option<&'a [u8]>,
 }
 
 // Reads the lines of an object with the label.
-fn read_body<'a>(alloc: Global, label: &[u8], lines: Lines<'a>) -> Result<Body<'a>, AllocError>
-    ensures symbols { IfOk result (λ body. symbols_read body.decoder ≡ symbols_in (lines_of lines.entry.rest.now)) }
-    ensures encrypted { IfOk result (λ body. body.is_encrypted ≡ is_encrypted (lines_of lines.entry.rest.now)) }
-    ensures after { IfOk result (λ body. objects_in true (lines_of lines.entry.rest.now)
-        ≡ objects_in false (lines_of body.after.rest.now)) }
-    ensures shorter { IfOk result (λ body. length body.after.rest.now ≤ length lines.entry.rest.now) }
+fn read_body<'a>(alloc: Global, label: &[u8], lines: &mut Lines<'a>) -> Result<Body<'a>, AllocError>
+    ensures symbols { IfOk result (λ body. symbols_read body.decoder ≡ symbols_in (lines_left lines.old)) }
+    ensures encrypted { IfOk result (λ body. body.is_encrypted ≡ is_encrypted (lines_left lines.old)) }
+    ensures after { IfOk result (λ body. objects_in true (lines_left lines.old)
+        ≡ objects_behind body.joined (lines_left lines.new)) }
+    ensures shorter { IfOk result (λ body.
+        at_most_behind body.joined (lines_left lines.new) ≤ length (lines_left lines.old)) }
+    ensures fewer { length (lines_left lines.new) ≤ length (lines_left lines.old) }
     ensures ending { IfOk result (λ body. option_map (λ end. end.1) body.bad_end
-        ≡ bad_end_in label.now (lines_of lines.entry.rest.now)) }
+        ≡ bad_end_in label.now (lines_left lines.old)) }
 {
+    let begin = lines.count;
     let mut decoder = Decoder::new(alloc);
     let mut is_encrypted = false;
-    let mut rest = lines.rest;
-    let mut before = lines.before;
-    while !rest.is_empty() {
-        let (line, after) = split_line(rest);
+    while let Some(line) = lines.next() {
         if is_end(line) {
             return Ok(Body {
                 decoder,
                 is_encrypted,
-                bad_end: bad_end_of(label, line, before.saturating_add(1)),
-                after: behind_end(Lines { rest, before }),
+                bad_end: bad_end_of(label, line, lines.count),
+                joined: label_of(begun_in(line)),
             });
         }
         is_encrypted = is_encrypted || tells_encryption(line);
         decoder.read(alloc, base64_in(line))?;
-        rest = after;
-        before = before.saturating_add(1);
     }
     Ok(Body {
         decoder,
         is_encrypted,
-        bad_end: Some((lines.before, BadEnd::Missing)),
-        after: Lines { rest, before },
+        bad_end: Some((begin, BadEnd::Missing)),
+        joined: None,
     })
 }
 
-// The lines behind the first of these, which ends an object. What begins another object in that line is one of them.
-fn behind_end<'a>(lines: Lines<'a>) -> Lines<'a>
-    requires some { 0 < length lines.rest.now }
-    requires ended { (line : List ℕ) (after : List (List ℕ)) → lines_of lines.rest.now ≡ line ∷ after
-        → ends_object line ≡ true }
-    ensures objects { objects_in false (lines_of result.rest.now) ≡ objects_in true (lines_of lines.entry.rest.now) }
-    ensures shorter { length result.rest.now ≤ length lines.entry.rest.now }
+// Whether a line says that its object is encrypted (RFC 1421).
+fn tells_encryption(line: &[u8]) -> bool
+    ensures { result ≡ begins (codes "Proc-Type: 4,ENCRYPTED") (without_indent line.now) }
 {
-    let (line, after) = split_line(lines.rest);
-    let begun = part_before(BEGIN, line).len();
-    if begun < line.len() {
-        let (_, rest) = lines.rest.split_at(begun);
-        return Lines { rest, ..lines };
-    }
-    Lines {
-        rest: after,
-        before: lines.before.saturating_add(1),
-    }
+    without_indent(line).starts_with(b"Proc-Type: 4,ENCRYPTED")
 }
 
 // How a line of this number ends an object with the label, if not as it should.
@@ -191,17 +177,17 @@ fn octets_of(
     body: Body<'_>,
     lines: Lines<'_>,
 ) -> Result<Result<Vec<u8>, FormFault>, AllocError>
-    requires symbols { symbols_read body.decoder ≡ symbols_in (lines_of lines.rest.now) }
-    requires encrypted { body.is_encrypted ≡ is_encrypted (lines_of lines.rest.now) }
+    requires symbols { symbols_read body.decoder ≡ symbols_in (lines_left lines) }
+    requires encrypted { body.is_encrypted ≡ is_encrypted (lines_left lines) }
     ensures { IfOk result (λ octets.
-        option_map (λ v. v.items) (result_ok octets) ≡ octets_in (lines_of lines.entry.rest.now)) }
+        option_map (λ v. v.items) (result_ok octets) ≡ octets_in (lines_left lines.entry)) }
 {
     if body.is_encrypted {
         return Ok(Err(FormFault::Encrypted));
     }
     match body.decoder.finish(alloc)? {
         Ok(octets) => Ok(unless_openssh(octets)),
-        Err(place) => Ok(Err(FormFault::NoBase64(line_of(lines, place)))),
+        Err(e) => Ok(Err(FormFault::NoBase64(line_of(lines, e.place())))),
     }
 }
 
@@ -223,16 +209,14 @@ fn base64_in(line: &[u8]) -> &[u8]
 }
 
 // The number of the line in which so many symbols stand before another.
-fn line_of(lines: Lines<'_>, place: usize) -> usize {
-    let mut number = lines.before;
+fn line_of(mut lines: Lines<'_>, place: usize) -> usize {
     let mut left = place;
-    for line in LineIter(lines.rest) {
-        number = number.saturating_add(1);
+    while let Some(line) = lines.next() {
         let symbols = base64_in(line).iter().filter(|b| !b.is_ascii_whitespace());
         match left.checked_sub(symbols.count()) {
             Some(fewer) => left = fewer,
             None => break,
         }
     }
-    number
+    lines.count
 }

@@ -1,5 +1,5 @@
 // An input as text.
-ghost use Rattle.std.specs.Prelude.{◌≡◌, ◌+◌, ◌*◌, if◌then◌else◌, string_bytes, IfOk};
+ghost use Rattle.std.specs.Prelude.{◌≡◌, string_bytes, IfOk};
 ghost use Rattle.der_forms.specs.Texts.{has_begin, if_text as if_text_is, in_utf8 as in_utf8_is, text_of as text_is, units_of};
 
 use crate::breaks::{is_in_lines, unfolded, with_breaks};
@@ -17,10 +17,7 @@ pub fn text_of(alloc: Global, input: Vec<u8>) -> Result<Vec<u8>, AllocError>
     ensures { IfOk result (λ text. text.items ≡ text_is input.items) }
 {
     let text = in_utf8(alloc, input)?;
-    if !has_begin(&text) {
-        return Ok(text);
-    }
-    if is_in_lines(&text) {
+    if !has_begin(&text) || is_in_lines(&text) {
         return Ok(text);
     }
     let broken = with_breaks(alloc, without_mark(&text))?;
@@ -65,24 +62,12 @@ fn units_of(alloc: Global, is_first: bool, octets: &[u8]) -> Result<Vec<u16>, Al
     let mut units = Vec::new(alloc);
     let mut rest = octets;
     while let [a, b, after @ ..] = rest {
-        units.push(unit_of(is_first, *a, *b))?;
+        let (high, low) = if is_first { (*a, *b) } else { (*b, *a) };
+        units.push(256 * u16::from(high) + u16::from(low))?;
         rest = after;
     }
-    match rest {
-        [a, ..] => {
-            units.push(u16::from(*a))?;
-            Ok(units)
-        }
-        [] => Ok(units),
+    if let [a] = rest {
+        units.push(u16::from(*a))?;
     }
-}
-
-fn unit_of(is_first: bool, a: u8, b: u8) -> u16
-    ensures { result ≡ (if is_first then 256 * a + b else 256 * b + a) }
-{
-    if is_first {
-        256 * u16::from(a) + u16::from(b)
-    } else {
-        256 * u16::from(b) + u16::from(a)
-    }
+    Ok(units)
 }

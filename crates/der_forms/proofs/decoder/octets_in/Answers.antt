@@ -1,5 +1,5 @@
 -- For `decoder::octets_in`: what it returns is right.
-use Rattle.std.proofs.Common.{◌≡◌, ◌++◌, ◌∙◌, None, Ok, ap, subst}
+use Rattle.std.proofs.Common.{◌≡◌, ◌++◌, ◌∙◌, None, Ok, Some, ap, subst}
 use Rattle.std.specs.Result.{result_ok}
 use Rattle.base64.specs.Engines.{standard}
 use Rattle.base64.specs.GeneralPurpose.{decode_of}
@@ -11,12 +11,14 @@ pub returns-in-Ok : goal.returns-in-Ok
 returns-in-Ok c =
     let decoded : decode_of standard (symbols_read c.read.new.self) ≡ Ok c.in-Ok.octets.items =
     rw c.in-Ok.is at c.in_ok-octets.ensures in
-    subst (λ z. decode_of standard z ≡ Ok c.in-Ok.octets.items)
-    (c.in_ok-read.ensures ∙ ap (λ z. z ++ without_spaces c.args.text.now) c.new-decoder.ensures) decoded
+    subst (λ z. result_ok (decode_of standard z) ≡ Some c.in-Ok.octets.items)
+    (c.in_ok-read.ensures ∙ ap (λ z. z ++ without_spaces c.args.text.now) c.new-decoder.ensures)
+    (ap result_ok decoded)
 
 pub returns-in-Err : goal.returns-in-Err
 returns-in-Err c =
-    let decoded : result_ok (decode_of standard (symbols_read c.read.new.self)) ≡ None =
+    let read = symbols_read c.read.new.self in
+    let (same, none) : (c.in-Err.e.symbols.items ≡ read) × (result_ok (decode_of standard read) ≡ None) =
     rw c.in-Err.is at c.in_ok-octets.ensures in
-    subst (λ z. result_ok (decode_of standard z) ≡ None)
-    (c.in_ok-read.ensures ∙ ap (λ z. z ++ without_spaces c.args.text.now) c.new-decoder.ensures) decoded
+    let all = c.in_ok-read.ensures ∙ ap (λ z. z ++ without_spaces c.args.text.now) c.new-decoder.ensures in
+    (same ∙ all, subst (λ z. result_ok (decode_of standard z) ≡ None) all none)
