@@ -1,6 +1,6 @@
 // The command, as `clap` has it.
 
-use clap::{Arg, ArgAction, Command};
+use clap::{Command, arg};
 use std::alloc::{AllocError, Global};
 
 // What `--version` prints after the name.
@@ -9,95 +9,37 @@ const VERSION: &str = "1.0.0";
 const ABOUT: &str =
     "Shows DER documents, such as certificates and keys, given as DER, PEM, hex digits or base64.";
 
-const FILES: &str = "Files to read, each in turn; `-`, or no file, is standard input";
-
-// The arguments, as help lists them: the name, the name of the value if there is one, and what help says.
-const ARGUMENTS: [(&str, Option<&str>, &str); 15] = [
-    (
-        "at",
-        Some("OFFSET"),
-        "Show only the block that begins at the offset, in bytes, also as 0x1a",
-    ),
-    (
-        "extract",
-        Some("OFFSET"),
-        "Write the bytes of the block that begins at the offset",
-    ),
-    (
-        "contents",
-        Some("OFFSET"),
-        "Write the contents of the block that begins at the offset",
-    ),
-    (
-        "value",
-        Some("OFFSET"),
-        "Write the bytes that the string at the offset holds, its segments joined",
-    ),
-    (
-        "strict",
-        None,
-        "Reject documents that are not DER, and list why, after showing them",
-    ),
-    ("full", None, "Do not cut values to 32 bytes"),
-    ("flat", None, "Do not expand nested DER"),
-    (
-        "depth",
-        Some("COUNT"),
-        "Hide blocks with more than COUNT blocks around them; 0 shows the outermost only",
-    ),
-    (
-        "oids",
-        Some("FILE"),
-        "Name object identifiers by a file of dumpasn1 first",
-    ),
-    (
-        "color",
-        Some("WHEN"),
-        "Color lines: always, never, or auto, on a terminal without NO_COLOR [default: auto]",
-    ),
-    ("plain", None, "Do not name the fields of known types"),
-    (
-        "as",
-        Some("TYPE"),
-        "Name fields as those of this type, such as Certificate [default: by label, or what fits]",
-    ),
-    (
-        "json",
-        None,
-        "Write each document as one line of JSON, with all blocks whole",
-    ),
-    (
-        "html",
-        None,
-        "Write one page of HTML that shows all documents, their bytes beside them",
-    ),
-    (
-        "text",
-        None,
-        "Write a short account of each certificate, request, list or key",
-    ),
-];
-
-// The command with all of its arguments.
+// The command with all of its arguments, as help lists them.
 pub fn command<'a>(alloc: Global) -> Result<Command<'a>, AllocError> {
-    let files = Arg::new(alloc, "FILE")
-        .action(ArgAction::Append)
-        .help(FILES);
-    let mut command = Command::new(alloc, "der_dump")
+    Command::new(alloc, "der_dump")
         .version(VERSION)
         .about(ABOUT)
-        .arg(files)?;
-    for (name, value_name, help) in ARGUMENTS {
-        command = command.arg(argument(alloc, name, value_name).help(help))?;
-    }
-    Ok(command)
-}
-
-// An argument `--name`, which has a value or is a flag.
-fn argument<'a>(alloc: Global, name: &'a str, value_name: Option<&'a str>) -> Arg<'a> {
-    let argument = Arg::new(alloc, name).long(name);
-    match value_name {
-        Some(value_name) => argument.action(ArgAction::Set).value_name(value_name),
-        None => argument.action(ArgAction::SetTrue),
-    }
+        .arg(arg!(in alloc; [FILE]...
+            "Files to read, each in turn; `-`, or no file, is standard input"))?
+        .arg(arg!(in alloc; --at <OFFSET>
+            "Show only the block that begins at the offset, in bytes, also as 0x1a"))?
+        .arg(arg!(in alloc; --extract <OFFSET>
+            "Write the bytes of the block that begins at the offset"))?
+        .arg(arg!(in alloc; --contents <OFFSET>
+            "Write the contents of the block that begins at the offset"))?
+        .arg(arg!(in alloc; --value <OFFSET>
+            "Write the bytes that the string at the offset holds, its segments joined"))?
+        .arg(arg!(in alloc; --strict
+            "Reject documents that are not DER, and list why, after showing them"))?
+        .arg(arg!(in alloc; --full "Do not cut values to 32 bytes"))?
+        .arg(arg!(in alloc; --flat "Do not expand nested DER"))?
+        .arg(arg!(in alloc; --depth <COUNT>
+            "Hide blocks with more than COUNT blocks around them; 0 shows the outermost only"))?
+        .arg(arg!(in alloc; --oids <FILE> "Name object identifiers by a file of dumpasn1 first"))?
+        .arg(arg!(in alloc; --color <WHEN>
+            "Color lines: always, never, or auto, on a terminal without NO_COLOR [default: auto]"))?
+        .arg(arg!(in alloc; --plain "Do not name the fields of known types"))?
+        .arg(arg!(in alloc; --"as" <TYPE>
+            "Name fields as those of this type, such as Certificate [default: by label, or what fits]"))?
+        .arg(arg!(in alloc; --json
+            "Write each document as one line of JSON, with all blocks whole"))?
+        .arg(arg!(in alloc; --html
+            "Write one page of HTML that shows all documents, their bytes beside them"))?
+        .arg(arg!(in alloc; --text
+            "Write a short account of each certificate, request, list or key"))
 }

@@ -7,15 +7,20 @@ use clap::parser::ValueSource;
 use std::alloc::{AllocError, Global};
 use std::convert::AsStr;
 
-// The arguments that say what is written in place of lines, of which one may be given, and those that do not go with
-// it.
-const OUTPUTS: [(&str, &[&str]); 6] = [
+// Arguments, each with those that do not go with it: one at most says what is written in place of lines.
+const EXCLUSIONS: [(&str, &[&str]); 12] = [
+    ("html", &["text"]),
+    ("json", &["text", "html"]),
+    ("extract", &["text", "html", "json"]),
+    ("contents", &["text", "html", "json", "extract"]),
+    ("value", &["text", "html", "json", "extract", "contents"]),
     ("text", &NOT_WITH_JSON),
     ("html", &["color"]),
     ("json", &NOT_WITH_JSON),
     ("extract", &NOT_WITH_OCTETS),
     ("contents", &NOT_WITH_OCTETS),
     ("value", &NOT_WITH_OCTETS),
+    ("plain", &["as"]),
 ];
 
 // JSON has all blocks whole, and an account has no blocks.
@@ -24,6 +29,13 @@ const NOT_WITH_JSON: [&str; 4] = ["color", "full", "flat", "depth"];
 // Bytes are shown in no way.
 const NOT_WITH_OCTETS: [&str; 9] = [
     "at", "strict", "full", "flat", "depth", "oids", "color", "plain", "as",
+];
+
+// The flags that have documents written otherwise than in lines.
+const OUTPUTS: [(&str, Output); 3] = [
+    ("json", Output::Json),
+    ("html", Output::Page),
+    ("text", Output::Accounts),
 ];
 
 // The arguments that have a part of a block written.
@@ -113,77 +125,49 @@ pub fn options_of<'a, S: AsStr>(
     arguments: &'a [S],
 ) -> Result<Options<'a>, OptionsFault<'a>> {
     let matches = command(alloc)?.try_get_matches_from(arguments)?;
-    asked_for(alloc, &matches)
-}
-
-// The options that the matches ask for.
-fn asked_for<'a>(alloc: Global, matches: &ArgMatches<'a>) -> Result<Options<'a>, OptionsFault<'a>> {
-    refuse_exclusions(matches)?;
+    refuse_exclusions(&matches)?;
     Ok(Options {
-        inputs: inputs_of(alloc, matches)?,
-        task: task_of(matches)?,
+        inputs: inputs_of(alloc, &matches)?,
+        task: task_of(&matches)?,
         is_strict: matches.get_flag("strict"),
         is_full: matches.get_flag("full"),
         is_flat: matches.get_flag("flat"),
-        output: output_of(matches),
-        most_depth: number_of(matches, "depth")?,
+        output: output_of(&matches),
+        most_depth: number_of(&matches, "depth")?,
         oids: matches.get_str("oids"),
         is_plain: matches.get_flag("plain"),
         type_name: matches.get_str("as"),
-        color: color_of(matches)?,
+        color: color_of(&matches)?,
     })
 }
 
-// Refuses two arguments that say what is written, and those that do not go with the one that does; and the type of a
-// document with no names of fields.
-fn refuse_exclusions<'a>(matches: &ArgMatches<'a>) -> Result<(), OptionsFault<'a>> {
-    let mut given = OUTPUTS.iter().filter(|(name, _)| is_given(matches, name));
-    if let Some((name, others)) = given.next() {
-        if let Some((second, _)) = given.next() {
-            return Err(OptionsFault::NotTogether(name, second));
+// Refuses two arguments that do not go together.
+fn refuse_exclusions<'a>(matches: &ArgMatches<'_>) -> Result<(), OptionsFault<'a>> {
+    for (name, others) in EXCLUSIONS {
+        for other in others {
+            // a flag that is not given has the value `false`
+            let are_given = [name, *other].iter().all(|name| matches.value_source(name)
+                == Some(ValueSource::CommandLine));
+            if are_given {
+                return Err(OptionsFault::NotTogether(other, name));
+            }
         }
-        for other in *others {
-            refuse_both(matches, other, name)?;
-        }
-    }
-    refuse_both(matches, "as", "plain")
-}
-
-fn refuse_both<'a>(
-    matches: &ArgMatches<'a>,
-    first: &'static str,
-    second: &'static str,
-) -> Result<(), OptionsFault<'a>> {
-    if is_given(matches, first) && is_given(matches, second) {
-        return Err(OptionsFault::NotTogether(first, second));
     }
     Ok(())
 }
 
 // As what documents are written.
 fn output_of(matches: &ArgMatches<'_>) -> Output {
-    if matches.get_flag("json") {
-        Output::Json
-    } else if matches.get_flag("html") {
-        Output::Page
-    } else if matches.get_flag("text") {
-        Output::Accounts
-    } else {
-        Output::Lines
-    }
-}
-
-// Whether an argument is given: a flag that is not has the value `false`.
-fn is_given(matches: &ArgMatches<'_>, name: &str) -> bool {
-    matches.value_source(name) == Some(ValueSource::CommandLine)
+    let given = OUTPUTS.iter().find(|(name, _)| matches.get_flag(name));
+    given.map_or(Output::Lines, |(_, output)| *output)
 }
 
 // The names of the inputs.
 fn inputs_of<'a>(alloc: Global, matches: &ArgMatches<'a>) -> Result<Vec<&'a str>, AllocError> {
     let mut inputs = Vec::new(alloc);
     match matches.get_strs("FILE") {
-        None | Some([]) => inputs.push("-")?,
         Some(names) => inputs.extend_from_slice(names)?,
+        None => inputs.push("-")?,
     }
     Ok(inputs)
 }
@@ -193,9 +177,9 @@ fn task_of<'a>(matches: &ArgMatches<'a>) -> Result<Task, OptionsFault<'a>> {
     if let Some(offset) = number_of(matches, "at")? {
         return Ok(Task::At(offset));
     }
-    for (name, part) in &PARTS {
+    for (name, part) in PARTS {
         if let Some(offset) = number_of(matches, name)? {
-            return Ok(Task::Extract(*part, offset));
+            return Ok(Task::Extract(part, offset));
         }
     }
     Ok(Task::Dump)

@@ -1,6 +1,5 @@
 // Why arguments are no command line.
 
-use clap::error::ErrorKind;
 use std::alloc::{AllocError, Global};
 use thiserror::Error;
 
@@ -33,12 +32,7 @@ impl From<AllocError> for OptionsFault<'_> {
 impl OptionsFault<'_> {
     /// Whether the arguments asked for help or the version: the text goes to standard output, and nothing is wrong.
     pub fn is_answer(&self) -> bool {
-        match self {
-            OptionsFault::Command(e) => {
-                matches!(e.kind(), ErrorKind::DisplayHelp | ErrorKind::DisplayVersion)
-            }
-            _ => false,
-        }
+        matches!(self, OptionsFault::Command(e) if !e.use_stderr())
     }
 
     /// The text for the user: the whole of help and of the version, and one line of what is wrong, with an argument
