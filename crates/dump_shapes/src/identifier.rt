@@ -1,13 +1,16 @@
-// Object identifiers as numbers, by which they are compared.
+// Object identifiers as numbers, by which they are compared: their contents octets behind an octet 1, in base 256.
 
-// An object identifier as a number, by its contents octets: these behind an octet 1, in base 256. `None` where there
-// are more than 15.
-pub fn number_of(contents: &[u8]) -> Option<u128> {
-    let mut number = 1;
-    for octet in contents {
-        number = with_octet(number, *octet)?;
+// How many contents octets an object identifier has at most that is compared.
+const MOST_OCTETS: usize = 15;
+
+// The number of an object identifier by its contents octets; where there are more than 15, one that none has.
+pub fn number_of(contents: &[u8]) -> u128 {
+    if contents.len() > MOST_OCTETS {
+        return u128::MAX;
     }
-    Some(number)
+    contents
+        .iter()
+        .fold(1, |number, octet| number << 8 | *octet as u128)
 }
 
 // The number of an object identifier whose components stand in decimal with points between them. `None` of other texts,
@@ -27,18 +30,13 @@ pub fn written_number(text: &str) -> Option<u128> {
 // Seven bits an octet, and bit 8 in each but the last (X.690 8.19.2).
 fn with_subidentifier(number: u128, component: u32) -> Option<u128> {
     let mut number = number;
-    for shift in [28u32, 21, 14, 7] {
+    for shift in [28u32, 21, 14, 7, 0] {
         let rest = component >> shift;
-        if rest > 0 {
-            number = with_octet(number, (rest % 128) as u8 + 128)?;
+        let more = if shift > 0 { 128 } else { 0 };
+        if rest > 0 || shift == 0 {
+            let octet = (rest % 128 + more) as u128;
+            number = number.checked_mul(256)?.checked_add(octet)?;
         }
     }
-    with_octet(number, (component % 128) as u8)
-}
-
-fn with_octet(number: u128, octet: u8) -> Option<u128> {
-    if number >> 120 > 0 {
-        return None;
-    }
-    Some(number << 8 | octet as u128)
+    Some(number)
 }

@@ -2,50 +2,41 @@
 //!
 //! A shape says which fields a type of ASN.1 has: their names, types and tags, which of them are optional, and what
 //! the octets of a string hold. The shapes are text, in [`Shapes::new`] those of RFCs. A [`FieldWalk`] is told the
-//! elements of a document one behind another, and says of each which field of its shape it is, a [`Spot`];
-//! [`Shapes::names_of`] has the names, [`Shapes::leaf_type`] the type of its contents octets, and [`Shapes::set_bits`]
-//! the names of bits.
+//! elements of a document one behind another, and says of each which field of its shape it is, a [`Spot`], with its
+//! names and the type of its contents octets. [`Shapes::value_name`] has the name of a number, and
+//! [`Shapes::bits_text`] those of bits.
 //!
 //! ```rust
-//! use asn1_headers::header::ASN1Class;
-//! use asn1_headers::tags::SEQUENCE;
-//! use dump_shapes::{FieldWalk, Shapes, Tag};
+//! use dump_shapes::{Around, FieldWalk, Shapes};
 //! use std::alloc::{AllocError, Global};
+//!
+//! // The octet that begins a SEQUENCE.
+//! const SEQUENCE: Option<u8> = Some(0x30);
 //!
 //! // Whether the first field of a Certificate is its `tbsCertificate`: it is.
 //! fn begins_with_tbs(alloc: Global) -> Result<bool, AllocError> {
 //!     let shapes = Shapes::new(alloc)?;
-//!     let sequence = Some(Tag {
-//!         class: ASN1Class::Universal,
-//!         number: SEQUENCE as u8,
-//!     });
-//!     let mut walk = FieldWalk::over(alloc, &shapes, shapes.named("Certificate"));
-//!     walk.next(0, sequence)?;
-//!     let Some(spot) = walk.next(1, sequence)? else {
-//!         return Ok(false);
-//!     };
-//!     let Some(named) = shapes.names_of(spot, b"") else {
-//!         return Ok(false);
-//!     };
-//!     Ok(named.field == Some("tbsCertificate"))
+//!     let certificate = shapes.named("Certificate").map_or(Around::Unknown, Around::Shape);
+//!     let mut walk = FieldWalk::inside(alloc, &shapes, certificate);
+//!     walk.next(0, SEQUENCE)?;
+//!     match walk.next(1, SEQUENCE)? {
+//!         Some(spot) => Ok(spot.named.field == Some("tbsCertificate")),
+//!         None => Ok(false),
+//!     }
 //! }
 //! ```
 #![tactic(auto)]
 
 mod bits;
 mod field_walk;
-mod fit;
-mod headers;
 mod identifier;
 mod named;
 mod shapes;
 mod shapes_text;
+mod spot;
 mod tables;
-mod take;
 
-pub use bits::{SetBit, bits_text};
-pub use field_walk::FieldWalk;
-pub use fit::{DocumentType, TypeSource};
+pub use field_walk::{Around, FieldWalk};
 pub use named::{Held, LeafType, Named};
-pub use shapes::{Shapes, Tag, ValueRule};
-pub use take::Spot;
+pub use shapes::{Candidate, Shapes, ValueRule};
+pub use spot::Spot;

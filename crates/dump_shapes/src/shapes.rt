@@ -1,7 +1,6 @@
 // Shapes: which fields a type of ASN.1 has, and what the octets of a string hold.
-use crate::identifier::number_of;
-use crate::take::{Inside, Spot};
-use asn1_headers::header::ASN1Class;
+use crate::named::LeafType;
+use crate::tables::LABELS;
 use asn1_headers::tags;
 
 const EXTERNAL: u8 = tags::EXTERNAL as u8;
@@ -10,69 +9,49 @@ const EMBEDDED_PDV: u8 = tags::EMBEDDED_PDV as u8;
 
 const CHARACTER_STRING: u8 = tags::CHARACTER_STRING as u8;
 
-/// A tag: its class and its number (X.690 8.1.2).
-#[derive(Clone, Copy, Debug, PartialEq)]
-pub struct Tag {
-    /// its class
-    pub class: ASN1Class,
-    /// its number
-    pub number: u8,
-}
-
-impl Tag {
-    /// The tag that encodings with a leading octet have (X.690 8.1.2). With 31 as its number it stands for all tags of
-    /// more octets, which no field has.
-    pub fn of(leading: u8) -> Tag {
-        let class = match leading / 64 {
-            0 => ASN1Class::Universal,
-            1 => ASN1Class::Application,
-            2 => ASN1Class::ContextSpecific,
-            _ => ASN1Class::Private,
-        };
-        Tag {
-            class,
-            number: leading % 32,
-        }
-    }
-}
+// The bit of a leading octet that says that an encoding is constructed (X.690 8.1.2.5). What is left of the octet
+// without it is a tag here: its class, and its number. With 31 as its number it stands for all tags of more octets,
+// which no field has.
+pub const CONSTRUCTED: u8 = 0x20;
 
 /// The shapes of types of ASN.1, by which elements have names. They are read once, and take memory for each field.
-/// There are fewer than 65,536 of them, and of their parts.
 #[derive(Drop)]
 pub struct Shapes {
     pub(crate) shapes: Vec<Shape>,
     // the parts of shapes, those of each one behind another
     pub(crate) parts: Vec<Part>,
-    // the object identifiers that say shapes, as numbers, in their order
-    pub(crate) identifiers: Vec<u128>,
-    // the shapes that may fit a document, in the order in which they are tried
-    pub(crate) candidates: Vec<Candidate>,
+    /// The shapes that may fit a document, in the order in which they are tried.
+    pub candidates: Vec<Candidate>,
 }
 
-// A shape that may fit a document: down to which depth it has to, and how many elements at least are there.
+/// A shape that may fit a document.
 #[derive(Clone, Copy, Drop)]
-pub(crate) struct Candidate {
-    pub shape: u16,
+pub struct Candidate {
+    /// the shape
+    pub shape: usize,
+    /// down to which depth it has to fit
     pub levels: usize,
+    /// how many elements at least are there
     pub least: usize,
 }
 
-// A shape: its name in full and as it is shown, and where its parts begin and end among those of all shapes.
+// A shape, with all that is known of an element of it.
 #[derive(Clone, Copy, Drop)]
 pub(crate) struct Shape {
+    // its name in full, and as it is shown
     pub full_name: &'static str,
     pub name: &'static str,
+    // whether that begins with the name of the type that has its tag
+    pub is_named_by_tag: bool,
     pub kind: ShapeKind,
-    pub rule: ValueRule,
-    pub first: u16,
-    pub end: u16,
-}
-
-impl Shape {
-    // Whether no element is one of it.
-    pub(crate) fn is_nothing(self) -> bool {
-        matches!(self.kind, ShapeKind::Known) && self.first == self.end
-    }
+    // its tag, if all of its elements have the same
+    pub tag: Option<u8>,
+    // the type that it is, if that has no parts
+    pub leaf: Option<LeafType>,
+    // the part that an element of it is as a whole; behind it its other parts
+    pub whole: usize,
+    pub first: usize,
+    pub end: usize,
 }
 
 /// What a type without parts says of its values, besides their tag and the names of numbers and bits.
@@ -93,12 +72,12 @@ pub enum ValueRule {
 // What elements of a shape are, and what its parts are.
 #[derive(Clone, Copy, Drop)]
 pub(crate) enum ShapeKind {
-    // with this tag of class Universal; numbers or bits that have names
-    Leaf(u8),
-    // a SEQUENCE or a SET of fields, with this tag; the fields
-    Record(u8),
-    // a SEQUENCE OF, a SET OF, or a string that holds elements, with this tag; the field that each of them is
-    Items(u8),
+    // contents octets; numbers or bits that have names
+    Leaf,
+    // a SEQUENCE or a SET of fields; the fields
+    Record,
+    // a SEQUENCE OF, a SET OF, or a string that holds elements; the field that each of them is
+    Items,
     // one of several; the alternatives, which are fields
     Choice,
     // what an object identifier says, or anything; object identifiers
@@ -107,82 +86,103 @@ pub(crate) enum ShapeKind {
     Known,
 }
 
-// A part of a shape: a field, whose name may be empty, with its shape and its tag, if it has one of its own; a number,
-// that of a value or of a bit, and its name; or an object identifier as a number, and the shape that it says.
-#[derive(Clone, Copy, Default, Drop)]
-pub(crate) struct Part {
-    pub name: &'static str,
-    pub number: u128,
-    pub shape: u16,
-    pub tag: Option<Tag>,
-    // its tag stands around an element of its shape, and not in the place of that one's (X.680 31.2.7)
-    pub is_explicit: bool,
-    pub is_optional: bool,
+// What stands inside an element: what is of these parts.
+#[derive(Clone, Copy, Debug, Drop, PartialEq)]
+pub(crate) struct Inside {
+    pub first: usize,
+    pub end: usize,
+    pub order: Order,
 }
+
+// In which order elements of parts stand.
+#[derive(Clone, Copy, Debug, Drop, PartialEq)]
+pub(crate) enum Order {
+    // an element of each part, in the order of the parts, which are the fields of one SEQUENCE or SET
+    Fields,
+    // an element of the part, which is the only one
+    Whole,
+    // elements of the part each, which is the only one
+    Each,
+}
+
+// Nothing that has a name.
+pub(crate) const NOTHING: Inside = Inside {
+    first: 0,
+    end: 0,
+    order: Order::Whole,
+};
+
+// A part of a shape: a field; a number, that of a value or of a bit, and its name; or an object identifier as a number,
+// and the shape that it says. What is known of elements of its shape is known of it, too.
+#[derive(Clone, Copy, Drop)]
+pub(crate) struct Part {
+    pub name: Option<&'static str>,
+    pub number: u128,
+    pub shape: usize,
+    pub kind: ShapeKind,
+    // the tag that an element has which is this field: its own, or else that of its shape
+    pub tag: Option<u8>,
+    pub has_own_tag: bool,
+    pub is_optional: bool,
+    pub inside: Inside,
+    pub leaf: Option<LeafType>,
+}
+
+// Of what no table says anything.
+pub(crate) const UNKNOWN: Part = Part {
+    name: None,
+    number: 0,
+    shape: 0,
+    kind: ShapeKind::Known,
+    tag: None,
+    has_own_tag: false,
+    is_optional: false,
+    inside: NOTHING,
+    leaf: None,
+};
 
 impl Shapes {
     /// The shape with this name, if there is one.
-    pub fn named(&self, name: &str) -> Option<u16> {
-        let place = self
-            .shapes
-            .iter()
-            .position(|shape| shape.full_name == name)?;
-        u16::try_from(place).ok()
+    pub fn named(&self, name: &str) -> Option<usize> {
+        self.shapes.iter().position(|shape| shape.full_name == name)
     }
 
-    /// The shape that the tag of an encoding says, whose parts name what stands inside: that of EXTERNAL, EMBEDDED PDV
-    /// or CHARACTER STRING (X.680 36, 37 and 44). `None` for any other tag.
-    pub fn own_shape(&self, tag: Tag) -> Option<u16> {
-        match (tag.class, tag.number) {
-            (ASN1Class::Universal, EXTERNAL) => self.named("EXTERNAL"),
-            (ASN1Class::Universal, EMBEDDED_PDV) => self.named("EMBEDDED PDV"),
-            (ASN1Class::Universal, CHARACTER_STRING) => self.named("CHARACTER STRING"),
-            _ => None,
-        }
+    /// The shape of what stands behind the label of a PEM text (RFC 7468), if that is known.
+    pub fn labelled(&self, label: &str) -> Option<usize> {
+        let mut lines = LABELS.lines().filter_map(|line| line.split_once(' '));
+        let (name, _) = lines.find(|(_, known)| *known == label)?;
+        self.named(name)
     }
 
-    /// Whether the field may be anything, so that its tag alone says its type.
-    pub fn is_anything(&self, spot: Spot) -> bool {
-        match self.shape(spot.of.shape) {
-            Some(shape) => matches!(
-                (shape.kind, spot.of.inside),
-                (ShapeKind::Open, Inside::Nothing)
-            ),
-            None => false,
-        }
+    /// The name of a shape, as an RFC has it.
+    pub fn name_of(&self, shape: usize) -> Option<&'static str> {
+        Some(self.shapes.get(shape)?.name)
     }
 
-    pub(crate) fn shape(&self, i: u16) -> Option<Shape> {
-        self.shapes.get(i as usize).copied()
-    }
-
-    pub(crate) fn part(&self, i: u16) -> Option<Part> {
-        self.parts.get(i as usize).copied()
+    // What stands inside an element by its tag alone: an EXTERNAL, an EMBEDDED PDV or a CHARACTER STRING (X.680 36, 37
+    // and 44). `None` for any other tag.
+    pub(crate) fn own_inside(&self, tag: u8) -> Option<Inside> {
+        let name = match tag {
+            EXTERNAL => "EXTERNAL",
+            EMBEDDED_PDV => "EMBEDDED PDV",
+            CHARACTER_STRING => "CHARACTER STRING",
+            _ => return None,
+        };
+        let shape = self.shapes.get(self.named(name)?)?;
+        Some(self.parts.get(shape.whole)?.inside)
     }
 
     // The parts of a shape.
-    pub(crate) fn parts_of(&self, shape: Shape) -> &[Part] {
-        self.parts
-            .get(shape.first as usize..shape.end as usize)
-            .unwrap_or(&[])
-    }
-
-    // Where an object identifier stands among those that say shapes, by its contents octets; 65535 where it is none.
-    pub(crate) fn identifier(&self, contents: &[u8]) -> u16 {
-        number_of(contents)
-            .and_then(|number| self.identifiers.binary_search(&number).ok())
-            .and_then(|place| u16::try_from(place).ok())
-            .unwrap_or(u16::MAX)
+    pub(crate) fn parts_of(&self, shape: usize) -> &[Part] {
+        match self.shapes.get(shape) {
+            Some(shape) => self.parts.get(shape.first..shape.end).unwrap_or(&[]),
+            None => &[],
+        }
     }
 
     // The part of a shape with this number.
-    pub(crate) fn numbered(&self, shape: Shape, number: u128) -> Option<Part> {
+    pub(crate) fn numbered(&self, shape: usize, number: u128) -> Option<Part> {
         let mut parts = self.parts_of(shape).iter();
         parts.find(|part| part.number == number).copied()
-    }
-
-    // The name of a number in a shape.
-    pub(crate) fn number_name(&self, shape: Shape, number: u128) -> Option<&'static str> {
-        Some(self.numbered(shape, number)?.name)
     }
 }

@@ -1,13 +1,22 @@
 // The tables of shapes, which are text: a line for each shape and each of its parts.
 use crate::identifier::written_number;
-use crate::shapes::{Candidate, Part, Shape, ShapeKind, Shapes, Tag, ValueRule};
+use crate::named::LeafType;
+use crate::shapes::{Candidate, Inside, Order, Part, Shape, ShapeKind, Shapes, UNKNOWN, ValueRule};
 use crate::tables::{FITS, TABLES};
 use asn1_headers::header::ASN1Class;
+use asn1_headers::types::type_name;
 use std::alloc::{AllocError, Global};
 use std::collections::HashMap;
 
-// The places of shapes by their names.
-type Places = HashMap<&'static str, u16>;
+// Shapes as far as their lines were read. Their parts are texts until all shapes are known.
+#[derive(Drop)]
+struct Reading {
+    shapes: Vec<Shape>,
+    // the places of shapes by their names
+    places: HashMap<&'static str, usize>,
+    // the texts of parts, and what the shape is that has them
+    parts: Vec<(ShapeKind, &'static str)>,
+}
 
 impl Shapes {
     /// The shapes of this crate, as `docs/MAINTAINING.md` says how they are written. A line in another form, or with a
@@ -16,20 +25,35 @@ impl Shapes {
     /// # Errors
     /// Memory ran out.
     pub fn new(alloc: Global) -> Result<Shapes, AllocError> {
-        let places = places_of(alloc)?;
-        let mut shapes = Shapes::none(alloc);
+        let mut reading = Reading {
+            shapes: Vec::new(alloc),
+            places: HashMap::new(alloc),
+            parts: Vec::new(alloc),
+        };
         for text in TABLES {
             for line in text.lines() {
-                shapes.read_line(&places, line)?;
+                reading.read_line(line)?;
             }
         }
-        shapes.identifiers.sort_unstable();
-        for line in FITS.lines() {
-            if let Some(candidate) = candidate_of(&places, line) {
-                shapes.candidates.push(candidate)?;
+        let mut parts = Vec::new(alloc);
+        for (kind, text) in &reading.parts {
+            parts.push(reading.part_of(*kind, text).unwrap_or(UNKNOWN))?;
+        }
+        let mut candidates = Vec::new(alloc);
+        for (name, levels, least) in FITS {
+            if let Some(shape) = reading.places.get(&name) {
+                candidates.push(Candidate {
+                    shape: *shape,
+                    levels,
+                    least,
+                })?;
             }
         }
-        Ok(shapes)
+        Ok(Shapes {
+            shapes: reading.shapes,
+            parts,
+            candidates,
+        })
     }
 
     /// No shapes: no element has a name.
@@ -37,172 +61,136 @@ impl Shapes {
         Shapes {
             shapes: Vec::new(alloc),
             parts: Vec::new(alloc),
-            identifiers: Vec::new(alloc),
             candidates: Vec::new(alloc),
         }
     }
+}
 
-    // Reads a line: of a part of the last shape, or of a shape.
-    fn read_line(&mut self, places: &Places, line: &'static str) -> Result<(), AllocError> {
+impl Reading {
+    // Reads a line: of a part of the last shape, or of a shape, which is its own name where it has no other.
+    fn read_line(&mut self, line: &'static str) -> Result<(), AllocError> {
         if let Some(text) = line.strip_prefix("  ") {
-            let kind = self
-                .shapes
-                .last()
-                .map_or(ShapeKind::Known, |shape| shape.kind);
-            let part = part_of(places, kind, text);
-            if let Some(Part { number, .. }) = part
-                && matches!(kind, ShapeKind::Open | ShapeKind::Known)
-            {
-                self.identifiers.push(number)?;
+            if let Some(shape) = self.shapes.last_mut() {
+                self.parts.push((shape.kind, text))?;
+                shape.end = self.parts.len();
             }
-            return self.push(part);
+            return Ok(());
         }
-        match name_and_text(line) {
-            Some((name, text)) => self.read_shape(places, name, text),
-            None => Ok(()),
+        if line.is_empty() || line.starts_with("--") {
+            return Ok(());
         }
+        let (name, text) = line.split_once(" ::= ").unwrap_or((line, line));
+        self.read_shape(name, text)
     }
 
-    // Reads a shape with this name and text. A list has one part, which is its item.
-    fn read_shape(
-        &mut self,
-        places: &Places,
-        name: &'static str,
-        text: &'static str,
-    ) -> Result<(), AllocError> {
-        let (words, item) = item_behind(text);
-        let (of, rule) = rule_behind(words);
-        let kind = self.kind_of(places, of, item.is_some());
+    // Reads a shape with this name and text. Its first part is an element of it as a whole; a list has one more, which
+    // is its item. Neither has a name.
+    fn read_shape(&mut self, name: &'static str, text: &'static str) -> Result<(), AllocError> {
+        let list = text.split_once(" OF ").or(text.split_once(" CONTAINING "));
+        let (words, rule) = rule_behind(list.map_or(text, |(words, _)| words));
+        let (kind, tag) = self
+            .kind_of(words, list.is_some())
+            .unwrap_or((ShapeKind::Known, None));
+        let shape = self.shapes.len();
+        let whole = self.parts.len();
+        self.parts.push((ShapeKind::Items, name))?;
+        let first = self.parts.len();
+        if let Some((_, item)) = list {
+            self.parts.push((ShapeKind::Items, item))?;
+        }
         // what stands before a point is not shown, by which types of one name differ
         let shown = name.split_once('.').unwrap_or(("", name)).1;
-        let end = place(self.parts.len());
+        let tag_name = tag.and_then(|tag| type_name(ASN1Class::Universal, u64::from(tag)));
+        self.places.insert(name, shape)?;
         self.shapes.push(Shape {
             full_name: name,
             name: shown,
-            kind: kind.unwrap_or(ShapeKind::Known),
-            rule,
-            first: end,
-            end,
+            is_named_by_tag: tag_name.is_some_and(|tag_name| shown.starts_with(tag_name)),
+            kind,
+            tag,
+            leaf: match (kind, tag) {
+                (ShapeKind::Leaf, Some(tag)) => Some(LeafType { shape, tag, rule }),
+                _ => None,
+            },
+            whole,
+            first,
+            end: self.parts.len(),
         })?;
-        match item {
-            Some(item) => self.push(field_of(places, "", item)),
-            None => Ok(()),
-        }
-    }
-
-    // Takes one more part into the last shape.
-    fn push(&mut self, part: Option<Part>) -> Result<(), AllocError> {
-        self.parts.push(part.unwrap_or_default())?;
-        let end = place(self.parts.len());
-        if let Some(shape) = self.shapes.last_mut() {
-            shape.end = end;
-        }
         Ok(())
     }
 
-    // What elements of a shape are by words, which are those before an item if it is a list.
-    fn kind_of(&self, places: &Places, words: &'static str, is_list: bool) -> Option<ShapeKind> {
+    // What elements of a shape are by words, which are those before an item if it is a list, and their tag.
+    fn kind_of(&self, words: &'static str, is_list: bool) -> Option<(ShapeKind, Option<u8>)> {
         match (words, tag_before(words)?) {
-            _ if is_list => Some(ShapeKind::Items(self.tag_of(places, words)?)),
-            ("CHOICE", _) => Some(ShapeKind::Choice),
-            ("OPEN", _) => Some(ShapeKind::Open),
-            ("KNOWN", _) => Some(ShapeKind::Known),
-            ("SEQUENCE" | "SET", _) => Some(ShapeKind::Record(self.tag_of(places, words)?)),
+            _ if is_list => Some((ShapeKind::Items, Some(self.tag_of(words)?))),
+            ("CHOICE", _) => Some((ShapeKind::Choice, None)),
+            ("OPEN", _) => Some((ShapeKind::Open, None)),
+            ("KNOWN", _) => Some((ShapeKind::Known, None)),
+            ("SEQUENCE" | "SET", _) => Some((ShapeKind::Record, self.tag_of(words))),
             // the tag that a SEQUENCE has in place of its own (X.680 8.4)
-            (_, (Some(tag), "SEQUENCE")) => Some(ShapeKind::Record(tag.number)),
-            _ => Some(ShapeKind::Leaf(words.parse::<u8>().ok().or(self.tag_of(places, words))?)),
+            (_, (Some(tag), "SEQUENCE")) => Some((ShapeKind::Record, Some(tag))),
+            _ => Some((ShapeKind::Leaf, Some(self.tag_of(words)?))),
         }
     }
 
-    // The tag of a leaf with this name, which was read before.
-    fn tag_of(&self, places: &Places, name: &'static str) -> Option<u8> {
-        match self.shape(*places.get(&name)?)?.kind {
-            ShapeKind::Leaf(tag) => Some(tag),
-            _ => None,
+    // The tag of class Universal that words are the number of, or that a shape with this name has, which was read
+    // before.
+    fn tag_of(&self, words: &'static str) -> Option<u8> {
+        match words.parse::<u8>() {
+            Ok(number) => Some(number),
+            Err(_) => self.shapes.get(*self.places.get(&words)?)?.tag,
         }
     }
-}
 
-// A place among shapes or parts. There are fewer than 65,536.
-fn place(count: usize) -> u16 {
-    u16::try_from(count).unwrap_or(u16::MAX)
-}
-
-// The places of all shapes, each of which has a name of its own.
-fn places_of(alloc: Global) -> Result<Places, AllocError> {
-    let mut places = HashMap::new(alloc);
-    for text in TABLES {
-        for line in text.lines() {
-            if let Some((name, _)) = name_and_text(line) {
-                let behind = place(places.len());
-                places.insert(name, behind)?;
+    // A part of a shape of the kind: a number, of a value or of a bit, and its name; an object identifier and what it
+    // says; or a field.
+    fn part_of(&self, kind: ShapeKind, text: &'static str) -> Option<Part> {
+        if matches!(kind, ShapeKind::Items) {
+            return self.field_of(None, text);
+        }
+        let (first, text) = text.split_once(' ')?;
+        match kind {
+            ShapeKind::Leaf => Some(Part {
+                name: Some(text),
+                number: first.parse::<u64>().ok()? as u128,
+                ..UNKNOWN
+            }),
+            ShapeKind::Open | ShapeKind::Known => Some(Part {
+                number: written_number(first)?,
+                ..self.field_of(None, text)?
+            }),
+            ShapeKind::Record | ShapeKind::Items | ShapeKind::Choice => {
+                self.field_of(Some(first), text)
             }
         }
     }
-    Ok(places)
-}
 
-// The name of the shape of a line, and what it is; these are the same where it has no name of its own. `None` of a line
-// of another kind.
-fn name_and_text(line: &'static str) -> Option<(&'static str, &'static str)> {
-    if line.is_empty() || line.starts_with("--") || line.starts_with("  ") {
-        return None;
+    // A field by its name and the words that say what it is: its tag, its shape, and whether it is optional.
+    fn field_of(&self, name: Option<&'static str>, text: &'static str) -> Option<Part> {
+        let optional = text.strip_suffix(" OPTIONAL");
+        let (own_tag, text) = tag_before(optional.unwrap_or(text))?;
+        let explicit = text.strip_prefix("EXPLICIT ");
+        let place = *self.places.get(&explicit.unwrap_or(text))?;
+        let shape = self.shapes.get(place)?;
+        let (first, end, order) = match (explicit, shape.kind) {
+            // its tag stands around an element of its shape, and not in the place of that one's (X.680 31.2.7)
+            (Some(_), _) => (shape.whole, shape.first, Order::Whole),
+            (None, ShapeKind::Record) => (shape.first, shape.end, Order::Fields),
+            (None, ShapeKind::Items) => (shape.first, shape.end, Order::Each),
+            (None, _) => (0, 0, Order::Whole),
+        };
+        Some(Part {
+            name,
+            number: 0,
+            shape: place,
+            kind: shape.kind,
+            tag: own_tag.or(shape.tag),
+            has_own_tag: own_tag.is_some(),
+            is_optional: optional.is_some(),
+            inside: Inside { first, end, order },
+            leaf: shape.leaf.filter(|_| explicit.is_none()),
+        })
     }
-    Some(line.split_once(" ::= ").unwrap_or((line, line)))
-}
-
-// The words before the item of a list, and the item, if it is one.
-fn item_behind(text: &'static str) -> (&'static str, Option<&'static str>) {
-    match text.split_once(" OF ").or(text.split_once(" CONTAINING ")) {
-        Some((words, item)) => (words, Some(item)),
-        None => (text, None),
-    }
-}
-
-// A part of a shape of the kind: a number, of a value or of a bit, and its name; an object identifier and what it says;
-// or a field.
-fn part_of(places: &Places, kind: ShapeKind, line: &'static str) -> Option<Part> {
-    let (first, text) = line.split_once(' ')?;
-    match kind {
-        ShapeKind::Leaf(_) => Some(Part {
-            name: text,
-            number: first.parse::<u64>().ok()? as u128,
-            ..Part::default()
-        }),
-        ShapeKind::Open | ShapeKind::Known => Some(Part {
-            number: written_number(first)?,
-            shape: *places.get(&text)?,
-            ..Part::default()
-        }),
-        ShapeKind::Record(_) | ShapeKind::Items(_) | ShapeKind::Choice => {
-            field_of(places, first, text)
-        }
-    }
-}
-
-// A field by its name and the words that say what it is: its tag, its shape, and whether it is optional.
-fn field_of(places: &Places, name: &'static str, text: &'static str) -> Option<Part> {
-    let optional = text.strip_suffix(" OPTIONAL");
-    let (tag, text) = tag_before(optional.unwrap_or(text))?;
-    let explicit = text.strip_prefix("EXPLICIT ");
-    Some(Part {
-        name,
-        shape: *places.get(&explicit.unwrap_or(text))?,
-        tag,
-        is_explicit: explicit.is_some(),
-        is_optional: optional.is_some(),
-        ..Part::default()
-    })
-}
-
-// The candidate of a line.
-fn candidate_of(places: &Places, line: &'static str) -> Option<Candidate> {
-    let mut words = line.split(' ');
-    Some(Candidate {
-        shape: *places.get(&words.next()?)?,
-        levels: words.next()?.parse::<usize>().ok()?,
-        least: words.next()?.parse::<usize>().ok()?,
-    })
 }
 
 // What a word behind the type of a leaf says of its values, if there is one, and the words before it.
@@ -218,17 +206,17 @@ fn rule_behind(text: &'static str) -> (&'static str, ValueRule) {
 
 // The tag that words begin with, if they do, and the words behind it: a number, which is context-specific, or a class
 // and a number. `None` where it has another form.
-fn tag_before(text: &'static str) -> Option<(Option<Tag>, &'static str)> {
+fn tag_before(text: &'static str) -> Option<(Option<u8>, &'static str)> {
     let Some(rest) = text.strip_prefix("[") else {
         return Some((None, text));
     };
     let (tag, text) = rest.split_once("] ")?;
     let (class, digits) = match tag.split_once(' ') {
-        Some(("APPLICATION", digits)) => (ASN1Class::Application, digits),
-        Some(("UNIVERSAL", digits)) => (ASN1Class::Universal, digits),
+        Some(("APPLICATION", digits)) => (0x40, digits),
+        Some(("UNIVERSAL", digits)) => (0, digits),
         Some(_) => return None,
-        None => (ASN1Class::ContextSpecific, tag),
+        None => (0x80, tag),
     };
     let number = digits.parse::<u8>().ok()?;
-    Some((Some(Tag { class, number }), text))
+    Some((Some(class | number), text))
 }
