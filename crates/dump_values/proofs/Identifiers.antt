@@ -1,4 +1,4 @@
--- Which contents octets have the first two components in one octet, for `value::components_of`.
+-- Which contents octets have the first two components in one octet, for `identifier::components_of`.
 use Rattle.std.proofs.Common.{◌≡◌, ℕ, ◌+◌, ◌*◌, ◌≤◌, List, [], ◌∷◌, ap, arith, get_or, sym, ◌∙◌}
 use Rattle.asn1_leaves.specs.Contents.ObjectIdentifier.{ObjectIdentifierContents}
 use Rattle.dump_values.specs.Values.{HasShortFront}

@@ -1,6 +1,6 @@
 // Addresses of IP, as certificates and messages of SNMP have them.
 use std::alloc::{AllocError, Global};
-use std::net::{IpAddr, Ipv4Addr, Ipv6Addr};
+use std::net::IpAddr;
 
 /// An address of IP, or all addresses that are the same where the mask has a bit (RFC 5280, 4.2.1.6 and 4.2.1.10).
 #[derive(Clone, Copy, Drop, PartialEq)]
@@ -42,11 +42,8 @@ impl Address {
 }
 
 fn one_address(octets: &[u8]) -> Option<IpAddr> {
-    if let [a, b, c, d] = octets {
-        return Some(IpAddr::V4(Ipv4Addr::new(*a, *b, *c, *d)));
-    }
-    match octets.first_chunk::<16>() {
-        Some(all) if octets.len() == 16 => Some(IpAddr::V6(Ipv6Addr::from(*all))),
-        _ => None,
+    match octets.as_array::<4>() {
+        Some(octets) => Some(IpAddr::from(*octets)),
+        None => Some(IpAddr::from(*octets.as_array::<16>()?)),
     }
 }

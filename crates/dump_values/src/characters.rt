@@ -12,19 +12,23 @@ pub enum Characters {
     Latin1,
 }
 
-/// The characters that the octets are in the form, if all of them are.
-///
-/// # Errors
-/// Memory ran out.
-pub fn text_in_form(
-    alloc: Global,
-    form: Characters,
-    octets: &[u8],
-) -> Result<Option<String>, AllocError> {
-    match form {
-        Characters::Utf16 => utf16_text(alloc, octets),
-        Characters::Utf32 => utf32_text(alloc, octets),
-        Characters::Latin1 => latin1_text(alloc, octets),
+impl Characters {
+    /// Its name.
+    pub fn name(self) -> &'static str {
+        match self {
+            Characters::Utf16 => "UTF-16",
+            Characters::Utf32 => "UTF-32",
+            Characters::Latin1 => "Latin-1",
+        }
+    }
+
+    // The characters that the octets are in the form, if all of them are.
+    pub(crate) fn text(self, alloc: Global, octets: &[u8]) -> Result<Option<String>, AllocError> {
+        match self {
+            Characters::Utf16 => utf16_text(alloc, octets),
+            Characters::Utf32 => utf32_text(alloc, octets),
+            Characters::Latin1 => latin1_text(alloc, octets),
+        }
     }
 }
 

@@ -1,18 +1,21 @@
 // Contents octets of primitive encodings: their value, or what is wrong with them.
-ghost use Rattle.std.specs.Prelude.{◌≡◌, ◌≢◌, None, Some, IfErr, IfOk, IfSome, true};
+ghost use Rattle.std.specs.Prelude.{◌≡◌, None, Some, IfErr, IfOk, IfSome, true};
 ghost use Rattle.asn1_headers.specs.Fault.{OutOfMemoryOr};
 ghost use Rattle.asn1_headers.specs.declared.header.ASN1Class.TheVariants.{Universal};
 ghost use Rattle.asn1_headers.specs.declared.tags.TheConstants.{GENERALIZED_TIME, OBJECT_IDENTIFIER, UTC_TIME};
 ghost use Rattle.asn1_blocks.specs.Contents.{LeafFault, string_tag};
 ghost use Rattle.asn1_leaves.specs.Contents.Text.{text_form};
 ghost use Rattle.asn1_leaves.specs.StringKind.{StringKind};
-ghost use Rattle.dump_values.specs.Values.{IsMeaning, IsValue, has_wide_characters as has_wide_characters_is, is_time, is_wide};
+ghost use Rattle.dump_values.specs.Values.{HasValue, IsMeaning, IsValue, has_wide_characters as has_wide_characters_is, is_wide};
 
-use crate::faults::{Fault, leaf_fault};
-use crate::tag::{is_universal, universal_header, universal_tag};
+use crate::faults::{Fault, if_right, leaf_fault};
+use crate::identifier::identifier_of;
+use crate::moment::{fraction_digits, time_at};
+use crate::scalars::printed_text;
+use crate::time::ber_time;
 use crate::universal::unknown_value;
-use crate::value::{LeafValue, bits_of, identifier_of, likely_text, printed_text};
-use crate::{Address, Characters, Time, ber_time, fraction_digits, text_in_form, time_at};
+use crate::value::{LEAST_TEXT, LeafValue, bits_of};
+use crate::{Address, Characters};
 use asn1_headers::error::ASN1DecodeErr;
 use asn1_headers::header::ASN1Class;
 use asn1_headers::tags::{
@@ -23,7 +26,6 @@ use asn1_headers::tags::{
 use asn1_headers::whole_header::Header;
 use asn1_leaves::contents::text::TextForm;
 use asn1_leaves::contents::{boolean, generalized_time, integer, text, utc_time};
-use asn1_leaves::oid;
 use std::alloc::{AllocError, Global};
 use std::str;
 
@@ -57,99 +59,65 @@ pub fn read_contents(
     ensures { IfOk result (λ read.
         IsMeaning header.now.class header.now.tag contents.now offset read.value read.fault) }
 {
-    match told_value(alloc, header, contents, of)? {
-        Some(value) => Ok(right(value)),
-        None => read_by_tag(alloc, header, contents, offset),
-    }
-}
-
-// The value of contents octets of another class than Universal, if it is known of which type they are.
-fn told_value(
-    alloc: Global,
-    header: &Header,
-    contents: &[u8],
-    of: ContentsType,
-) -> Result<Option<LeafValue>, AllocError>
-    ensures { IfOk result (λ found. IfSome found (λ _. header.now.class ≢ Universal)) }
-{
-    if is_universal(header) {
-        return Ok(None);
-    }
-    match of {
-        ContentsType::OfTag => Ok(None),
-        ContentsType::Known(tag) => value_of_type(alloc, tag, contents),
-        ContentsType::Address => match Address::of(contents) {
-            Some(address) => Ok(Some(LeafValue::Address(address))),
-            None => Ok(None),
-        },
-    }
-}
-
-// The value of contents octets of the type with this tag of class Universal, if they have one. An IA5String has
-// characters of ASCII.
-pub fn value_of_type(
-    alloc: Global,
-    tag: u8,
-    contents: &[u8],
-) -> Result<Option<LeafValue>, AllocError> {
-    if u64::from(tag) == IA5_STRING && !contents.is_ascii() {
-        return Ok(None);
-    }
-    let header = universal_header(alloc, tag, contents.len())?;
-    let Read { value, .. } = read_by_tag(alloc, &header, contents, 0)?;
-    Ok(value)
-}
-
-// The value of the contents octets of a primitive encoding with the header, which stands at the offset, or what is
-// wrong with them.
-pub fn read_by_tag(
-    alloc: Global,
-    header: &Header,
-    contents: &[u8],
-    offset: usize,
-) -> Result<Read, AllocError>
-    ensures { IfOk result (λ read.
-        IsMeaning header.now.class header.now.tag contents.now offset read.value read.fault) }
-{
-    let error = match value_of(alloc, header, contents) {
-        Ok(value) => return Ok(right(value)),
+    let error = match value_of(alloc, header, contents, of) {
+        Ok(value) => {
+            return Ok(Read {
+                value: Some(value),
+                fault: None,
+            });
+        }
         Err(error) => error,
     };
-    if let Some(time) = time_of(alloc, header, contents)? {
-        return Ok(right(LeafValue::BerTime(time)));
-    }
-    let universal = universal_tag(header).map(u64::from);
-    let fault = leaf_fault(alloc, offset, universal, contents, &error)?;
+    let fault = leaf_fault(alloc, offset, header.tag.to_u64(), contents, &error)?;
     Ok(Read {
         value: None,
         fault: Some(fault),
     })
 }
 
-// A value of contents octets in which nothing is wrong.
-fn right(value: LeafValue) -> Read
-    ensures value { result.value ≡ Some value }
-    ensures fault { result.fault ≡ None }
-{
-    Read {
-        value: Some(value),
-        fault: None,
-    }
-}
-
-// The value of contents octets in which the library finds nothing wrong, where X.690 has no wider characters.
-fn value_of(alloc: Global, header: &Header, contents: &[u8]) -> Result<LeafValue, ASN1DecodeErr>
-    ensures found { IfOk result (IsValue header.now.class header.now.tag contents.now) }
+// The value of the contents octets of a primitive encoding with the header.
+fn value_of(
+    alloc: Global,
+    header: &Header,
+    contents: &[u8],
+    of: ContentsType,
+) -> Result<LeafValue, ASN1DecodeErr>
+    ensures found { IfOk result (HasValue header.now.class header.now.tag contents.now) }
     ensures refused { IfErr result (OutOfMemoryOr (λ e.
         (header.now.class ≡ Universal) × LeafFault header.now.tag contents.now e)) }
 {
     match header.class {
         ASN1Class::Universal => match header.tag.to_u64() {
             Some(tag) => universal_value(alloc, tag, contents),
-            None => Ok(LeafValue::Other(likely_text(alloc, contents)?)),
+            None => Ok(LeafValue::Other(printed_text(alloc, contents, LEAST_TEXT)?)),
         },
-        _ => Ok(LeafValue::Tagged(likely_text(alloc, contents)?)),
+        _ => Ok(tagged_value(alloc, contents, of)?),
     }
+}
+
+// The value of contents octets of another class than Universal: if it is known of which type they are, and they have
+// one, that of this type.
+fn tagged_value(alloc: Global, contents: &[u8], of: ContentsType) -> Result<LeafValue, AllocError> {
+    let known = match of {
+        ContentsType::OfTag => None,
+        // An IA5String has characters of ASCII.
+        ContentsType::Known(tag) if u64::from(tag) == IA5_STRING && !contents.is_ascii() => None,
+        ContentsType::Known(tag) => value_of_type(alloc, tag, contents)?,
+        ContentsType::Address => Address::of(contents).map(LeafValue::Address),
+    };
+    match known {
+        Some(value) => Ok(value),
+        None => Ok(LeafValue::Tagged(printed_text(alloc, contents, LEAST_TEXT)?)),
+    }
+}
+
+// The value of contents octets of the type with this tag of class Universal, if they have one.
+pub fn value_of_type(
+    alloc: Global,
+    tag: u8,
+    contents: &[u8],
+) -> Result<Option<LeafValue>, AllocError> {
+    if_right(universal_value(alloc, u64::from(tag), contents))
 }
 
 // The value of contents octets of class Universal.
@@ -161,9 +129,9 @@ fn universal_value(alloc: Global, tag: u64, contents: &[u8]) -> Result<LeafValue
         BOOLEAN => Ok(LeafValue::Boolean(boolean::read(contents)?)),
         INTEGER => Ok(LeafValue::Integer(integer::read(alloc, contents)?)),
         BIT_STRING => Ok(LeafValue::Bits(bits_of(alloc, contents)?)),
-        OCTET_STRING => Ok(LeafValue::Octets(likely_text(alloc, contents)?)),
+        OCTET_STRING => Ok(LeafValue::Octets(printed_text(alloc, contents, LEAST_TEXT)?)),
         NULL => Ok(LeafValue::Null),
-        OBJECT_IDENTIFIER => identifier_value(alloc, contents),
+        OBJECT_IDENTIFIER => Ok(LeafValue::Identifier(identifier_of(alloc, contents)?)),
         UTF8_STRING => string_value(alloc, tag, TextForm::Utf8, contents),
         PRINTABLE_STRING => string_value(alloc, tag, TextForm::Printable, contents),
         TELETEX_STRING => string_value(alloc, tag, TextForm::Utf8, contents),
@@ -174,14 +142,6 @@ fn universal_value(alloc: Global, tag: u64, contents: &[u8]) -> Result<LeafValue
         BMP_STRING => string_value(alloc, tag, TextForm::Utf8, contents),
         _ => Ok(unknown_value(alloc, tag, contents)?),
     }
-}
-
-fn identifier_value(alloc: Global, contents: &[u8]) -> Result<LeafValue, ASN1DecodeErr>
-    ensures found { IfOk result (IsValue Universal OBJECT_IDENTIFIER contents.now) }
-    ensures refused { IfErr result (OutOfMemoryOr (LeafFault OBJECT_IDENTIFIER contents.now)) }
-{
-    let read = oid::read(alloc, contents)?;
-    Ok(LeafValue::Identifier(identifier_of(alloc, contents, read)?))
 }
 
 // The characters of a string: those that X.690 has where the library takes octets for UTF-8, if these are so. Other
@@ -197,44 +157,46 @@ fn string_value(
     ensures refused { IfErr result (OutOfMemoryOr (LeafFault tag contents.now)) }
 {
     if let Some(wide) = wide_form(tag, contents) {
-        if let Some(characters) = text_in_form(alloc, wide, contents)? {
+        if let Some(characters) = wide.text(alloc, contents)? {
             return Ok(LeafValue::WideText(wide, characters));
         }
     }
     let text = text::read(alloc, form, contents)?;
     if has_wide_characters(tag, contents) {
-        return Ok(LeafValue::NoText(printed_text(alloc, contents)?));
+        return Ok(LeafValue::NoText(printed_text(alloc, contents, 1)?));
     }
     Ok(LeafValue::Text(text))
 }
 
+// The value of a UTCTime, also in a form of BER that is none of DER.
 fn utc_value(alloc: Global, contents: &[u8]) -> Result<LeafValue, ASN1DecodeErr>
     ensures found { IfOk result (IsValue Universal UTC_TIME contents.now) }
     ensures refused { IfErr result (OutOfMemoryOr (LeafFault UTC_TIME contents.now)) }
 {
-    let moment = utc_time::read(alloc, contents)?;
-    let time = time_at(alloc, moment, "")?;
-    Ok(LeafValue::Moment(time))
+    match utc_time::read(alloc, contents) {
+        Ok(moment) => Ok(LeafValue::Moment(time_at(alloc, moment, "")?)),
+        Err(error) => match ber_time(alloc, false, contents)? {
+            Some(time) => Ok(LeafValue::BerTime(time)),
+            None => Err(error),
+        },
+    }
 }
 
-// A GeneralizedTime has each digit of its fraction, where a moment has nine at most.
+// The value of a GeneralizedTime, also in a form of BER that is none of DER. It has each digit of its fraction, where a
+// moment has nine at most.
 fn generalized_value(alloc: Global, contents: &[u8]) -> Result<LeafValue, ASN1DecodeErr>
     ensures found { IfOk result (IsValue Universal GENERALIZED_TIME contents.now) }
     ensures refused { IfErr result (OutOfMemoryOr (LeafFault GENERALIZED_TIME contents.now)) }
 {
-    let moment = generalized_time::read(alloc, contents)?;
-    let digits = fraction_digits(contents);
-    let time = time_at(alloc, moment, digits)?;
-    Ok(LeafValue::Moment(time))
-}
-
-// The value of a time of BER that is none of DER.
-fn time_of(alloc: Global, header: &Header, contents: &[u8]) -> Result<Option<Time>, AllocError>
-    ensures { IfOk result (λ found. IfSome found (λ _. is_time header.now.class header.now.tag ≡ true)) }
-{
-    match universal_tag(header) {
-        Some(tag) => ber_time(alloc, u64::from(tag), contents),
-        None => Ok(None),
+    match generalized_time::read(alloc, contents) {
+        Ok(moment) => {
+            let digits = fraction_digits(contents);
+            Ok(LeafValue::Moment(time_at(alloc, moment, digits)?))
+        }
+        Err(error) => match ber_time(alloc, true, contents)? {
+            Some(time) => Ok(LeafValue::BerTime(time)),
+            None => Err(error),
+        },
     }
 }
 

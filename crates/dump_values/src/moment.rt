@@ -21,31 +21,20 @@ pub struct Time {
     pub ahead: Option<i64>,
 }
 
-/// The time at a moment of Coordinated Universal Time, with these digits of a fraction of its second. A `DateTime` has
-/// nine digits at most; [`fraction_digits`] are all that there are.
-///
-/// # Errors
-/// Memory ran out.
+// The time at a moment of Coordinated Universal Time, with these digits of a fraction of its second: a `DateTime` has
+// nine digits at most.
 pub fn time_at(alloc: Global, moment: DateTime, digits: &str) -> Result<Time, AllocError>
     ensures { IfOk result (λ time. IsMomentText (moment_of moment) digits.now (string_bytes time.text)) }
 {
-    let text = moment_text(alloc, &moment, digits)?;
+    let whole = whole_second(&moment);
+    let mut text = format!(in alloc; "{whole}")?;
+    push_fraction(&mut text, digits)?;
+    text.push('Z')?;
     Ok(Time {
         text,
         moment,
         ahead: Some(0),
     })
-}
-
-// The text of a moment with these digits of a fraction of its second.
-fn moment_text(alloc: Global, moment: &DateTime, digits: &str) -> Result<String, AllocError>
-    ensures { IfOk result (λ text. IsMomentText (moment_of moment.now) digits.now (string_bytes text)) }
-{
-    let whole = whole_second(moment);
-    let mut text = format!(in alloc; "{whole}")?;
-    push_fraction(&mut text, digits)?;
-    text.push('Z')?;
-    Ok(text)
 }
 
 fn whole_second(moment: &DateTime) -> DateTime
@@ -57,7 +46,7 @@ fn whole_second(moment: &DateTime) -> DateTime
 }
 
 // Puts the digits of a fraction at the end, behind their point, if there are any.
-fn push_fraction(text: &mut String, digits: &str) -> Result<(), AllocError>
+pub fn push_fraction(text: &mut String, digits: &str) -> Result<(), AllocError>
     ensures { OnOk result (string_bytes text.new ≡ string_bytes text.old ++ fraction_text digits.now) }
 {
     if digits.is_empty() {
@@ -67,7 +56,7 @@ fn push_fraction(text: &mut String, digits: &str) -> Result<(), AllocError>
     text.push_str(digits)
 }
 
-/// The digits of the fraction of a GeneralizedTime, of its contents octets: nothing, if it has none.
+// The digits of the fraction of a GeneralizedTime, of its contents octets: nothing, if it has none.
 pub fn fraction_digits(contents: &[u8]) -> &str
     ensures { AreFractionOf contents.now result.now }
 {
@@ -80,13 +69,8 @@ pub fn fraction_digits(contents: &[u8]) -> &str
 fn fraction_octets(contents: &[u8]) -> &[u8]
     ensures { AreFractionOf contents.now result.now }
 {
-    if contents.len() <= TO_SECOND {
-        return &[];
-    }
-    let (_, end) = contents.split_at(TO_SECOND);
-    match end {
-        [b'.', digits @ .., _] => digits,
-        [digits @ .., _] => digits,
-        [] => &[],
+    match contents.get(TO_SECOND..) {
+        Some([b'.', digits @ .., _] | [digits @ .., _]) => digits,
+        _ => &[],
     }
 }

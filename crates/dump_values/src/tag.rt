@@ -1,24 +1,25 @@
-// What the class and the tag of a header say.
-ghost use Rattle.std.specs.Prelude.{◌≡◌, ◌↔◌, ◌==◌, ◌≤◌, IfNone, IfOk, IfSome, IsTrue, false};
+// What the class and the tag of a header say, and the names of tags.
+ghost use Rattle.std.specs.Prelude.{◌≡◌, ◌↔◌, ◌==◌, ◌≤◌, IfNone, IfOk, IfSome, IsTrue, false, option_map, string_bytes};
+ghost use Rattle.asn1_headers.specs.Names.{type_name as type_name_is};
 ghost use Rattle.asn1_headers.specs.declared.header.ASN1Class.TheVariants.{Universal};
-ghost use Rattle.dump_values.specs.Tags.{is_gone_into};
+ghost use Rattle.dump_values.specs.Tags.{is_gone_into, tag_name as tag_name_is, tag_number as tag_number_is};
 
 use asn1_headers::header::ASN1Class;
-use asn1_headers::tags::{SEQUENCE, SET};
+use asn1_headers::tags;
+use asn1_headers::types::type_name;
 use asn1_headers::whole_header::Header;
 use asn1_numbers::number::big_uint::BigUint;
 use std::alloc::{AllocError, Global};
+
+const SEQUENCE: u8 = tags::SEQUENCE as u8;
+
+const SET: u8 = tags::SET as u8;
 
 // Whether the contents octets are encodings: those of a constructed encoding, and of a SEQUENCE or SET.
 pub fn holds_encodings(header: &Header) -> bool
     ensures { result ≡ is_gone_into header.now.class header.now.constructed header.now.tag }
 {
-    match header.class {
-        ASN1Class::Universal => {
-            header.constructed || has_tag(&header.tag, SEQUENCE) || has_tag(&header.tag, SET)
-        }
-        _ => header.constructed,
-    }
+    header.constructed || matches!(universal_tag(header), Some(SEQUENCE | SET))
 }
 
 // Whether its class is Universal.
@@ -39,25 +40,6 @@ pub fn universal_tag(header: &Header) -> Option<u8>
     }
 }
 
-// The header of a primitive encoding with this tag of class Universal, and so many contents octets, which has no octets
-// itself.
-pub fn universal_header(alloc: Global, tag: u8, announced: usize) -> Result<Header, AllocError>
-    ensures class { IfOk result (λ header. header.class ≡ Universal) }
-    ensures tag { IfOk result (λ header. header.tag ≡ tag) }
-    ensures primitive { IfOk result (λ header. header.constructed ≡ false) }
-{
-    Ok(Header {
-        class: ASN1Class::Universal,
-        constructed: false,
-        tag: BigUint::from_u64(alloc, u64::from(tag))?,
-        identifier: 0,
-        size: 0,
-        announced,
-        has_length_80: false,
-        is_indefinite: false,
-    })
-}
-
 // Whether the tag number is this one.
 pub fn has_tag(tag: &BigUint, number: u64) -> bool
     ensures { result ≡ (tag.now == number) }
@@ -65,5 +47,40 @@ pub fn has_tag(tag: &BigUint, number: u64) -> bool
     match tag.to_u64() {
         Some(n) => n == number,
         None => false,
+    }
+}
+
+// The name of the type with the tag, or the tag in brackets.
+pub fn tag_name(alloc: Global, class: ASN1Class, tag: &BigUint) -> Result<String, AllocError>
+    ensures { IfOk result (λ text. string_bytes text ≡ tag_name_is class tag.now) }
+{
+    if let Some(name) = name_of(class, tag) {
+        return String::from_str(alloc, name);
+    }
+    let number = tag_number(alloc, tag)?;
+    match class {
+        ASN1Class::Universal => format!(in alloc; "[UNIVERSAL {number}]"),
+        ASN1Class::Application => format!(in alloc; "[APPLICATION {number}]"),
+        ASN1Class::ContextSpecific => format!(in alloc; "[{number}]"),
+        ASN1Class::Private => format!(in alloc; "[PRIVATE {number}]"),
+    }
+}
+
+fn tag_number(alloc: Global, tag: &BigUint) -> Result<String, AllocError>
+    ensures { IfOk result (λ text. string_bytes text ≡ tag_number_is tag.now) }
+{
+    match tag.to_u128() {
+        Some(n) => format!(in alloc; "{n}"),
+        None => String::from_str(alloc, "beyond 2^128"),
+    }
+}
+
+// The name of a type that has one.
+pub fn name_of(class: ASN1Class, tag: &BigUint) -> Option<&'static str>
+    ensures { option_map (λ name. name.now) result ≡ type_name_is class tag.now }
+{
+    match tag.to_u64() {
+        Some(n) => type_name(class, n),
+        None => None,
     }
 }

@@ -1,48 +1,47 @@
-// UTCTime and GeneralizedTime as X.680 has them (46.3, 47.3): in the form of DER, and in the others that BER has.
-ghost use Rattle.std.specs.Prelude.{◌≡◌, ◌<◌, IfOk, IfSome, true};
-ghost use Rattle.asn1_headers.specs.declared.header.ASN1Class.TheVariants.{Universal};
-ghost use Rattle.dump_values.specs.Values.{is_time};
-
-use crate::moment::Time;
-use asn1_headers::tags::{GENERALIZED_TIME, UTC_TIME};
+// UTCTime and GeneralizedTime as X.680 has them (46.3, 47.3), in the forms that BER has beside that of DER.
+use crate::moment::{Time, push_fraction};
 use asn1_leaves::contents::generalized_time;
-use jiff::civil::DateTime;
+use asn1_leaves::contents::moment::pair;
 use std::alloc::{AllocError, Global};
+use std::str;
 
-// How many digits a date and a time have, to the second.
-const ALL_DIGITS: usize = 14;
-
-/// The value of contents octets with the tag of UTCTime or GeneralizedTime, in one of the forms that BER has beside
-/// that of DER: `2024-02-29T12:00:30.5+01:00`, `2024-02-29T12:00Z`, in local time `2024-02-29T12`. `None` of others.
-///
-/// # Errors
-/// Memory ran out.
-pub fn ber_time(alloc: Global, tag: u64, contents: &[u8]) -> Result<Option<Time>, AllocError>
-    ensures { IfOk result (λ found. IfSome found (λ _. is_time Universal tag ≡ true)) }
-{
-    if tag != UTC_TIME && tag != GENERALIZED_TIME {
-        return Ok(None);
-    }
-    time_of(alloc, tag == GENERALIZED_TIME, contents)
-}
-
-// The digits of a date and a time of day, a fraction with its mark, and the difference to Coordinated Universal Time.
-fn time_of(alloc: Global, is_general: bool, contents: &[u8]) -> Result<Option<Time>, AllocError> {
+// The value of contents octets of a UTCTime, or if it is general of a GeneralizedTime, in one of these forms:
+// `2024-02-29T12:00:30.5+01:00`, `2024-02-29T12:00Z`, in local time `2024-02-29T12`. `None` of others. Each has the
+// digits of a date and a time of day to the second or the minute, in a GeneralizedTime also to the hour; a fraction
+// with its mark; and the difference to Coordinated Universal Time. What is left out is 0.
+pub fn ber_time(
+    alloc: Global,
+    is_general: bool,
+    contents: &[u8],
+) -> Result<Option<Time>, AllocError> {
     let digits = contents.iter().position(|b| !b.is_ascii_digit());
     let (digits, rest) = split_before(contents, digits);
     let zone = rest.iter().position(|b| matches!(*b, b'Z' | b'+' | b'-'));
     let (fraction, zone) = split_before(rest, zone);
-    let full = full_digits(alloc, is_general, digits)?;
-    let Some(ahead) = seconds_ahead(is_general, zone) else {
+    let mut whole = Vec::from_slice(alloc, century(is_general, digits))?;
+    whole.extend_from_slice(digits)?;
+    let shown = match whole.len() {
+        14 => "YYYY-MM-DDThh:mm:ss".len(),
+        12 => "YYYY-MM-DDThh:mm".len(),
+        10 if is_general => "YYYY-MM-DDThh".len(),
+        _ => return Ok(None),
+    };
+    whole.resize(14, b'0')?;
+    whole.push(b'Z')?;
+    let (Some(moment), Some(digits), Some(ahead)) = (
+        generalized_time::moment(&whole),
+        digits_of(is_general, fraction),
+        seconds_ahead(is_general, zone),
+    ) else {
         return Ok(None);
     };
-    if !is_size(is_general, full.len()) || !is_fraction(is_general, fraction) {
-        return Ok(None);
+    let mut text = format!(in alloc; "{moment}")?;
+    text.truncate(text.floor_char_boundary(shown));
+    push_fraction(&mut text, digits)?;
+    for (i, octet) in zone.iter().enumerate() {
+        text.push_str(if i == 3 { ":" } else { "" })?;
+        text.push(char::from(*octet))?;
     }
-    let Some(moment) = generalized_time::moment(&to_second(alloc, &full)?) else {
-        return Ok(None);
-    };
-    let text = written(alloc, &full, fraction, zone)?;
     Ok(Some(Time {
         text,
         moment,
@@ -57,103 +56,41 @@ fn split_before(octets: &[u8], place: Option<usize>) -> (&[u8], &[u8]) {
         .unwrap_or((octets, &[]))
 }
 
-// Whether it is nothing, or in a GeneralizedTime a point or a comma with digits.
-fn is_fraction(is_general: bool, fraction: &[u8]) -> bool {
-    match fraction {
-        [] => true,
-        [b'.' | b',', digits @ ..] => {
-            is_general && !digits.is_empty() && digits.iter().all(|b| b.is_ascii_digit())
-        }
-        _ => false,
-    }
-}
-
-// How many seconds the time of day is ahead of Coordinated Universal Time in a zone. Inside, `None` of local time,
-// which a GeneralizedTime alone may have.
-fn seconds_ahead(is_general: bool, zone: &[u8]) -> Option<Option<i64>> {
-    match zone {
-        [] if is_general => Some(None),
-        [b'Z'] => Some(Some(0)),
-        [b'+', clock @ ..] => Some(Some(i64::from(seconds_of(is_general, clock)?))),
-        [b'-', clock @ ..] => Some(Some(0 - i64::from(seconds_of(is_general, clock)?))),
-        _ => None,
-    }
-}
-
-// How many seconds a difference is of hours and minutes, or in a GeneralizedTime of hours alone.
-fn seconds_of(is_general: bool, clock: &[u8]) -> Option<u32> {
-    match clock {
-        [a, b, c, d] => Some(3600 * below(24, *a, *b)? + 60 * below(60, *c, *d)?),
-        [a, b] if is_general => Some(3600 * below(24, *a, *b)?),
-        _ => None,
-    }
-}
-
-// The number of two digits, if it is below the limit.
-fn below(limit: u32, tens: u8, units: u8) -> Option<u32>
-    ensures { IfSome result (λ n. n < limit) }
-{
-    let number = 10 * char::from(tens).to_digit(10)? + char::from(units).to_digit(10)?;
-    if number < limit { Some(number) } else { None }
-}
-
-// The digits with a 0 for each that is left out, and `Z`.
-fn to_second(alloc: Global, digits: &[u8]) -> Result<Vec<u8>, AllocError> {
-    let mut whole = Vec::from_slice(alloc, digits)?;
-    whole.resize(ALL_DIGITS, b'0')?;
-    whole.push(b'Z')?;
-    Ok(whole)
-}
-
-// Whether a date and a time may have so many digits: to the second or the minute, in a GeneralizedTime also to the
-// hour.
-fn is_size(is_general: bool, size: usize) -> bool {
-    size == ALL_DIGITS || size == 12 || (is_general && size == 10)
-}
-
-// The digits, with those of the century, which a UTCTime leaves out: 19 for years from 50 on, else 20 (RFC 5280,
-// 4.1.2.5.1).
-fn full_digits(alloc: Global, is_general: bool, digits: &[u8]) -> Result<Vec<u8>, AllocError> {
-    let century: &[u8] = match digits {
+// The century that a UTCTime leaves out: 19 for years from 50 on, else 20 (RFC 5280, 4.1.2.5.1).
+fn century(is_general: bool, digits: &[u8]) -> &'static [u8] {
+    match digits {
         _ if is_general => b"",
         [b'5'..=b'9', ..] => b"19",
         _ => b"20",
-    };
-    let mut full = Vec::from_slice(alloc, century)?;
-    full.extend_from_slice(digits)?;
-    Ok(full)
+    }
 }
 
-// The parts with the marks of ISO 8601.
-fn written(
-    alloc: Global,
-    digits: &[u8],
-    fraction: &[u8],
-    zone: &[u8],
-) -> Result<String, AllocError> {
-    let mut text = String::new(alloc);
-    for (i, digit) in digits.iter().enumerate() {
-        text.push_str(mark_before(i))?;
-        text.push(char::from(*digit))?;
-    }
-    for (i, octet) in fraction.iter().enumerate() {
-        text.push(if i == 0 { '.' } else { char::from(*octet) })?;
-    }
-    for (i, octet) in zone.iter().enumerate() {
-        if i == 3 {
-            text.push(':')?;
+// The digits behind the point or the comma of a fraction, which a GeneralizedTime alone may have.
+fn digits_of(is_general: bool, fraction: &[u8]) -> Option<&str> {
+    match fraction {
+        [] => Some(""),
+        [b'.' | b',', digits @ ..]
+            if is_general && !digits.is_empty() && digits.iter().all(|b| b.is_ascii_digit()) => {
+            str::from_utf8(digits).ok()
         }
-        text.push(char::from(*octet))?;
+        _ => None,
     }
-    Ok(text)
 }
 
-// What stands before the digit with this number in YYYYMMDDhhmmss.
-fn mark_before(i: usize) -> &'static str {
-    match i {
-        4 | 6 => "-",
-        8 => "T",
-        10 | 12 => ":",
-        _ => "",
+// How many seconds the time of day is ahead of Coordinated Universal Time in a zone, which has hours and minutes, or in
+// a GeneralizedTime hours alone. Inside, `None` of local time, which a GeneralizedTime alone may have.
+fn seconds_ahead(is_general: bool, zone: &[u8]) -> Option<Option<i64>> {
+    let (hours, minutes) = match zone {
+        [] if is_general => return Some(None),
+        [b'Z'] => (0, 0),
+        [b'+' | b'-', a, b, c, d] => (pair(*a, *b)?, pair(*c, *d)?),
+        [b'+' | b'-', a, b] if is_general => (pair(*a, *b)?, 0),
+        _ => return None,
+    };
+    if hours > 23 || minutes > 59 {
+        return None;
     }
+    let seconds = 3600 * i64::from(hours) + 60 * i64::from(minutes);
+    let is_behind = zone.starts_with(b"-");
+    Some(Some(if is_behind { -seconds } else { seconds }))
 }

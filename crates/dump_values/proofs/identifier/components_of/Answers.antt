@@ -1,6 +1,6 @@
--- For `value::components_of`: what it returns is right.
+-- For `identifier::components_of`: what it returns is right.
 use Rattle.dump_values.proofs.Identifiers.{HasShortFront-none}
-use Rattle.dump_values.proofs.value.components_of.Goals as goal
+use Rattle.dump_values.proofs.identifier.components_of.Goals as goal
 
 pub returns-in-Some : goal.returns-in-Some
 returns-in-Some c = λ short.

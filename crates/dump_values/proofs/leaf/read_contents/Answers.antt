@@ -1,6 +1,6 @@
--- For `leaf::read_by_tag`: what it returns is right.
+-- For `leaf::read_contents`: what it returns is right.
 use Rattle.std.proofs.Common.{inl, inr}
-use Rattle.dump_values.proofs.leaf.read_by_tag.Goals as goal
+use Rattle.dump_values.proofs.leaf.read_contents.Goals as goal
 
 pub returns : goal.returns
 returns c =
