@@ -15,22 +15,30 @@ taken-some : (indefinite : Bool) (n there : ℕ) → 0 < n → 0 < there → 0 <
 taken-some true n there some left = left
 taken-some false n there some left = omega (arith, some, left)
 
+-- where a header stands at the front of octets, it has some, they are some, and its encoding takes some of them
+pub size-some :
+    (octets : List ℕ) (header : Header) → IsHeaderOf octets header →
+    (0 < header.size) × (0 < length octets) × (0 < size_in octets header)
+size-some octets header (h, parts, form) =
+    let some =
+    BeginsWithHeader-some octets header.size header.announced header.class header.constructed header.tag h in
+    let there : 0 < length octets = omega (arith, h.within, some) in (
+      some,
+      there,
+      taken-some header.is_indefinite (header.size + header.announced) (length octets)
+          (omega (arith, some)) there,
+    )
+
 -- a step over an encoding takes some octets
 pub Takes-encoding :
     (left : Left) (header : Header) (step : Step) → IsHeaderOf left.octets.now header →
     IsTaken header (size_in left.octets.now header) step → Takes step left
-Takes-encoding left header (Into first size indefinite) (h, parts, form) (opened, first_is, size_is, same) =
-    let some = BeginsWithHeader-some left.octets.now header.size header.announced header.class header.constructed
-    header.tag h in
-    (omega (arith, first_is, some), omega (arith, h.within, some))
-Takes-encoding left header (Past size) (h, parts, form) (closed, size_is) =
-    let some = BeginsWithHeader-some left.octets.now header.size header.announced header.class header.constructed
-    header.tag h in
-    let there : 0 < length left.octets.now = omega (arith, h.within, some) in
-    let t : 0 < size_in left.octets.now header =
-    taken-some header.is_indefinite (header.size + header.announced) (length left.octets.now)
-    (omega (arith, some)) there in
-    (omega (arith, size_is, t), there)
+Takes-encoding left header (Into first size indefinite) begins (opened, first_is, size_is, same) =
+    let some = size-some left.octets.now header begins in
+    (omega (arith, first_is, some.0), some.1)
+Takes-encoding left header (Past size) begins (closed, size_is) =
+    let some = size-some left.octets.now header begins in
+    (omega (arith, size_is, some.2), some.1)
 Takes-encoding left header (Out size) is none = absurd none
 
 -- a step over what comes next takes some octets or leaves contents octets

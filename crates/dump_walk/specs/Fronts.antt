@@ -1,17 +1,16 @@
 -- What stands in octets, encoding after encoding, by their headers. The contents octets of constructed encodings, and
 -- of each SEQUENCE and SET, are gone into; those of others are looked at alone.
-use Rattle.std.specs.Prelude.{◌&&◌, ◌≡◌, ◌⊎◌, ℕ, ◌+◌, ◌^◌, ◌<◌, ◌≤◌, nat_lt, Bool, true, false, if◌then◌else◌, Option, None, Some, unwrap_or, List, [], ◌∷◌, ◌++◌, drop, length, codes, decimal}
+use Rattle.std.specs.Prelude.{◌&&◌, ◌≡◌, ◌⊎◌, ℕ, ◌+◌, ◌<◌, ◌≤◌, nat_lt, Bool, true, false, Option, None, Some, List, [], ◌∷◌, ◌++◌, drop, length, codes}
 use Rattle.asn1_headers.specs.Fault.{DecodeFault}
 use Rattle.asn1_headers.specs.Front.{HasNoHeader, IsAtFront}
 use Rattle.asn1_headers.specs.Indefinite.{begins_with_end}
-use Rattle.asn1_headers.specs.Names.{type_name}
-use Rattle.asn1_headers.specs.declared.header.ASN1Class.{ASN1Class}
-use Rattle.asn1_headers.specs.declared.header.ASN1Class.TheVariants.{Universal, Application, ContextSpecific, Private}
+use Rattle.asn1_headers.specs.declared.header.ASN1Class.TheVariants.{Universal}
 use Rattle.asn1_headers.specs.declared.tags.TheConstants.{BIT_STRING, OCTET_STRING}
 use Rattle.asn1_headers.specs.declared.whole_header.Header.{Header}
 use Rattle.asn1_blocks.specs.Contents.{LeafFault}
 use Rattle.asn1_der.specs.Departures.{AreBroken}
 use Rattle.asn1_der.specs.declared.rule.Rule.{Rule}
+use Rattle.dump_values.specs.Tags.{tag_name}
 use Rattle.dump_values.specs.Values.{HasValue}
 use Rattle.dump_values.specs.declared.value.LeafValue.{LeafValue}
 use Rattle.dump_walk.specs.Headers.{IsHeaderOf, contents_in, is_opened, is_stray, size_in}
@@ -20,18 +19,6 @@ use Rattle.dump_walk.specs.Steps.{GoesTo, IsTaken}
 use Rattle.dump_walk.specs.declared.cursor.End.{End}
 use Rattle.dump_walk.specs.declared.cursor.Step.{Step}
 use Rattle.dump_walk.specs.declared.cursor.Step.TheVariants.{Out, Past}
-
--- a tag number in words: in decimal below 2^128
-abbrev pub tag_number : ℕ → List ℕ
-tag_number tag = if nat_lt tag (2 ^ 128) then decimal tag else codes "beyond 2^128"
-
--- a tag: the type of class Universal that has it (X.680 8.4, table 1), or its class and number as X.680 writes them
-abbrev pub tag_name : ASN1Class → ℕ → List ℕ
-tag_name Universal tag =
-    unwrap_or (type_name Universal tag) (codes "[UNIVERSAL " ++ (tag_number tag ++ codes "]"))
-tag_name Application tag = codes "[APPLICATION " ++ (tag_number tag ++ codes "]")
-tag_name ContextSpecific tag = codes "[" ++ (tag_number tag ++ codes "]")
-tag_name Private tag = codes "[PRIVATE " ++ (tag_number tag ++ codes "]")
 
 -- what the line of an encoding, or of something else, begins with: its offset, the sizes of its header and of the
 -- contents octets that it announces, whether its length is of the indefinite form, which announces none, how many

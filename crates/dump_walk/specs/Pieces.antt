@@ -1,9 +1,10 @@
 -- The pieces in which octets are gone over: encodings, end-of-contents octets, and octets that begin with no header.
 use Rattle.std.specs.Prelude.{◌≡◌, ℕ, ◌+◌, ◌<◌, ◌≤◌, Bool, true, false, List, [], ◌∷◌, ◌++◌, codes, length, IfSome, Option, None, Some, slice_range, ⊤}
 use Rattle.asn1_der.specs.declared.rule.Rule.{Rule}
+use Rattle.dump_values.specs.Tags.{tag_name}
 use Rattle.dump_values.specs.declared.faults.Fault.{Fault}
 use Rattle.dump_values.specs.declared.value.LeafValue.{LeafValue}
-use Rattle.dump_walk.specs.Fronts.{AddsLine, AreFrontsOf, Front, HoldsBehind, IsNextLine, LinesTo, tag_name}
+use Rattle.dump_walk.specs.Fronts.{AddsLine, AreFrontsOf, Front, HoldsBehind, IsNextLine, LinesTo}
 use Rattle.dump_walk.specs.Steps.{HasGone, to_go}
 use Rattle.dump_walk.specs.declared.cursor.Cursor.{Cursor}
 use Rattle.dump_walk.specs.declared.cursor.End.{End}

@@ -118,7 +118,7 @@ fn found_by<'a>(piece: &Piece<'a>, offset: usize) -> Result<Found<'a>, AllocErro
     let Some(nested) = piece.nested else {
         return Ok(Found::Elsewhere);
     };
-    let before = checked_sum(piece.header_size(), nested.before)?;
+    let before = checked_sum(piece.sizes().header, nested.before)?;
     let first = checked_sum(piece.offset, before)?;
     if offset < first || offset - first >= nested.octets.len() {
         return Ok(Found::Elsewhere);
@@ -161,7 +161,7 @@ fn whole_block<'a>(
     ensures { IfOk result (λ found. (before : List Front)
         → HasCome octets.now before walk.old piece.now → IsFoundAt octets.now piece.now.offset found) }
 {
-    if piece.is_indefinite() {
+    if piece.sizes().is_indefinite {
         return ended_block(alloc, walk, octets, piece);
     }
     Ok(Ok(sized_block(octets, piece)?))
@@ -175,8 +175,9 @@ fn sized_block<'a>(octets: &'a [u8], piece: &Piece<'_>) -> Result<Block<'a>, All
         ≡ slice_range octets.now (piece.now.offset + kind_header piece.now.kind)
         (piece.now.offset + (kind_header piece.now.kind + kind_contents piece.now.kind))) }
 {
-    let contents = checked_sum(piece.offset, piece.header_size())?;
-    let end = checked_sum(contents, piece.contents_size())?;
+    let sizes = piece.sizes();
+    let contents = checked_sum(piece.offset, sizes.header)?;
+    let end = checked_sum(contents, sizes.contents)?;
     Ok(Block {
         octets: octets_between(octets, piece.offset, end),
         contents: octets_between(octets, contents, end),
@@ -196,7 +197,7 @@ fn ended_block<'a>(
     ensures { IfOk result (λ found. (before : List Front)
         → HasCome octets.now before walk.old piece.now → IsFoundAt octets.now piece.now.offset found) }
 {
-    let contents = checked_sum(piece.offset, piece.header_size())?;
+    let contents = checked_sum(piece.offset, piece.sizes().header)?;
     let Some(end) = end_of(alloc, walk, piece.place.depth)? else {
         return Ok(Err(NoBlock::CutShort));
     };

@@ -84,13 +84,6 @@ impl<'a> Cursor<'a> {
         self.ends.len().saturating_sub(1)
     }
 
-    // What is left up to an end.
-    fn left_to(&self, end: usize) -> &'a [u8]
-        ensures { result.now ≡ slice_range self.now.octets.now self.now.offset end }
-    {
-        octets_between(self.octets, self.offset, end)
-    }
-
     // What is left of the innermost contents octets that have not ended. It leaves those of definite length that have.
     pub fn next(&mut self) -> Option<Left<'a>>
         ensures left { IfSome result (IsLeftOf self.new) }
@@ -100,7 +93,7 @@ impl<'a> Cursor<'a> {
         ensures ended { HasLeft self.new.octets.now self.new.offset (ends_of self.old) (ends_of self.new) }
     {
         while let Some(end) = self.innermost() {
-            let octets = self.left_to(end.offset);
+            let octets = octets_between(self.octets, self.offset, end.offset);
             if end.is_indefinite || !octets.is_empty() {
                 return Some(Left {
                     octets,

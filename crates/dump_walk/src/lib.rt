@@ -16,6 +16,7 @@ mod block;
 pub mod cursor;
 pub mod element_header;
 pub mod fields;
+mod fit;
 pub mod marks;
 pub mod nested;
 pub mod piece;
@@ -25,8 +26,8 @@ pub mod string_value;
 pub mod strings;
 pub mod style;
 pub mod sum;
-pub mod tag;
 pub mod walk;
 
 pub use block::{Block, NoBlock, block_at};
+pub use fit::fitting;
 pub use string_value::{NoString, string_octets};

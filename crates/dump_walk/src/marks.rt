@@ -8,6 +8,7 @@ ghost use Rattle.dump_walk.specs.Marks.{EndsWithZero, breaches_of, text_in};
 use crate::place::Place;
 use asn1_der::{Rule, broken_rules};
 use asn1_headers::whole_header::Header;
+use dump_shapes::ValueRule;
 use std::alloc::{AllocError, Global};
 
 // What of DER an encoding breaks.
@@ -50,7 +51,7 @@ impl Breaches {
         let mut broken = Vec::new(alloc);
         for rule in &self.rules {
             broken.push(BrokenRule {
-                name: name_of(*rule),
+                name: rule.name(),
                 section: rule.section(),
                 text: rule.text(),
             })?;
@@ -81,17 +82,13 @@ pub fn find_breaches(
         → EndsWithZero (contents_in left.now header.now)) }
 {
     let contents = &left[header.size..header.size + header.announced];
+    // whether a primitive encoding at the place is a list of named bits (X.680 22.2)
+    let leaf = place.field.and_then(|field| field.leaf);
+    let is_list = leaf.is_some_and(|leaf| matches!(leaf.rule, ValueRule::Named));
     Ok(Breaches {
         rules: broken_rules(alloc, left, header)?,
-        has_spare_bits: has_spare_bits(place, header, contents),
+        has_spare_bits: is_list && !header.constructed && ends_with_zero(contents),
     })
-}
-
-// Whether contents octets at the place are a list of named bits that ends with a 0.
-fn has_spare_bits(place: Place, header: &Header, contents: &[u8]) -> bool
-    ensures { result ≡ true → EndsWithZero contents.now }
-{
-    place.is_bit_list() && !header.constructed && ends_with_zero(contents)
 }
 
 // Whether contents octets are those of a BIT STRING whose last bit is 0.
@@ -101,40 +98,5 @@ fn ends_with_zero(contents: &[u8]) -> bool
     match contents {
         [unused, .., last] if *unused < 8 => *last / (1 << *unused) % 2 == 0,
         _ => false,
-    }
-}
-
-// The name of a rule in a program.
-fn name_of(rule: Rule) -> &'static str {
-    match rule {
-        Rule::LongIdentifier => "LongIdentifier",
-        Rule::PaddedTag => "PaddedTag",
-        Rule::IndefiniteLength => "IndefiniteLength",
-        Rule::LongLength => "LongLength",
-        Rule::ReservedTag => "ReservedTag",
-        Rule::NotConstructed => "NotConstructed",
-        Rule::NotPrimitive => "NotPrimitive",
-        Rule::ConstructedString => "ConstructedString",
-        Rule::BooleanSize => "BooleanSize",
-        Rule::BooleanValue => "BooleanValue",
-        Rule::NoInteger => "NoInteger",
-        Rule::PaddedInteger => "PaddedInteger",
-        Rule::BinaryReal => "BinaryReal",
-        Rule::DecimalReal => "DecimalReal",
-        Rule::SpecialReal => "SpecialReal",
-        Rule::UnusedCount => "UnusedCount",
-        Rule::UnusedOfNone => "UnusedOfNone",
-        Rule::UnusedBits => "UnusedBits",
-        Rule::NullContents => "NullContents",
-        Rule::Subidentifiers => "Subidentifiers",
-        Rule::Iri => "Iri",
-        Rule::Characters => "Characters",
-        Rule::UtcTime => "UtcTime",
-        Rule::GeneralizedTime => "GeneralizedTime",
-        Rule::Time => "Time",
-        Rule::Order => "Order",
-        Rule::NotEncodings => "NotEncodings",
-        Rule::External => "External",
-        Rule::Identification => "Identification",
     }
 }

@@ -1,6 +1,7 @@
 // Encodings inside octets of strings.
 ghost use Rattle.std.specs.Prelude.{◌+◌, ◌<◌, ◌≤◌, IfOk, IfSome, length};
-ghost use Rattle.dump_walk.specs.Fronts.{HoldsBehind, tag_name};
+ghost use Rattle.dump_values.specs.Tags.{tag_name};
+ghost use Rattle.dump_walk.specs.Fronts.{HoldsBehind};
 ghost use Rattle.dump_walk.specs.Steps.{Takes};
 
 use crate::cursor::{Cursor, Left, Step};
@@ -11,7 +12,7 @@ use asn1_der::is_der;
 use asn1_headers::tags;
 use asn1_headers::whole_header::Header;
 use dump_shapes::Held;
-use dump_values::leaf::read_by_tag;
+use dump_values::leaf::{ContentsType, read_contents};
 use dump_values::tag::{holds_encodings, universal_tag};
 use std::alloc::{AllocError, Global};
 
@@ -46,20 +47,16 @@ pub fn nested_in<'a>(
     if !place.shows_inside() {
         return Ok(None);
     }
-    let held = place.held();
-    match octets_inside(header, contents, held) {
-        Some(nested) if hold(alloc, nested.octets, held)? => Ok(Some(nested)),
-        _ => Ok(None),
-    }
-}
-
-// Whether octets of a string that holds this are encodings.
-fn hold(alloc: Global, octets: &[u8], held: Held) -> Result<bool, AllocError> {
-    match held {
-        Held::Nothing => Ok(false),
-        Held::Type => hold_encodings(alloc, octets),
-        Held::Anything => are_likely(alloc, octets),
-    }
+    let held = place.field.map_or(Held::Anything, |field| field.held);
+    let Some(nested) = octets_inside(header, contents, held) else {
+        return Ok(None);
+    };
+    let are_encodings = match held {
+        Held::Nothing => false,
+        Held::Type => hold_encodings(alloc, nested.octets)?,
+        Held::Anything => are_likely(alloc, nested.octets)?,
+    };
+    Ok(if are_encodings { Some(nested) } else { None })
 }
 
 // Whether octets of which nothing says what they are look like DER: they are one encoding of it, which is constructed,
@@ -90,7 +87,7 @@ fn octets_inside<'a>(header: &Header, contents: &'a [u8], held: Held) -> Option<
     ensures { IfSome result (λ h.
         HoldsBehind (tag_name header.now.class header.now.tag) contents.now h.before h.octets.now) }
 {
-    let is_guess = held == Held::Anything;
+    let is_guess = matches!(held, Held::Anything);
     match (universal_tag(header), contents) {
         (Some(OCTET_STRING), octets) => Some(Nested {
             octets,
@@ -175,7 +172,7 @@ fn guess_with(
         return Ok(guess);
     }
     let contents = &octets[header.size..header.size + header.announced];
-    match read_by_tag(alloc, &header, contents, 0)?.value {
+    match read_contents(alloc, &header, contents, 0, ContentsType::OfTag)?.value {
         Some(_) => Ok(Guess::Values),
         None => Ok(Guess::Chance),
     }

@@ -12,16 +12,16 @@ use crate::element_header::{is_stray, size_of, step_of};
 use crate::marks::{Breaches, find_breaches};
 use crate::nested::{Nested, nested_in};
 use crate::place::Place;
-use crate::strings::{Joined, read_joined, string_tag};
+use crate::string_value::string_type;
+use crate::strings::{Joined, read_joined};
 use crate::sum::checked_sum;
-use crate::tag::tag_name;
 use asn1_headers::error::ASN1DecodeErr;
 use asn1_headers::header::HeaderCount;
 use asn1_headers::whole_header::{Header, read_header};
-use dump_shapes::{Named, SetBit, Shapes};
+use dump_shapes::{Named, Shapes};
 use dump_values::faults::{Fault, fault_at};
 use dump_values::leaf::{ContentsType, Read, read_contents};
-use dump_values::tag::holds_encodings;
+use dump_values::tag::{holds_encodings, tag_name};
 use dump_values::value::LeafValue;
 use std::alloc::{AllocError, Global};
 
@@ -64,6 +64,17 @@ pub struct Piece<'a> {
     pub nested: Option<Nested<'a>>,
 }
 
+// How many octets a piece has.
+#[derive(Clone, Copy, Drop)]
+pub struct Sizes {
+    // those of its header
+    pub header: usize,
+    // the contents octets that it announces, or has
+    pub contents: usize,
+    // whether its length is of the indefinite form
+    pub is_indefinite: bool,
+}
+
 impl<'a> Piece<'a> {
     // How many octets stand before it in the document.
     pub fn document_offset(&self) -> Result<usize, AllocError>
@@ -72,41 +83,25 @@ impl<'a> Piece<'a> {
         checked_sum(self.place.base, self.offset)
     }
 
-    // How many octets its header has.
-    pub fn header_size(&self) -> usize
-        ensures { result ≡ kind_header self.now.kind }
+    // How many octets it has.
+    pub fn sizes(&self) -> Sizes
+        ensures header { result.header ≡ kind_header self.now.kind }
+        ensures contents { result.contents ≡ kind_contents self.now.kind }
+        ensures indefinite { result.is_indefinite ≡ kind_indefinite self.now.kind }
     {
-        match &self.kind {
-            PieceKind::EndOfContents(size) => *size,
-            PieceKind::Unreadable(_) => 0,
+        let (header, contents, is_indefinite) = match &self.kind {
+            PieceKind::EndOfContents(size) => (*size, 0, false),
+            PieceKind::Unreadable(octets) => (0, octets.len(), false),
             PieceKind::Cut(header, _)
             | PieceKind::Opened(header, _, _)
-            | PieceKind::Leaf(header, _, _) => header.size,
-        }
-    }
-
-    // How many contents octets it announces, or has.
-    pub fn contents_size(&self) -> usize
-        ensures { result ≡ kind_contents self.now.kind }
-    {
-        match &self.kind {
-            PieceKind::EndOfContents(_) => 0,
-            PieceKind::Unreadable(octets) => octets.len(),
-            PieceKind::Cut(header, _)
-            | PieceKind::Opened(header, _, _)
-            | PieceKind::Leaf(header, _, _) => { header.announced }
-        }
-    }
-
-    // Whether its length is of the indefinite form.
-    pub fn is_indefinite(&self) -> bool
-        ensures { result ≡ kind_indefinite self.now.kind }
-    {
-        match &self.kind {
-            PieceKind::EndOfContents(_) | PieceKind::Unreadable(_) => false,
-            PieceKind::Cut(header, _)
-            | PieceKind::Opened(header, _, _)
-            | PieceKind::Leaf(header, _, _) => { header.is_indefinite }
+            | PieceKind::Leaf(header, _, _) => {
+                (header.size, header.announced, header.is_indefinite)
+            }
+        };
+        Sizes {
+            header,
+            contents,
+            is_indefinite,
         }
     }
 
@@ -128,10 +123,15 @@ impl<'a> Piece<'a> {
         if self.place.style.is_plain {
             return None;
         }
-        let spot = self.place.spot()?;
+        let spot = self.place.field?;
         match &self.kind {
             PieceKind::EndOfContents(_) | PieceKind::Unreadable(_) => None,
-            _ => shapes.names_of(spot, self.contents()),
+            _ => Some(Named {
+                value: spot
+                    .leaf
+                    .and_then(|leaf| shapes.value_name(leaf, self.contents())),
+                ..spot.named
+            }),
         }
     }
 
@@ -145,7 +145,7 @@ impl<'a> Piece<'a> {
     // Whether it is a whole string that is constructed.
     pub fn is_string(&self) -> bool {
         match &self.kind {
-            PieceKind::Opened(header, _, _) => string_tag(header).is_some(),
+            PieceKind::Opened(header, _, _) => string_type(header).is_some(),
             _ => false,
         }
     }
@@ -155,16 +155,16 @@ impl<'a> Piece<'a> {
         self.nested.is_some_and(|nested| nested.is_guess)
     }
 
-    // The bits of it that are set, with their names, if its type has names for bits.
-    pub fn set_bits(&self, alloc: Global, shapes: &Shapes) -> Result<Vec<SetBit>, AllocError> {
-        match (self.place.leaf_type(), self.value()) {
-            (Some(leaf), Some(LeafValue::Bits(bits))) => shapes.set_bits(
+    // The names of the bits of it that are set, if its type has names for bits, and some are set.
+    pub fn bits_text(&self, alloc: Global, shapes: &Shapes) -> Result<Option<String>, AllocError> {
+        match (self.place.field.and_then(|field| field.leaf), self.value()) {
+            (Some(leaf), Some(LeafValue::Bits(bits))) => shapes.bits_text(
                 alloc,
                 leaf,
                 bits.count,
                 &bits.octets,
             ),
-            _ => Ok(Vec::new(alloc)),
+            _ => Ok(None),
         }
     }
 

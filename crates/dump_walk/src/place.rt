@@ -2,10 +2,9 @@
 ghost use Rattle.std.specs.Prelude.{◌≡◌, ◌+◌, ◌<◌, suc, IfOk, false, true, if◌then◌else◌};
 ghost use Rattle.dump_walk.specs.Fronts.{is_too_deep};
 
-use crate::fields::{Around, Field};
 use crate::style::Style;
 use crate::sum::checked_sum;
-use dump_shapes::{Held, LeafType, Spot, ValueRule};
+use dump_shapes::{Around, Spot, ValueRule};
 use dump_values::leaf::ContentsType;
 use std::alloc::AllocError;
 
@@ -29,7 +28,7 @@ pub struct Place {
     // what says which fields they are
     pub around: Around,
     // which field the one is that stands here, if it is one
-    pub field: Option<Field>,
+    pub field: Option<Spot>,
 }
 
 // The place of the document itself.
@@ -47,7 +46,7 @@ pub fn outermost(style: Style) -> Place
         documents: if style.is_flat { 0 } else { MOST_DOCUMENTS },
         is_segment: false,
         style,
-        around: Around::of(style.known),
+        around: style.around,
         field: None,
     }
 }
@@ -65,7 +64,7 @@ impl Place {
         self,
         levels: usize,
         is_segment: bool,
-        field: Option<Field>,
+        field: Option<Spot>,
     ) -> Result<Place, AllocError>
         ensures same { IfOk result (λ p. p.is_inside ≡ self.is_inside) }
         ensures base { IfOk result (λ p. p.base ≡ self.base) }
@@ -98,41 +97,20 @@ impl Place {
             documents: self.documents - 1,
             is_segment: false,
             around: self
-                .spot()
+                .field
                 .map_or(Around::Nothing, |spot| Around::String(spot)),
             field: None,
             ..self
         })
     }
 
-    // Which field the one is that stands here, if it is one.
-    pub fn spot(self) -> Option<Spot> {
-        self.field.map(|field| field.spot)
-    }
-
-    // Its type, if that is known and has no parts.
-    pub fn leaf_type(self) -> Option<LeafType> {
-        self.field.and_then(|field| field.leaf)
-    }
-
-    // What its octets are, if it is a string.
-    pub fn held(self) -> Held {
-        self.field.map_or(Held::Anything, |field| field.held)
-    }
-
     // Of which type the contents octets of a primitive encoding here are.
     pub fn contents_type(self) -> ContentsType {
-        match self.leaf_type() {
-            Some(leaf) if leaf.rule == ValueRule::Address => ContentsType::Address,
+        match self.field.and_then(|field| field.leaf) {
+            Some(leaf) if matches!(leaf.rule, ValueRule::Address) => ContentsType::Address,
             Some(leaf) => ContentsType::Known(leaf.tag),
             None => ContentsType::OfTag,
         }
-    }
-
-    // Whether a primitive encoding here is a list of named bits (X.680 22.2).
-    pub fn is_bit_list(self) -> bool {
-        self.leaf_type()
-            .is_some_and(|leaf| leaf.rule == ValueRule::Named)
     }
 }
 

@@ -1,6 +1,6 @@
 // How documents are shown.
 
-use dump_shapes::Spot;
+use dump_shapes::Around;
 
 /// What is shown of a document. By default octets are cut off after some, and documents inside octets are shown, blocks
 /// of any depth.
@@ -15,18 +15,6 @@ pub struct Style {
     pub most_depth: Option<usize>,
     /// Fields have no names.
     pub is_plain: bool,
-    /// What is known of the document.
-    pub known: Known,
-}
-
-/// What is known of a document before it is read.
-#[derive(Clone, Copy, Debug, Default, Drop, PartialEq)]
-pub enum Known {
-    /// Nothing. It has the first shape that fits.
-    #[default]
-    Nothing,
-    /// Its shape.
-    Shape(u16),
-    /// It is this field of another document, and shown alone.
-    Field(Spot),
+    /// What says which fields the document is and has, as far as it is known.
+    pub around: Around,
 }

@@ -6,8 +6,8 @@ use crate::cursor::Cursor;
 use crate::fields::Fields;
 use crate::piece::{Here, Piece};
 use crate::place::Place;
-use crate::strings::{is_in_string, string_around};
-use dump_shapes::Shapes;
+use crate::strings::{is_inside, outermost_around};
+use dump_shapes::{FieldWalk, Shapes};
 use std::alloc::{AllocError, Global};
 
 // How far the pieces of octets were gone over, which stand at the place.
@@ -36,7 +36,10 @@ impl<'a> Walk<'a> {
             cursor: Cursor::over(alloc, octets, false)?,
             place,
             string: None,
-            fields: Fields::inside(alloc, shapes, place.around),
+            fields: Fields {
+                walk: FieldWalk::inside(alloc, shapes, place.around),
+                around: place.around,
+            },
         })
     }
 
@@ -50,7 +53,7 @@ impl<'a> Walk<'a> {
             return Ok(None);
         };
         let depth = self.cursor.depth();
-        let is_segment = is_in_string(self.string, depth);
+        let is_segment = is_inside(self.string, depth);
         let field = self.fields.next(alloc, depth, left)?;
         let place = self.place.deeper(depth, is_segment, field)?;
         let here = Here {
@@ -61,7 +64,7 @@ impl<'a> Walk<'a> {
         let piece = here.read(alloc)?;
         self.cursor.go(piece.step)?;
         self.fields.see(&piece);
-        self.string = string_around(self.string, depth, piece.is_string());
+        self.string = outermost_around(self.string, depth, piece.is_string());
         Ok(Some(piece))
     }
 }

@@ -17,7 +17,7 @@ returns c = λ before h.
     let end = c.in-Some.end in
     let ends : EndsAt c.args.walk.now piece.place.depth end = rw c.in-Some.is at c.in_ok-end.ensures in
     let first : c.in_ok-contents.contents ≡ piece.offset + kind_header piece.kind =
-    omega (arith, c.in_ok-contents.ensures, c.header_size.ensures) in
+    omega (arith, c.in_ok-contents.ensures, c.sizes.ensures.header) in
     IsElementAt-ended c.args.octets.now before c.args.walk.now piece h c.requires.whole c.requires.form
     c.octets_between.result.now c.octets_between-2.result.now end ends
     (c.octets_between.ensures ∙ ap (slice_range c.args.octets.now piece.offset) c.in_ok-checked_sum.ensures)

@@ -7,7 +7,7 @@ returns c =
     let nested = c.in-Some.nested in
     let before = c.in_ok-before.ensures in
     let first = c.in_ok-first.ensures in
-    let size = c.header_size.ensures in (
+    let size = c.sizes.ensures.header in (
       λ left holding.
           let (documents, whole, holds) = rw c.in-Some.is at holding in (
             whole,

@@ -8,4 +8,4 @@ returns c = λ before h.
     let block = c.in_ok-sized_block.field-0 in
     let is = c.in_ok-sized_block.ensures in
     IsElementAt-sized c.args.octets.now before c.args.walk.now c.args.piece.now h c.requires block.octets.now
-    block.contents.now (sym c.is_indefinite.ensures ∙ c.if-is_indefinite.false) is.octets is.contents
+    block.contents.now (sym c.sizes.ensures.indefinite ∙ c.if-sizes.false) is.octets is.contents

@@ -14,9 +14,10 @@ loop-end-preserved c =
     let (offset, octets, left) = c.loop-end.invariant in
     let (around, is) = c.in-Some.ensures.some in
     let e = c.leave.ensures in
-    let none : length c.left_to-octets.result.now ≡ 0 = grind (arith, common_steps) in (
+    let none : length c.octets_between-octets.result.now ≡ 0 = grind (arith, common_steps) in (
       e.offset ∙ offset,
       e.octets ∙ octets,
       HasLeft-left _ c.loop-end.self c.leave.new.self c.in-Some.end around left is c.if-end.false
-          (sym c.left_to-octets.ensures ∙ nil_from_length c.left_to-octets.result.now none) e.octets e.offset e.ends,
+          (sym c.octets_between-octets.ensures ∙ nil_from_length c.octets_between-octets.result.now none) e.octets
+          e.offset e.ends,
     )
