@@ -31,25 +31,36 @@ use organizations::ORGANIZATIONS;
 pub use own::{NamesFault, OwnNames};
 use std::alloc::{AllocError, Global};
 
-/// The names of object identifiers, by their numbers, and of fields, by their shapes: tables, which are made once. At
-/// first fields have no names.
+/// The names of object identifiers, by their numbers, and of fields, by their shapes: tables, which are made once.
 #[derive(Drop)]
 pub struct Names {
-    // the names of the table, in its order
-    rows: Vec<&'static str>,
+    // the numbers of the table, in its order, with the name and the standard of each
+    rows: Vec<(&'static str, &'static str)>,
     // names of a file, which are taken before those of the table
-    own: OwnNames,
-    /// The names of fields.
+    own: Option<OwnNames>,
+    /// The names of fields: at first none.
     pub shapes: Shapes,
 }
 
 impl Names {
-    /// The table of object identifiers of the crate, a row a name; it takes 16 octets of memory a row.
+    /// The table of object identifiers of the crate, a row a name; it takes 32 octets of memory a row.
     ///
     /// # Errors
     /// Memory ran out.
     pub fn new(alloc: Global) -> Result<Names, AllocError> {
-        Names::with(alloc, OwnNames::none(alloc))
+        let mut rows = Vec::new(alloc);
+        for text in [ITU_T, MEMBER_BODIES, ORGANIZATIONS, JOINT] {
+            for row in text.lines() {
+                if let Some(row) = row.split_once(' ') {
+                    rows.push(row)?;
+                }
+            }
+        }
+        Ok(Names {
+            rows,
+            own: None,
+            shapes: Shapes::none(alloc),
+        })
     }
 
     /// The names that are built in, behind those of a user.
@@ -57,42 +68,20 @@ impl Names {
     /// # Errors
     /// Memory ran out.
     pub fn with(alloc: Global, own: OwnNames) -> Result<Names, AllocError> {
-        let mut rows = Vec::new(alloc);
-        for text in [ITU_T, MEMBER_BODIES, ORGANIZATIONS, JOINT] {
-            for row in text.lines() {
-                rows.push(row)?;
-            }
-        }
-        let shapes = Shapes::none(alloc);
-        Ok(Names { rows, own, shapes })
-    }
-
-    /// The same names of object identifiers, and names of fields by these shapes.
-    pub fn with_fields(self, shapes: Shapes) -> Names {
-        let Names { rows, own, .. } = self;
-        Names { rows, own, shapes }
+        let mut names = Names::new(alloc)?;
+        names.own = Some(own);
+        Ok(names)
     }
 
     /// The name of an object identifier and the standard, or another comment on it, by its components in decimal with
     /// points between them.
     pub fn of(&self, number: &str) -> Option<(&str, &str)> {
-        match self.own.of(number) {
-            Some(found) => Some(found),
-            None => self.built_in(number),
+        if let Some(own) = &self.own
+            && let Some(found) = own.of(number)
+        {
+            return Some(found);
         }
-    }
-
-    fn built_in(&self, number: &str) -> Option<(&'static str, &'static str)> {
-        match self.rows.binary_search_by(|row| number_in(row).cmp(number)) {
-            Ok(i) => self.rows[i].split_once(' ')?.1.split_once(' '),
-            Err(_) => None,
-        }
-    }
-}
-
-fn number_in(row: &'static str) -> &'static str {
-    match row.split_once(' ') {
-        Some((number, _)) => number,
-        None => row,
+        let place = self.rows.binary_search_by(|row| row.0.cmp(number));
+        self.rows[place.ok()?].1.split_once(' ')
     }
 }

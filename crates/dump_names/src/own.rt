@@ -37,13 +37,6 @@ impl From<AllocError> for NamesFault {
 }
 
 impl OwnNames {
-    /// No names.
-    pub fn none(alloc: Global) -> OwnNames {
-        OwnNames {
-            rows: Vec::new(alloc),
-        }
-    }
-
     /// The names in a text of lines `OID = 2 5 4 3`, each with `Description = commonName` and maybe `Comment = X.520`
     /// after it. Numbers have spaces or points between them, or are DER in hex digits, as `06 03 55 04 03`. Lines
     /// `Warning`, empty lines and those that begin with `#` say nothing. Names are escaped.
