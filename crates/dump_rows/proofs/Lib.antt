@@ -1,5 +1,1 @@
-pub mod PlainText
-pub mod Shown
-pub mod Made
 pub mod Printed
-mod Marks

@@ -1,5 +1,3 @@
-pub mod Shown
-pub mod Pieces
-pub mod Marks
 pub mod Rows
+pub mod Parts
 pub mod Printing

@@ -22,14 +22,12 @@
 //! The errors are that memory ran out, and that a write failed. What was written before stays.
 #![tactic(auto)]
 
-mod color;
-mod columns;
-mod line;
-mod mark;
 mod page;
+mod part;
 mod printer;
 mod row;
 
-pub use page::frame::{push_foot, push_head};
-pub use printer::{Look, Printer};
+pub use page::{push_foot, push_head};
+pub use part::Look;
+pub use printer::Printer;
 pub use row::{Inside, Row, RowFault, RowValue};

@@ -1,33 +1,34 @@
 // A printer, which writes rows and notes one behind another.
-ghost use Rattle.std.specs.Prelude.{◌≡◌, ◌∷◌, [], IfOk, OnOk, string_bytes};
-ghost use Rattle.std.specs.Io.KnownBytes.{Appends};
-ghost use Rattle.der_io.specs.Characters.{equals_sign, exclamation_mark, space};
-ghost use Rattle.dump_rows.specs.Printing.{Adds, IsPrinted, Prints, PrintsPage, PrintsText, Pushes};
-ghost use Rattle.dump_rows.specs.Rows.{IsLine, IsRowLine};
-ghost use Rattle.dump_rows.specs.declared.printer.Look.TheVariants.{Page};
+ghost use Rattle.std.specs.Prelude.{◌≡◌, ◌≤◌, ◌∷◌, ◌++◌, [], OnOk};
+ghost use Rattle.der_io.specs.Characters.{equals_sign, exclamation_mark, line_feed};
+ghost use Rattle.der_io.specs.Escaped.{escaped as escaped_is};
+ghost use Rattle.dump_rows.specs.Parts.{text_of};
+ghost use Rattle.dump_rows.specs.Printing.{IsPrinted, PrintsText};
+ghost use Rattle.dump_rows.specs.Rows.{IsRowLine, note_line, shown_text};
 
-use crate::color::Paint;
-use crate::columns::MOST_LEVELS;
-use crate::line::{push_end, push_part, push_row_line};
-use crate::page::element::push_element_start;
-use crate::page::markup::{Markup, push_markup, push_octets};
+use crate::part::{Look, Paint, Part};
 use crate::row::Row;
 use der_io::{StreamFault, escaped, write_part};
-use std::alloc::{AllocError, Global};
+use std::alloc::Global;
 use std::io::Write;
 
 // How many octets beside the rows of a page are written at a time.
 const OCTETS_AT_ONCE: usize = 4096;
 
-/// How rows are shown.
-#[derive(Clone, Copy, Drop)]
-pub enum Look {
-    /// As lines.
-    Plain,
-    /// As lines, with escape sequences for the colors of a terminal.
-    Colored,
-    /// As elements of a page of HTML, in folds.
-    Page,
+// The levels that have an open fold, a bit each.
+#[derive(Drop)]
+struct Folds(u64);
+
+impl Folds {
+    // Closes those of the level and of deeper ones, and returns how many these were; opens one there, if it is one.
+    fn turn(&mut self, level: usize, is_fold: bool) -> usize
+        requires { level ≤ 40 }
+    {
+        let closed = (self.0 >> level).count_ones();
+        let opened = u64::from(is_fold) << level;
+        self.0 = self.0 % (1 << level) | opened;
+        closed as usize
+    }
 }
 
 /// Prints rows and notes one behind another, in a look: each goes to the writer before the next is made.
@@ -38,10 +39,7 @@ pub struct Printer<W> {
     pub look: Look,
     /// What they are written to.
     pub out: W,
-    // what is written next
-    line: Vec<u8>,
-    // the levels of the folds that are open on a page
-    folds: Vec<usize>,
+    folds: Folds,
 }
 
 impl<W: Write> Printer<W> {
@@ -54,9 +52,16 @@ impl<W: Write> Printer<W> {
             alloc,
             look,
             out,
-            line: Vec::new(alloc),
-            folds: Vec::new(alloc),
+            folds: Folds(0),
         }
+    }
+
+    /// The writer, behind all that was printed.
+    pub fn into_writer(self) -> W
+        ensures { result ≡ self.out }
+    {
+        let Printer { out, .. } = self;
+        out
     }
 
     /// Prints a row. On a page its element has the class `fault` exactly if something is wrong with it.
@@ -64,16 +69,34 @@ impl<W: Write> Printer<W> {
     /// # Errors
     /// `Memory`, after which nothing of it was written; `Write`, after which nothing is known of what was.
     pub fn push(&mut self, row: &Row<'_>) -> Result<(), StreamFault>
-        ensures { OnOk result (IsPrinted W.contents (IsLine (IsRowLine row.now)) self.old self.new) }
+        ensures { OnOk result (IsPrinted W.contents (IsRowLine row.now) self.old self.new) }
     {
-        let is_fold = matches!(self.look, Look::Page)
-            && row.has_rows_inside
-            && row.depth < MOST_LEVELS;
-        self.begin(is_fold, row.fault.is_some(), Some(row))?;
-        push_row_line(self.alloc, self.look, row, &mut self.line)?;
-        push_end(self.look, is_fold, &mut self.line)?;
-        self.write_made()?;
-        Ok(())
+        let texts = (
+            row.columns(self.alloc)?,
+            row.field_text(self.alloc)?,
+            String::from_str(self.alloc, row.type_name)?,
+            row.value_text(self.alloc)?,
+            row.fault_text(self.alloc)?,
+            row.mark_text(self.alloc)?,
+        );
+        let (columns, field, type_name, value, fault, mark) = &texts;
+        let is_fold = row.is_fold();
+        let closed = self.folds.turn(row.level(), is_fold);
+        self.write(&[
+            Part::FoldEnds(closed),
+            Part::Start {
+                is_fold,
+                is_fault: row.fault.is_some(),
+                place: Some(row.place()),
+            },
+            Part::Text(Paint::Dim, columns),
+            Part::Text(Paint::Bold, field),
+            Part::Text(Paint::Cyan, type_name),
+            Part::Text(Paint::Default, value),
+            Part::Text(Paint::Red, fault),
+            Part::Text(Paint::Red, mark),
+            Part::End { is_fold },
+        ])
     }
 
     /// Prints a title, as a label or a name: `=`, a space, and the octets as text, escaped.
@@ -81,11 +104,12 @@ impl<W: Write> Printer<W> {
     /// # Errors
     /// Those of [`Printer::push`].
     pub fn push_title(&mut self, title: &[u8]) -> Result<(), StreamFault>
-        ensures { OnOk result (PrintsText W.contents self.old self.new) }
+        ensures { OnOk result (IsPrinted W.contents (λ text. text ≡ note_line equals_sign (escaped_is title.now))
+            self.old self.new) }
     {
         let title = escaped(self.alloc, title)?;
-        let line = title_line(self.alloc, &title)?;
-        self.push_note(false, Paint::Bold, &line)
+        let line = format!(in self.alloc; "= {title}")?;
+        self.push_note(false, &line)
     }
 
     /// Prints why there are no rows: `!`, a space, and the text. On a page its element has the class `fault`.
@@ -93,10 +117,11 @@ impl<W: Write> Printer<W> {
     /// # Errors
     /// Those of [`Printer::push`].
     pub fn push_refusal(&mut self, why: &str) -> Result<(), StreamFault>
-        ensures { OnOk result (PrintsText W.contents self.old self.new) }
+        ensures { OnOk result (IsPrinted W.contents (λ text. text ≡ note_line exclamation_mark why.now)
+            self.old self.new) }
     {
-        let line = refusal_line(self.alloc, why)?;
-        self.push_note(true, Paint::Red, &line)
+        let line = format!(in self.alloc; "! {why}")?;
+        self.push_note(true, &line)
     }
 
     /// Prints a fault like a refusal: its offset, and the message.
@@ -122,15 +147,23 @@ impl<W: Write> Printer<W> {
         self.push_fault(offset, &message)
     }
 
-    // Prints a line of no row.
-    fn push_note(&mut self, is_fault: bool, paint: Paint, line: &str) -> Result<(), StreamFault>
-        ensures { OnOk result (PrintsText W.contents self.old self.new) }
+    // Prints a line of no row, which says that something is wrong or names what follows.
+    fn push_note(&mut self, is_fault: bool, line: &str) -> Result<(), StreamFault>
+        ensures { OnOk result (IsPrinted W.contents (λ text. text ≡ shown_text line.now ++ line_feed ∷ [])
+            self.old self.new) }
     {
-        self.begin(false, is_fault, None)?;
-        push_part(self.alloc, self.look, paint, line, &mut self.line)?;
-        push_end(self.look, false, &mut self.line)?;
-        self.write_made()?;
-        Ok(())
+        let paint = if is_fault { Paint::Red } else { Paint::Bold };
+        let closed = self.folds.turn(0, false);
+        self.write(&[
+            Part::FoldEnds(closed),
+            Part::Start {
+                is_fold: false,
+                is_fault,
+                place: None,
+            },
+            Part::Text(paint, line),
+            Part::End { is_fold: false },
+        ])
     }
 
     /// Ends the folds that are open.
@@ -138,12 +171,10 @@ impl<W: Write> Printer<W> {
     /// # Errors
     /// Those of [`Printer::push`].
     pub fn end_folds(&mut self) -> Result<(), StreamFault>
-        ensures { OnOk result (Prints W.contents [] self.old self.new) }
+        ensures { OnOk result (IsPrinted W.contents (λ text. text ≡ []) self.old self.new) }
     {
-        self.line.clear();
-        close_folds(self.look, 0, &mut self.folds, &mut self.line)?;
-        self.write_made()?;
-        Ok(())
+        let closed = self.folds.turn(0, false);
+        self.write(&[Part::FoldEnds(closed)])
     }
 
     /// Begins a section of a page.
@@ -151,9 +182,9 @@ impl<W: Write> Printer<W> {
     /// # Errors
     /// Those of [`Printer::push`].
     pub fn begin_section(&mut self) -> Result<(), StreamFault>
-        ensures { OnOk result (PrintsPage W.contents self.old self.new) }
+        ensures { OnOk result (PrintsText W.contents self.old self.new) }
     {
-        self.write_markup(Markup::SectionStart)
+        self.write(&[Part::SectionStart])
     }
 
     /// Prints the octets that the rows of a section are of, and its end.
@@ -161,152 +192,23 @@ impl<W: Write> Printer<W> {
     /// # Errors
     /// Those of [`Printer::push`].
     pub fn end_section(&mut self, octets: &[u8]) -> Result<(), StreamFault>
-        ensures { OnOk result (PrintsPage W.contents self.old self.new) }
+        ensures { OnOk result (PrintsText W.contents self.old self.new) }
     {
-        self.write_markup(Markup::OctetsStart)?;
-        self.write_octets(octets)?;
-        self.write_markup(Markup::SectionEnd)?;
-        Ok(())
-    }
-
-    fn write_markup(&mut self, markup: Markup) -> Result<(), StreamFault>
-        ensures { OnOk result (PrintsPage W.contents self.old self.new) }
-    {
-        self.line.clear();
-        push_markup(markup, &mut self.line)?;
-        self.write_made()?;
-        Ok(())
-    }
-
-    // Writes octets in hex digits, in parts.
-    fn write_octets(&mut self, octets: &[u8]) -> Result<(), StreamFault>
-        ensures { OnOk result (PrintsPage W.contents self.old self.new) }
-    {
+        self.write(&[Part::OctetsStart])?;
         for part in octets.chunks(OCTETS_AT_ONCE) {
-            self.write_part(part)?;
+            self.write(&[Part::Octets(part)])?;
         }
-        Ok(())
+        self.write(&[Part::SectionEnd])
     }
 
-    fn write_part(&mut self, octets: &[u8]) -> Result<(), StreamFault>
-        ensures { OnOk result (PrintsPage W.contents self.old self.new) }
+    // Writes parts, at once.
+    fn write(&mut self, parts: &[Part<'_>]) -> Result<(), StreamFault>
+        ensures { OnOk result (IsPrinted W.contents (λ text. text ≡ text_of parts.now) self.old self.new) }
     {
-        self.line.clear();
-        push_octets(octets, &mut self.line)?;
-        self.write_made()?;
-        Ok(())
-    }
-
-    // Writes what was made.
-    fn write_made(&mut self) -> Result<(), StreamFault>
-        ensures look { OnOk result (self.new.look ≡ self.old.look) }
-        ensures written { OnOk result (Appends (W.contents self.old.out) (W.contents self.new.out)
-            self.old.line.items) }
-    {
-        write_part(&mut self.out, &self.line)?;
-        Ok(())
-    }
-
-    /// The writer, behind all that was printed.
-    pub fn into_writer(self) -> W
-        ensures { result ≡ self.out }
-    {
-        let Printer { out, .. } = self;
-        out
-    }
-
-    // Begins what shows a line, that of a row if one is given: on a page an element, inside the folds of lower levels.
-    fn begin(
-        &mut self,
-        is_fold: bool,
-        is_fault: bool,
-        row: Option<&Row<'_>>,
-    ) -> Result<(), AllocError>
-        ensures look { OnOk result (self.new.look ≡ self.old.look) }
-        ensures out { OnOk result (self.new.out ≡ self.old.out) }
-        ensures line { OnOk result (Pushes self.old.look [] [] self.new.line.items) }
-    {
-        let level = level_of(row);
-        self.line.clear();
-        close_folds(self.look, level, &mut self.folds, &mut self.line)?;
-        open_fold(is_fold, level, &mut self.folds)?;
-        begin_element(self.look, is_fold, is_fault, row, &mut self.line)?;
-        Ok(())
-    }
-}
-
-// The line of a title, without its end.
-fn title_line(alloc: Global, title: &str) -> Result<String, AllocError>
-    ensures { IfOk result (λ line. string_bytes line ≡ equals_sign ∷ space ∷ title.now) }
-{
-    format!(in alloc; "= {title}")
-}
-
-// The line of a refusal, without its end.
-fn refusal_line(alloc: Global, why: &str) -> Result<String, AllocError>
-    ensures { IfOk result (λ line. string_bytes line ≡ exclamation_mark ∷ space ∷ why.now) }
-{
-    format!(in alloc; "! {why}")
-}
-
-// The level of folds at which a row stands, or a note.
-fn level_of(row: Option<&Row<'_>>) -> usize {
-    match row {
-        Some(row) => row.depth.min(MOST_LEVELS),
-        None => 0,
-    }
-}
-
-// Closes the folds that are of the level or of deeper ones. Lines have none.
-fn close_folds(
-    look: Look,
-    level: usize,
-    folds: &mut Vec<usize>,
-    out: &mut Vec<u8>,
-) -> Result<(), AllocError>
-    ensures { OnOk result (Pushes look [] out.old.items out.new.items) }
-{
-    match look {
-        Look::Plain => Ok(()),
-        Look::Colored => Ok(()),
-        Look::Page => end_folds(level, folds, out),
-    }
-}
-
-fn end_folds(level: usize, folds: &mut Vec<usize>, out: &mut Vec<u8>) -> Result<(), AllocError>
-    ensures { OnOk result (Adds Page out.old.items out.new.items) }
-{
-    while let Some(last) = folds.last().copied() {
-        if last < level {
-            return Ok(());
+        let mut text = String::new(self.alloc);
+        for part in parts {
+            part.push(self.alloc, self.look, &mut text)?;
         }
-        folds.pop();
-        push_markup(Markup::GroupEnd, out)?;
-    }
-    Ok(())
-}
-
-// Keeps the level of a fold that is opened.
-fn open_fold(is_fold: bool, level: usize, folds: &mut Vec<usize>) -> Result<(), AllocError> {
-    if is_fold {
-        folds.push(level)?;
-    }
-    Ok(())
-}
-
-// Pushes the beginning of an element. Lines have none.
-fn begin_element(
-    look: Look,
-    is_fold: bool,
-    is_fault: bool,
-    row: Option<&Row<'_>>,
-    out: &mut Vec<u8>,
-) -> Result<(), AllocError>
-    ensures { OnOk result (Pushes look [] out.old.items out.new.items) }
-{
-    match look {
-        Look::Plain => Ok(()),
-        Look::Colored => Ok(()),
-        Look::Page => push_element_start(is_fold, is_fault, row, out),
+        write_part(&mut self.out, text.as_bytes())
     }
 }

@@ -1,4 +1,12 @@
-// What is shown of one piece of a document.
+// What is shown of one piece of a document, and its texts.
+ghost use Rattle.std.specs.Prelude.{◌≡◌, IfOk, min, string_bytes};
+ghost use Rattle.dump_rows.specs.Rows.{columns_text, mark_text, offset_column, size_of};
+
+use crate::part::{Place, size_text};
+use std::alloc::{AllocError, Global};
+
+// How many levels are shown by spaces and folds; deeper ones stand where the last of them does.
+const MOST_LEVELS: usize = 40;
 
 /// What is shown of one piece of a document: of an encoding, of end-of-contents octets, or of octets that begin with no
 /// header.
@@ -67,4 +75,124 @@ pub enum RowFault<'a> {
     CutShort { there: usize, announced: usize },
     /// This, in words.
     Other(&'a str),
+}
+
+impl Row<'_> {
+    // The level at which it stands.
+    pub fn level(&self) -> usize
+        ensures { result ≡ min self.now.depth 40 }
+    {
+        self.depth.min(MOST_LEVELS)
+    }
+
+    // Whether rows inside it follow that fold.
+    pub fn is_fold(&self) -> bool {
+        self.has_rows_inside && self.depth < MOST_LEVELS
+    }
+
+    // Where its octets stand.
+    pub fn place(&self) -> Place
+        ensures { result.contents ≡ size_of self.now }
+    {
+        Place {
+            offset: self.offset,
+            header: self.header,
+            contents: (!self.is_indefinite).then_some(self.contents),
+        }
+    }
+
+    // Its offset, the sizes of its header and of its contents, and the spaces for its level.
+    pub fn columns(&self, alloc: Global) -> Result<String, AllocError>
+        ensures { IfOk result (λ text. string_bytes text ≡ columns_text self.now) }
+    {
+        let header = self.header;
+        let offset = self.offset_column(alloc)?;
+        let contents = size_text(alloc, self.place().contents)?;
+        let spaces = "  ".repeat(alloc, self.level())?;
+        format!(in alloc; "{offset} {header:>2} {contents:>7}  {spaces}")
+    }
+
+    // Its offset, behind `>` inside octets of a string.
+    fn offset_column(&self, alloc: Global) -> Result<String, AllocError>
+        ensures { IfOk result (λ text. string_bytes text ≡ offset_column self.now) }
+    {
+        let offset = self.offset;
+        if self.is_inside {
+            format!(in alloc; ">{offset:>6}")
+        } else {
+            format!(in alloc; "{offset:>7}")
+        }
+    }
+
+    // The name of its field, as it stands before the type.
+    pub fn field_text(&self, alloc: Global) -> Result<String, AllocError> {
+        match self.field {
+            Some(name) => format!(in alloc; "{name} "),
+            None => Ok(String::new(alloc)),
+        }
+    }
+
+    // What it holds, as it stands behind the type.
+    pub fn value_text(&self, alloc: Global) -> Result<String, AllocError> {
+        let value = &self.value;
+        let mut text = String::with_capacity(alloc, value.text.len().saturating_add(1))?;
+        if let Some(name) = value.alternative {
+            write!(text, " {name}")?;
+        }
+        if value.is_constructed {
+            text.push_str(", constructed")?;
+        }
+        match self.fault {
+            Some(RowFault::CutShort { .. }) => {}
+            _ => write_behind(&mut text, value.is_constructed, value.text)?,
+        }
+        match value.inside {
+            Inside::Octets => {}
+            Inside::Encodings => text.push_str(", containing")?,
+            Inside::Guess => text.push_str(", containing (guessed)")?,
+        }
+        match value.identifier {
+            Some((name, "")) => write!(text, " {name}")?,
+            Some((name, standard)) => write!(text, " {name} ({standard})")?,
+            None => {}
+        }
+        if let Some(meaning) = value.meaning {
+            write!(text, " ({meaning})")?;
+        }
+        Ok(text)
+    }
+
+    // What is wrong with it.
+    pub fn fault_text(&self, alloc: Global) -> Result<String, AllocError> {
+        match self.fault {
+            None => Ok(String::new(alloc)),
+            Some(RowFault::Missing) => String::from_str(alloc, " is missing (Incomplete)"),
+            Some(RowFault::CutShort { there, announced }) => {
+                let mut text = format!(in alloc; " (truncated: {there} of {announced} bytes)")?;
+                write_behind(&mut text, true, self.value.text)?;
+                Ok(text)
+            }
+            Some(RowFault::Other(message)) => format!(in alloc; ": {message}"),
+        }
+    }
+
+    // The mark of the rules of DER that it breaks.
+    pub fn mark_text(&self, alloc: Global) -> Result<String, AllocError>
+        ensures { IfOk result (λ text. string_bytes text ≡ mark_text (λ r. r.now) self.now.rules.now) }
+    {
+        if self.rules.is_empty() {
+            return Ok(String::new(alloc));
+        }
+        let words = self.rules.join(alloc, ", ")?;
+        format!(in alloc; " (not DER: {words})")
+    }
+}
+
+// A value, if there is one, behind a space, and behind a colon where words stand before it.
+fn write_behind(out: &mut String, has_colon: bool, value: &str) -> Result<(), AllocError> {
+    match (value, has_colon) {
+        ("", _) => Ok(()),
+        (_, true) => write!(out, ": {value}"),
+        (_, false) => write!(out, " {value}"),
+    }
 }

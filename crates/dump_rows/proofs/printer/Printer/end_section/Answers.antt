@@ -1,10 +1,17 @@
--- For `printer::Printer::end_section`: what it returns is right.
-use Rattle.dump_rows.proofs.Printed.{PrintsPage-append}
+-- For `printer::Printer::end_section`: its loop keeps its invariant, and what it returns is right.
+use Rattle.std.proofs.lemmas.Result.{on_ok_weaker}
+use Rattle.dump_rows.proofs.Printed.{PrintsText-append, PrintsText-printed}
 use Rattle.dump_rows.proofs.printer.Printer.end_section.Goals as goal
+
+pub loop-part-preserved : goal.loop-part-preserved
+loop-part-preserved g c =
+    PrintsText-append g.W.Write.contents c.args.self.now c.loop-part.self c.write-in-loop-part.new.self
+    c.loop-part.invariant (PrintsText-printed g.W.Write.contents _ c.loop-part.self c.write-in-loop-part.new.self
+    c.in_ok-write-2.ensures)
 
 pub returns : goal.returns
 returns g c =
-    PrintsPage-append g.W.Write.contents c.args.self.now c.write_octets.new.self c.write_markup-2.new.self
-    (PrintsPage-append g.W.Write.contents c.args.self.now c.write_markup.new.self c.write_octets.new.self
-    c.in_ok-write_markup.ensures c.in_ok-write_octets.ensures)
-    c.in_ok-write_markup-2.ensures
+    on_ok_weaker c.write-2.result
+    (λ w. PrintsText-append g.W.Write.contents c.args.self.now c.loop-part.self c.write-2.new.self
+    c.loop-part.invariant
+    (PrintsText-printed g.W.Write.contents _ c.loop-part.self c.write-2.new.self w)) c.write-2.ensures

@@ -1,0 +1,25 @@
+-- For `part::push_entities`: its loop keeps its invariant, and what it returns is right.
+use Rattle.std.proofs.Common.{◌++◌, ap, append_assoc, string_bytes, sym, ◌∙◌}
+use Rattle.std.proofs.lemmas.Iterator.{YieldsList-from_chars}
+use Rattle.std.proofs.lemmas.Iterator.Consumers.{YieldsList-end}
+use Rattle.std.proofs.lemmas.List.{map-id}
+use Rattle.der_io.specs.Escaped.{all_escaped}
+use Rattle.dump_rows.specs.Parts.{entity}
+use Rattle.dump_rows.proofs.Printed.{all_escaped-append}
+use Rattle.dump_rows.proofs.part.push_entities.Goals as goal
+
+pub loop-c-preserved : goal.loop-c-preserved
+loop-c-preserved c =
+    let old = string_bytes c.args.out.now in
+    let done = all_escaped entity c.loop-c.yielded in
+    c.in_ok-push_entity.ensures
+    ∙ (ap (λ z. z ++ entity c.in-Some.c) c.loop-c.invariant
+    ∙ (append_assoc old done (entity c.in-Some.c)
+    ∙ ap (λ z. old ++ z) (sym (all_escaped-append entity c.loop-c.yielded c.in-Some.c))))
+
+pub returns : goal.returns
+returns c =
+    let t = YieldsList-end (YieldsList-from_chars c.args.text.now c.utf8.text cc) c.loop-c.yielded _ c.loop-c.yielded_by
+    _ _ c.in-None.is c.next.ensures.steps in
+    c.loop-c.invariant
+    ∙ ap (λ z. string_bytes c.args.out.now ++ all_escaped entity z) (sym (map-id c.loop-c.yielded) ∙ t.0)
