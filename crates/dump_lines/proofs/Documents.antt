@@ -22,9 +22,9 @@ pub IsDumpOfSome-put :
     place.base ≡ 0 → place.depth ≡ 0 → place.style.most_depth ≡ most → verdict ≡ verdict_of (marks ++ first) →
     IsPrinted contents (IsWhole strict place octets first [] marks) a b → PrintsText contents b c →
     IsPrinted contents (IsDumpOfSome strict most octets verdict) a c
-IsDumpOfSome-put contents strict most place octets first marks a b c verdict i z d m v these (last, prints) =
-    IsPrinted-append contents _ (λ text. text ≡ last) (IsDumpOfSome strict most octets verdict) a b c
-    (λ lines rest s same.
+IsDumpOfSome-put contents strict most place octets first marks a b c verdict i z d m v these =
+    IsPrinted-append contents _ _ (IsDumpOfSome strict most octets verdict) a b c
+    (λ lines rest s last.
     let (all, texts) = s.put in
     let one = subst (λ x. AreShown x place.base place.depth octets s.fronts s.shown) i s.are in
     let two = subst (λ x. AreShown false x place.depth octets s.fronts s.shown) z one in (
@@ -40,4 +40,4 @@ IsDumpOfSome-put contents strict most place octets first marks a b c verdict i z
       v
           ∙ (ap (λ x. verdict_of (marks ++ x)) s.first_is
           ∙ (verdict_of-first marks s.faults ∙ ap (λ x. verdict_of (x ++ s.faults)) all)),
-    )) these (last, prints, refl)
+    )) these

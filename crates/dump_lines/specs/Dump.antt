@@ -4,7 +4,7 @@ use Rattle.std.specs.Prelude.{◌≡◌, ◌⊎◌, ℕ, suc, ◌+◌, ◌<◌, 
 use Rattle.std.specs.List.{flat_map}
 use Rattle.dump_lines.specs.declared.document.Verdict.{Verdict}
 use Rattle.dump_lines.specs.declared.document.Verdict.TheVariants.{AllRead, Refused}
-use Rattle.dump_rows.specs.Rows.{IsLine, IsRowLine}
+use Rattle.dump_rows.specs.Rows.{IsRowLine}
 use Rattle.dump_rows.specs.declared.row.Row.{Row}
 use Rattle.dump_walk.specs.Fronts.{AreFrontsOf, Front, StandAt, is_too_deep}
 use Rattle.dump_walk.specs.Marks.{are_some, breaches_of}
@@ -59,7 +59,7 @@ pub record IsRowOf (shown : Shown) (row : Row) : Type 0 where
 -- the line of a row of the encoding, or nothing where that stands too deep
 abbrev pub IsTextUnless : Bool → Shown → List ℕ → Type 0
 IsTextUnless true shown text = text ≡ []
-IsTextUnless false shown text = (row : Row) × IsRowOf shown row × IsLine (IsRowLine row) text
+IsTextUnless false shown text = (row : Row) × IsRowOf shown row × IsRowLine row text
 
 abbrev pub IsTextOf : Option ℕ → Shown → List ℕ → Type 0
 IsTextOf most shown = IsTextUnless (is_too_deep most shown.front.depth) shown

@@ -1,6 +1,6 @@
 // Documents, and what is wrong with these.
 ghost use Rattle.std.specs.Prelude.{◌≡◌, ◌++◌, IfOk, OnOk};
-ghost use Rattle.dump_lines.specs.Dump.{IsDumpOf, IsDumpOfSome, verdict_of};
+ghost use Rattle.dump_lines.specs.Dump.{IsDumpOf, verdict_of};
 ghost use Rattle.dump_lines.specs.Steps.{mark_offsets};
 ghost use Rattle.dump_lines.specs.declared.document.Verdict.TheVariants.{Refused};
 ghost use Rattle.dump_rows.specs.Printing.{IsPrinted, PrintsText};
@@ -11,7 +11,7 @@ use asn1_headers::error::ASN1DecodeErr;
 use der_io::StreamFault;
 use dump_names::Names;
 use dump_rows::Printer;
-use dump_values::faults::{Fault, fault_message};
+use dump_values::faults::{Fault, fault_at};
 use dump_walk::place::outermost;
 use dump_walk::style::Style;
 use std::alloc::Global;
@@ -64,23 +64,10 @@ impl Dumper<'_> {
             (IsDumpOf self.now.is_strict style.most_depth octets.now verdict) printer.old printer.new) }
     {
         if octets.is_empty() {
-            let message = fault_message(self.alloc, &ASN1DecodeErr::EmptyBuffer)?;
-            printer.push_fault(0, &message)?;
+            let fault = fault_at(self.alloc, 0, &ASN1DecodeErr::EmptyBuffer)?;
+            printer.push_fault(0, &fault.message)?;
             return Ok(Verdict::Refused);
         }
-        self.push_some(style, octets, printer)
-    }
-
-    // Prints the rows of octets, of which there are some, and what is wrong with them.
-    fn push_some<W: Write>(
-        &self,
-        style: Style,
-        octets: &[u8],
-        printer: &mut Printer<W>,
-    ) -> Result<Verdict, StreamFault>
-        ensures { IfOk result (λ verdict. IsPrinted W.contents
-            (IsDumpOfSome self.now.is_strict style.most_depth octets.now verdict) printer.old printer.new) }
-    {
         let mut marks = Vec::new(self.alloc);
         let first = self.push_encodings(octets, outermost(style), &mut marks, printer)?;
         push_problems(&marks, &first, printer)?;
@@ -99,12 +86,6 @@ fn push_problems<W: Write>(
     for mark in marks {
         printer.push_broken(mark.offset, &mark.rules)?;
     }
-    push_first(first, printer)
-}
-
-fn push_first<W: Write>(first: &Option<Fault>, printer: &mut Printer<W>) -> Result<(), StreamFault>
-    ensures { OnOk result (PrintsText W.contents printer.old printer.new) }
-{
     match first {
         Some(fault) => printer.push_fault(fault.offset, &fault.message),
         None => Ok(()),

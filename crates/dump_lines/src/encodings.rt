@@ -1,5 +1,5 @@
 // The rows of octets, one for each piece, and of what stands inside octets of strings.
-ghost use Rattle.std.specs.Prelude.{◌≡◌, ◌+◌, ◌++◌, ◌<◌, IfOk, IfSome, OnOk, map, string_bytes, true};
+ghost use Rattle.std.specs.Prelude.{◌≡◌, ◌+◌, ◌++◌, ◌<◌, IfOk, IfSome, OnOk, map, string_bytes};
 ghost use Rattle.dump_lines.specs.Dump.{IsRowOf, IsTextOf, marks_of, rules_of};
 ghost use Rattle.dump_lines.specs.Steps.{IsInner, IsOwn, IsWhole, PrintsHeld, mark_offsets, shown_piece};
 ghost use Rattle.dump_rows.specs.Printing.{IsPrinted};
@@ -7,10 +7,10 @@ ghost use Rattle.dump_walk.specs.Marks.{breaches_of};
 ghost use Rattle.dump_walk.specs.Pieces.{fault_offset, kind_type_name};
 
 use crate::document::Dumper;
-use crate::values::{is_known_constructed, value_text};
+use crate::values::{is_shown_constructed, value_text};
 use der_io::StreamFault;
 use dump_rows::{Inside, Printer, Row, RowFault, RowValue};
-use dump_shapes::{Named, bits_text};
+use dump_shapes::Named;
 use dump_values::faults::Fault;
 use dump_values::tag::holds_encodings;
 use dump_walk::marks::Breaches;
@@ -84,7 +84,7 @@ impl Dumper<'_> {
         let Some(nested) = piece.nested else {
             return Ok(());
         };
-        let offset = checked_sum(piece.document_offset()?, piece.header_size())?;
+        let offset = checked_sum(piece.document_offset()?, piece.sizes().header)?;
         let inside = piece.place.inside(checked_sum(offset, nested.before)?)?;
         self.push_encodings(nested.octets, inside, marks, printer)?;
         Ok(())
@@ -101,10 +101,12 @@ impl Dumper<'_> {
         ensures { OnOk result (mark_offsets marks.new.items
             ≡ mark_offsets marks.old.items ++ marks_of self.now.is_strict (shown_piece piece.now)) }
     {
-        if !self.is_strict {
+        if !self.is_strict || rules.is_empty() {
             return Ok(());
         }
-        add_mark(piece, rules, marks)
+        let offset = piece.document_offset()?;
+        marks.push(Marked { offset, rules })?;
+        Ok(())
     }
 
     // Prints the row of a piece that breaks these rules, unless it stands too deep.
@@ -123,23 +125,13 @@ impl Dumper<'_> {
             return Ok(());
         }
         let offset = piece.document_offset()?;
-        let texts = self.lent_by(piece)?;
+        let texts = Texts {
+            type_name: piece.type_name(self.alloc)?,
+            value: value_text(self.alloc, piece)?,
+            bits: piece.bits_text(self.alloc, &self.names.shapes)?,
+        };
         printer.push(&self.row_of(piece, offset, rules, &texts))?;
         Ok(())
-    }
-
-    // The texts that the row of a piece lends.
-    fn lent_by(&self, piece: &Piece<'_>) -> Result<Texts, AllocError>
-        ensures { IfOk result (λ texts. string_bytes texts.type_name ≡ kind_type_name piece.now.kind) }
-    {
-        let type_name = piece.type_name(self.alloc)?;
-        let value = value_text(self.alloc, piece)?;
-        let bits = bits_text(self.alloc, &piece.set_bits(self.alloc, &self.names.shapes)?)?;
-        Ok(Texts {
-            type_name,
-            value,
-            bits,
-        })
     }
 
     // The row of a piece that stands at the offset of the document, and breaks these rules.
@@ -156,15 +148,17 @@ impl Dumper<'_> {
         ensures { IsRowOf (shown_piece piece.now) result }
     {
         let named = piece.names(&self.names.shapes);
+        let sizes = piece.sizes();
         Row {
             offset,
-            header: piece.header_size(),
-            contents: piece.contents_size(),
-            is_indefinite: piece.is_indefinite(),
+            header: sizes.header,
+            contents: sizes.contents,
+            is_indefinite: sizes.is_indefinite,
             depth: piece.place.depth,
             is_inside: piece.place.is_inside,
             has_rows_inside: has_rows_inside(piece),
-            field: field_of(named, &texts.type_name),
+            // where it has no name, that of its type, if that of its tag does not say as much
+            field: named.and_then(|named| named.field.or((!named.is_of_tag).then_some(named.of))),
             type_name: &texts.type_name,
             value: self.value_of(piece, named, texts),
             fault: fault_of(piece),
@@ -184,7 +178,11 @@ impl Dumper<'_> {
             alternative: named.and_then(|named| named.alternative),
             is_constructed: is_shown_constructed(piece),
             text: &texts.value,
-            inside: inside_of(piece),
+            inside: match &piece.nested {
+                None => Inside::Octets,
+                Some(nested) if nested.is_guess => Inside::Guess,
+                Some(_) => Inside::Encodings,
+            },
             identifier: self.identifier_of(piece),
             meaning: texts
                 .bits
@@ -198,24 +196,6 @@ impl Dumper<'_> {
         self.names
             .of(piece.value()?.identifier()?.dotted.as_deref()?)
     }
-}
-
-// Adds the rules that a piece breaks, if there are some.
-fn add_mark(
-    piece: &Piece<'_>,
-    rules: Vec<&'static str>,
-    marks: &mut Vec<Marked>,
-) -> Result<(), AllocError>
-    requires { map (λ r. r.now) rules.items ≡ rules_of (shown_piece piece.now) }
-    ensures { OnOk result (mark_offsets marks.new.items
-        ≡ mark_offsets marks.old.items ++ marks_of true (shown_piece piece.now)) }
-{
-    if rules.is_empty() {
-        return Ok(());
-    }
-    let offset = piece.document_offset()?;
-    marks.push(Marked { offset, rules })?;
-    Ok(())
 }
 
 // The rules of DER that are broken, in words.
@@ -245,32 +225,6 @@ fn is_read(piece: &Piece<'_>) -> bool {
         &piece.kind,
         PieceKind::Opened(_, _, _) | PieceKind::Leaf(_, _, Some(_))
     )
-}
-
-// The field of a piece: its name, or that of its type where it has none and that of its tag does not say as much.
-fn field_of(named: Option<Named>, type_name: &str) -> Option<&'static str> {
-    let Named { field, of, .. } = named?;
-    match field {
-        Some(name) => Some(name),
-        None if of.starts_with(type_name) => None,
-        None => Some(of),
-    }
-}
-
-// Whether it is shown that a piece is constructed.
-fn is_shown_constructed(piece: &Piece<'_>) -> bool {
-    match &piece.kind {
-        PieceKind::Opened(header, _, _) => !is_known_constructed(header),
-        _ => false,
-    }
-}
-
-fn inside_of(piece: &Piece<'_>) -> Inside {
-    match &piece.nested {
-        None => Inside::Octets,
-        Some(nested) if nested.is_guess => Inside::Guess,
-        Some(_) => Inside::Encodings,
-    }
 }
 
 // What is wrong with a piece, if anything is.

@@ -1,25 +1,27 @@
 // The values of encodings, in words.
 
 use asn1_headers::tags::{CHARACTER_STRING, EMBEDDED_PDV, EXTERNAL, SEQUENCE, SET};
-use asn1_headers::whole_header::Header;
 use asn1_numbers::number::big_int::BigInt;
-use dump_values::scalars::{LEAST_HEX, write_after_space, write_as, write_hex, write_quoted};
+use dump_values::scalars::{LEAST_HEX, write_hex, write_quoted};
 use dump_values::tag::{holds_encodings, universal_tag};
-use dump_values::value::{Bits, Identifier, LeafValue};
+use dump_values::value::{Bits, LeafValue};
 use dump_walk::piece::{Piece, PieceKind};
 use std::alloc::{AllocError, Global};
 
 // How many octets an integer has at most that is shown in decimal.
 const MOST_DECIMAL: usize = 16;
 
-// Whether the tag, or what stands inside, tells that the encoding is constructed.
-pub fn is_known_constructed(header: &Header) -> bool {
+// Whether it is shown that a piece is constructed: neither its tag tells it, nor what stands inside.
+pub fn is_shown_constructed(piece: &Piece<'_>) -> bool {
+    let PieceKind::Opened(header, _, _) = &piece.kind else {
+        return false;
+    };
     match universal_tag(header) {
-        Some(tag) => matches!(
+        Some(tag) => !matches!(
             u64::from(tag),
             EXTERNAL | EMBEDDED_PDV | SEQUENCE | SET | CHARACTER_STRING
         ),
-        None => header.announced > 0 || header.is_indefinite,
+        None => header.announced == 0 && !header.is_indefinite,
     }
 }
 
@@ -59,10 +61,16 @@ fn write_value(
         | LeafValue::NoText(text)
         | LeafValue::Tagged(text) => write_octets(out, contents, text, is_full),
         LeafValue::Null => Ok(()),
-        LeafValue::Identifier(identifier) => write_identifier(out, identifier),
+        LeafValue::Identifier(identifier) => match &identifier.dotted {
+            Some(dotted) => out.push_str(dotted),
+            None => out.push_str("with components beyond 2^128"),
+        },
         LeafValue::OtherText(text) if text.is_empty() => Ok(()),
         LeafValue::Text(text) | LeafValue::OtherText(text) => write_quoted(out, text),
-        LeafValue::WideText(form, text) => write_as(out, *form, text),
+        LeafValue::WideText(form, text) => {
+            write!(out, "(as {}) ", form.name())?;
+            write_quoted(out, text)
+        }
         LeafValue::Notation(text) => out.push_str(text),
         LeafValue::Moment(time) | LeafValue::BerTime(time) => out.push_str(&time.text),
         LeafValue::Address(address) => out.push_str(&address.text(alloc)?),
@@ -104,15 +112,8 @@ fn write_bits(
     if bits.octets.is_empty() {
         return Ok(());
     }
-    out.push_str(":")?;
-    write_after_space(out, &bits.octets, is_full)
-}
-
-fn write_identifier(out: &mut String, identifier: &Identifier) -> Result<(), AllocError> {
-    match &identifier.dotted {
-        Some(dotted) => out.push_str(dotted),
-        None => out.push_str("with components beyond 2^128"),
-    }
+    out.push_str(": ")?;
+    write_hex(out, &bits.octets, is_full)
 }
 
 // Octets, and what they are as text, if they may be some.

@@ -8,8 +8,8 @@ loop-mark-preserved g c =
     PrintsText-append g.W.Write.contents c.args.printer.now c.loop-mark.printer c.push_broken.new.self
     c.loop-mark.invariant c.in_ok-push_broken.ensures
 
-pub returns : goal.returns
-returns g c =
-    on_ok_weaker c.push_first.result
-    (λ last. PrintsText-append g.W.Write.contents c.args.printer.now c.loop-mark.printer c.push_first.new.printer
-    c.loop-mark.invariant last) c.push_first.ensures
+pub returns-in-Some : goal.returns-in-Some
+returns-in-Some g c =
+    on_ok_weaker c.push_fault.result
+    (λ last. PrintsText-append g.W.Write.contents c.args.printer.now c.loop-mark.printer c.push_fault.new.self
+    c.loop-mark.invariant last) c.push_fault.ensures

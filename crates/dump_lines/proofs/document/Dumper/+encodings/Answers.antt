@@ -63,7 +63,7 @@ push_nested-returns g t c = λ left holding.
       c.in_ok-checked_sum.ensures,
       c.in_ok-offset.ensures,
       c.in_ok-document_offset.ensures,
-      c.header_size.ensures,
+      c.sizes.ensures.header,
     ) in
     IsPrinted-weaker g.W.Write.contents _ _ c.args.printer.now c.push_encodings.new.printer
     (λ text. IsInner-whole c.args.self.now.is_strict piece c.in_ok-inside.inside left nested.octets.now _ _ _ text

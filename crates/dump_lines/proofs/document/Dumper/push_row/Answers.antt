@@ -3,7 +3,7 @@ use Rattle.std.proofs.Common.{◌≡◌, ◌∙◌, [], false, refl, subst, sym,
 use Rattle.dump_lines.specs.Dump.{IsTextOf, IsTextUnless}
 use Rattle.dump_lines.specs.Steps.{shown_piece}
 use Rattle.dump_rows.proofs.Printed.{IsPrinted-nil, IsPrinted-weaker}
-use Rattle.dump_rows.specs.Rows.{IsLine, IsRowLine}
+use Rattle.dump_rows.specs.Rows.{IsRowLine}
 use Rattle.dump_walk.specs.Fronts.{is_too_deep}
 use Rattle.dump_lines.proofs.document.Dumper.push_row.Goals as goal
 
@@ -21,7 +21,7 @@ returns g c =
     let most = piece.place.style.most_depth in
     let row = c.row_of.result in
     let deep : is_too_deep most piece.place.depth ≡ false = sym c.is_too_deep.ensures ∙ c.if-is_too_deep.false in
-    IsPrinted-weaker g.W.Write.contents (IsLine (IsRowLine row)) (IsTextOf most (shown_piece piece))
+    IsPrinted-weaker g.W.Write.contents (IsRowLine row) (IsTextOf most (shown_piece piece))
     c.args.printer.now c.push.new.self
     (λ text line. subst (λ z. IsTextUnless z (shown_piece piece) text) (sym deep) (row, c.row_of.ensures, line))
     c.in_ok-push.ensures
