@@ -31,10 +31,6 @@ Adds-alone Is a b none (t, e, h) = subst Is (sym (e ∙ ap (λ z. z ++ t) none))
 pub Adds-turned : (P Q : List ℕ → Type 0) (t a b : List ℕ) → P t → a ≡ t → Adds (Turns P Q) a b → Q b
 Adds-turned P Q t a b h e (s, f, turn) = subst Q (sym (f ∙ ap (λ z. z ++ s) e)) (turn t h)
 
--- a text of a kind, and one that goes on with it
-pub Adds-then : (P Q : List ℕ → Type 0) (a b c : List ℕ) → Adds P a b → Adds (Turns P Q) b c → Adds Q a c
-Adds-then P Q a b c (s, e, h) (t, f, turn) = (s ++ t, f ∙ (ap (λ z. z ++ t) e ∙ append_assoc a s t), turn s h)
-
 pub Turns-then : (P Q R : List ℕ → Type 0) (s t : List ℕ) → Turns P Q s → Turns Q R t → Turns P R (s ++ t)
 Turns-then P Q R s t turn again u h = subst R (append_assoc u s t) (again (u ++ s) (turn u h))
 
@@ -71,10 +67,6 @@ Adds-member later a b c d e f (name, g, h) i (v, j, k) = (
       ∙ (ap (λ z. z ++ (name ++ (codes ":" ++ v))) f ∙ append_assoc a (comma_if later) (name ++ (codes ":" ++ v))),
   λ t o. IsOpenObject.with_member later t (name ++ (codes ":" ++ v)) o (IsMember.member name v h k),
 )
-
--- the end of an object
-pub Adds-end : (later : Bool) (a b : List ℕ) → b ≡ a ++ codes "}" → Adds (Turns (IsOpenObject later) IsValue) a b
-Adds-end later a b e = (codes "}", e, λ t o. IsValue.object later t o)
 
 -- the end of an object, and of its line
 pub Adds-end_line : (later : Bool) (a b : List ℕ) → b ≡ a ++ codes "}\n" → Adds (Turns (IsOpenObject later) IsLine) a b

@@ -1,8 +1,8 @@
 // The members `name` and `shown`, for people who read the value.
-use crate::leaf::MOST_DECIMAL;
+use crate::leaf::{MOST_DECIMAL, text_of};
 use crate::value::Value;
 use dump_names::Names;
-use dump_shapes::{Named, bits_text};
+use dump_shapes::Named;
 use dump_values::scalars::LEAST_HEX;
 use dump_values::tag::is_universal;
 use dump_values::value::LeafValue;
@@ -17,7 +17,7 @@ pub fn name_of<'a>(
     piece: &Piece<'_>,
     named: Option<Named>,
 ) -> Result<Option<Value<'a>>, AllocError> {
-    if let Some(text) = bits_text(alloc, &piece.set_bits(alloc, &names.shapes)?)? {
+    if let Some(text) = piece.bits_text(alloc, &names.shapes)? {
         return Ok(Some(Value::Made(text)));
     }
     let name = match piece.value().and_then(|value| value.identifier()) {
@@ -70,12 +70,12 @@ fn shown_value<'a>(contents: &'a [u8], value: &'a LeafValue) -> Option<Value<'a>
 
 // A value under a tag of another class than Universal as text, if it has some. Its octets are the member `value`.
 fn value_text<'a>(alloc: Global, value: &'a LeafValue) -> Result<Option<Value<'a>>, AllocError> {
+    if let Some(text) = text_of(value).filter(|text| !text.is_empty()) {
+        return Ok(Some(Value::Text(text)));
+    }
     match value {
-        LeafValue::Boolean(is_true) => Ok(Some(Value::Text(if *is_true {
-            "true"
-        } else {
-            "false"
-        }))),
+        LeafValue::Boolean(true) => Ok(Some(Value::Text("true"))),
+        LeafValue::Boolean(false) => Ok(Some(Value::Text("false"))),
         LeafValue::Integer(number) if number.octets().len() <= MOST_DECIMAL => {
             Ok(Some(Value::Made(format!(in alloc; "{number}")?)))
         }
@@ -83,12 +83,6 @@ fn value_text<'a>(alloc: Global, value: &'a LeafValue) -> Result<Option<Value<'a
             Ok(text_in(text))
         }
         LeafValue::Identifier(identifier) => Ok(text_in(&identifier.dotted)),
-        LeafValue::Text(text)
-        | LeafValue::WideText(_, text)
-        | LeafValue::OtherText(text)
-        | LeafValue::Notation(text)
-            if !text.is_empty() => { Ok(Some(Value::Text(text))) }
-        LeafValue::Moment(time) | LeafValue::BerTime(time) => Ok(Some(Value::Text(&time.text))),
         LeafValue::Address(address) => Ok(Some(Value::Made(address.text(alloc)?))),
         _ => Ok(None),
     }

@@ -57,7 +57,7 @@ fn identifier_value<'a>(
 }
 
 // The text that a value is.
-fn text_of(value: &LeafValue) -> Option<&str> {
+pub fn text_of(value: &LeafValue) -> Option<&str> {
     match value {
         LeafValue::Text(text)
         | LeafValue::WideText(_, text)

@@ -5,7 +5,7 @@ ghost use Rattle.dump_walk.specs.Texts.{Adds};
 ghost use Rattle.dump_json.specs.Grammar.{IsOpenObject};
 ghost use Rattle.dump_json.specs.Lines.{AreLines, IsLine, Turns};
 
-use crate::json::{Items, Json};
+use crate::json::Json;
 use crate::members::{Member, push_members};
 use crate::piece::fault_object;
 use crate::value::Value;
@@ -75,9 +75,9 @@ impl Dumper<'_> {
             self.write_line("fault", fault_object(self.alloc, &fault, 0)?, out)?;
             return Ok(false);
         }
-        let mut departures = Items::new(self.alloc)?;
+        let mut departures = Vec::new(self.alloc);
         let first = self.write_blocks(style, octets, &mut departures, out)?;
-        let not_der = departures.if_some()?;
+        let not_der = Json::array(self.alloc, &departures)?;
         let is_right = first.is_none() && not_der.is_none();
         let fault = match &first {
             Some(fault) => Some(fault_object(self.alloc, fault, fault.offset)?),
@@ -93,7 +93,7 @@ impl Dumper<'_> {
         &self,
         style: Style,
         octets: &[u8],
-        departures: &mut Items,
+        departures: &mut Vec<Json>,
         out: &mut W,
     ) -> Result<Option<Fault>, StreamFault>
         ensures { OnOk result (IsWritten IsLine (W.contents out.old) (W.contents out.new)) }

@@ -7,16 +7,16 @@ ghost use Rattle.dump_json.specs.Lines.{Turns};
 use crate::json::Json;
 use crate::labels::{name_of, shown_of};
 use crate::leaf::{tag_value, value_in};
-use crate::members::{Member, push_members};
+use crate::members::push_members;
 use crate::value::Value;
 use dump_names::Names;
 use dump_values::faults::Fault;
+use dump_values::tag;
 use dump_values::tag::{holds_encodings, is_universal};
 use dump_values::value::LeafValue;
 use dump_walk::marks::BrokenRule;
 use dump_walk::piece::{Piece, PieceKind};
 use dump_walk::sum::checked_sum;
-use dump_walk::tag;
 use std::alloc::{AllocError, Global};
 
 // Puts the members of the object of a piece but for `blocks`: it stands at the offset of the document, and breaks these
@@ -48,7 +48,7 @@ pub fn push_piece<'a>(
     let shown = shown_of(alloc, piece)?;
     let members = [
         ("offset", Some(Value::count(offset))),
-        ("header", Some(Value::count(piece.header_size()))),
+        ("header", Some(Value::count(piece.sizes().header))),
         ("size", Some(size)),
         ("depth", Some(Value::count(piece.place.depth))),
         ("class", Some(class)),
@@ -151,16 +151,21 @@ pub fn fault_object(alloc: Global, fault: &Fault, offset: usize) -> Result<Json,
     Json::object(alloc, &members)
 }
 
-// The members of a rule that is broken, by an encoding at the offset, if that is told.
-pub fn rule_members(offset: Option<usize>, rule: &BrokenRule) -> [Member<'static>; 4] {
+// The object of a rule that is broken, by an encoding at the offset, if that is told.
+pub fn rule_object(
+    alloc: Global,
+    offset: Option<usize>,
+    rule: &BrokenRule,
+) -> Result<Json, AllocError> {
     let offset = match offset {
         Some(offset) => Some(Value::count(offset)),
         None => None,
     };
-    [
+    let members = [
         ("offset", offset),
         ("rule", Some(Value::Text(rule.name))),
         ("section", Some(Value::Text(rule.section))),
         ("text", Some(Value::Text(rule.text))),
-    ]
+    ];
+    Json::object(alloc, &members)
 }

@@ -4,10 +4,10 @@ ghost use Rattle.der_io.specs.Output.{IsWritten};
 ghost use Rattle.dump_json.specs.Grammar.{IsOpenObject, IsValue};
 ghost use Rattle.dump_json.specs.Lines.{Turns};
 
-use crate::json::{Items, Json};
+use crate::json::Json;
 use crate::line::Dumper;
 use crate::members::comma;
-use crate::piece::{push_piece, rule_members};
+use crate::piece::{push_piece, rule_object};
 use der_io::{StreamFault, write_part};
 use dump_values::faults::Fault;
 use dump_walk::piece::Piece;
@@ -25,7 +25,7 @@ impl Dumper<'_> {
         &self,
         octets: &[u8],
         place: Place,
-        departures: &mut Items,
+        departures: &mut Vec<Json>,
         out: &mut W,
     ) -> Result<Option<Fault>, StreamFault>
         ensures { OnOk result (IsWritten IsValue (W.contents out.old) (W.contents out.new)) }
@@ -48,7 +48,7 @@ impl Dumper<'_> {
     fn write_row<W: Write>(
         &self,
         piece: Piece<'_>,
-        departures: &mut Items,
+        departures: &mut Vec<Json>,
         out: &mut W,
     ) -> Result<Option<Fault>, StreamFault>
         requires { IfSome piece.nested (λ _. 0 < piece.place.documents) }
@@ -63,7 +63,7 @@ impl Dumper<'_> {
     fn write_members<W: Write>(
         &self,
         piece: &Piece<'_>,
-        departures: &mut Items,
+        departures: &mut Vec<Json>,
         out: &mut W,
     ) -> Result<bool, StreamFault>
         ensures { IfOk result (λ later. IsWritten (IsOpenObject later) (W.contents out.old) (W.contents out.new)) }
@@ -81,16 +81,16 @@ impl Dumper<'_> {
         &self,
         piece: &Piece<'_>,
         offset: usize,
-        departures: &mut Items,
+        departures: &mut Vec<Json>,
     ) -> Result<Option<Json>, AllocError> {
-        let mut rules = Items::new(self.alloc)?;
+        let mut rules = Vec::new(self.alloc);
         for rule in &piece.breaches.describe(self.alloc)? {
-            rules.push_object(self.alloc, &rule_members(None, rule))?;
+            rules.push(rule_object(self.alloc, None, rule)?)?;
             if self.is_strict {
-                departures.push_object(self.alloc, &rule_members(Some(offset), rule))?;
+                departures.push(rule_object(self.alloc, Some(offset), rule)?)?;
             }
         }
-        rules.if_some()
+        Json::array(self.alloc, &rules)
     }
 
     // Writes the member of the blocks inside contents octets, if there are any, and the end of the object.
@@ -99,7 +99,7 @@ impl Dumper<'_> {
         &self,
         piece: &Piece<'_>,
         is_later: bool,
-        departures: &mut Items,
+        departures: &mut Vec<Json>,
         out: &mut W,
     ) -> Result<(), StreamFault>
         requires { IfSome piece.now.nested (λ _. 0 < piece.now.place.documents) }
@@ -110,7 +110,7 @@ impl Dumper<'_> {
             write_part(out, b"}")?;
             return Ok(());
         };
-        let before = checked_sum(piece.document_offset()?, piece.header_size())?;
+        let before = checked_sum(piece.document_offset()?, piece.sizes().header)?;
         let inside = piece.place.inside(checked_sum(before, nested.before)?)?;
         write_part(out, comma(is_later))?;
         write_part(out, b"\"blocks\":")?;
