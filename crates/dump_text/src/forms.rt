@@ -11,11 +11,12 @@ pub struct Form {
     pub rows: &'static [Row],
     // the labels of rows that a document may have nothing for
     pub optional: &'static [&'static str],
-    pub has_fingerprint: bool,
+    // of what is signed, where the values of its extensions stand; a digest of it is shown
+    pub signed: Option<&'static str>,
 }
 
 // A line: the path of the field that it shows, its label, and how what is inside the field is shown, by the paths
-// there. Without a label, the lines of the extensions whose values stand at the path, in their order.
+// there.
 pub type Row = (&'static str, &'static str, Parts);
 
 type Parts = &'static [(&'static str, Part)];
@@ -56,30 +57,36 @@ pub enum Part {
 }
 
 impl Form {
-    // The row of the field at the path, and where its line stands among those of all rows.
-    pub fn row_at(&self, path: &str) -> Option<(usize, Row)> {
+    // The row of the field with this path, and the place of its line. Lines of extensions stand before the last row.
+    pub fn row_at(&self, names: &[&str]) -> Option<(usize, Row)> {
         for (place, row) in self.rows.iter().enumerate() {
-            let (own, label, _) = *row;
-            if !label.is_empty() {
-                if own == path {
-                    return Some((place, *row));
-                }
-            } else if let Some(of) = path.strip_prefix(own) {
-                let row = EXTENSIONS
-                    .iter()
-                    .find(|(name, _, _)| of.strip_prefix('.') == Some(*name))?;
+            if is_path(row.0, names) {
                 return Some((place, *row));
             }
         }
-        None
+        let (name, around) = names.split_last()?;
+        if !self.has_extensions_at(around) {
+            return None;
+        }
+        let row = EXTENSIONS.iter().find(|(own, _, _)| own == name)?;
+        Some((self.rows.len().saturating_sub(1), *row))
     }
 
     // Whether the values of extensions stand at the path.
-    pub fn has_extensions_at(&self, path: &str) -> bool {
-        self.rows
-            .iter()
-            .any(|(own, label, _)| label.is_empty() && *own == path)
+    pub fn has_extensions_at(&self, names: &[&str]) -> bool {
+        self.signed.is_some_and(|path| is_path(path, names))
     }
+}
+
+// Whether the path of a table has these names.
+pub fn is_path(path: &str, names: &[&str]) -> bool {
+    path.split_terminator('.').eq(names.iter().copied())
+}
+
+// Whether the path of a table begins with these names.
+pub fn begins_with(path: &str, names: &[&str]) -> bool {
+    let front = path.split_terminator('.').take(names.len());
+    front.eq(names.iter().copied())
 }
 
 // How accounts show documents of the type with this name.
@@ -98,20 +105,11 @@ const FORMS: &[Form] = &[
             ("tbsCertificate.serialNumber", "serial number", NUMBER),
             ("tbsCertificate.validity.notBefore", "not before", TIME),
             ("tbsCertificate.validity.notAfter", "not after", END),
-            (
-                "tbsCertificate.subjectPublicKeyInfo",
-                "public key",
-                PUBLIC_KEY,
-            ),
-            (
-                "tbsCertificate.extensions.Extensions.Extension.extnValue",
-                "",
-                &[],
-            ),
+            ("tbsCertificate.subjectPublicKeyInfo", "public key", KEY),
             SIGNATURE,
         ],
         optional: &[],
-        has_fingerprint: true,
+        signed: Some("tbsCertificate.extensions.Extensions.Extension.extnValue"),
     },
     // RFC 2986, 4
     Form {
@@ -119,20 +117,13 @@ const FORMS: &[Form] = &[
         title: "certification request",
         rows: &[
             ("certificationRequestInfo.subject", "subject", NAME),
-            (
-                "certificationRequestInfo.subjectPKInfo",
-                "public key",
-                PUBLIC_KEY,
-            ),
-            (
-                "certificationRequestInfo.attributes.Attribute.values.Extensions.Extension.extnValue",
-                "",
-                &[],
-            ),
+            ("certificationRequestInfo.subjectPKInfo", "public key", KEY),
             SIGNATURE,
         ],
         optional: &[],
-        has_fingerprint: true,
+        signed: Some(
+            "certificationRequestInfo.attributes.Attribute.values.Extensions.Extension.extnValue",
+        ),
     },
     // RFC 5280, 5.1
     Form {
@@ -143,23 +134,18 @@ const FORMS: &[Form] = &[
             ("tbsCertList.thisUpdate", "this update", TIME),
             ("tbsCertList.nextUpdate", "next update", END),
             ("tbsCertList.revokedCertificates", "revoked", REVOKED),
-            (
-                "tbsCertList.crlExtensions.Extensions.Extension.extnValue",
-                "",
-                &[],
-            ),
             SIGNATURE,
         ],
         optional: &["next update"],
-        has_fingerprint: true,
+        signed: Some("tbsCertList.crlExtensions.Extensions.Extension.extnValue"),
     },
     // RFC 5280, 4.1
     Form {
         types: &["SubjectPublicKeyInfo"],
         title: "public key",
-        rows: &[("", "key", PUBLIC_KEY)],
+        rows: &[("", "key", KEY)],
         optional: &[],
-        has_fingerprint: false,
+        signed: None,
     },
     // RFC 5208, 5, and RFC 5958, 2
     Form {
@@ -167,7 +153,7 @@ const FORMS: &[Form] = &[
         title: "private key",
         rows: &[("", "key", PRIVATE_KEY)],
         optional: &[],
-        has_fingerprint: false,
+        signed: None,
     },
     // RFC 5958, 3
     Form {
@@ -175,7 +161,7 @@ const FORMS: &[Form] = &[
         title: "encrypted private key",
         rows: &[("encryptionAlgorithm", "encryption", ALGORITHM)],
         optional: &[],
-        has_fingerprint: false,
+        signed: None,
     },
     // RFC 5915, 3, and RFC 8017, appendix A.1.2
     Form {
@@ -183,14 +169,14 @@ const FORMS: &[Form] = &[
         title: "private key",
         rows: &[("", "key", TRADITIONAL_KEY)],
         optional: &[],
-        has_fingerprint: false,
+        signed: None,
     },
 ];
 
 // RFC 5280, 4.1.1.2
 const SIGNATURE: Row = ("signatureAlgorithm", "signature", ALGORITHM);
 
-// RFC 5280, 4.2 and 5.2
+// RFC 5280, 4.2 and 5.2, by the types of their values
 const EXTENSIONS: &[Row] = &[
     ("KeyUsage", "key usage", &[("", Part::Bits)]),
     ("SubjectAltName", "alternative names", GENERAL_NAMES),
@@ -223,7 +209,7 @@ const NAME: Parts = &[
 ];
 
 // RFC 5280, 4.1.2.7, and RFC 8017, appendix A.1.1
-const PUBLIC_KEY: Parts = &[
+const KEY: Parts = &[
     ("algorithm", Part::Text("?")),
     ("algorithm.algorithm", Part::KeyKind),
     ("algorithm.parameters", Part::Curve),

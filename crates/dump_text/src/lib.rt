@@ -20,6 +20,9 @@
 //! `tbsCertificate.validity.notAfter` a time, with the label `not after`. Names are written as RFC 4514 writes them.
 #![tactic(auto)]
 
+ghost use Rattle.std.specs.Prelude.{IfOk, IfSome, string_bytes};
+ghost use Rattle.dump_text.specs.Shown.{AreLines};
+
 mod forms;
 mod leaf;
 mod lines;
@@ -28,27 +31,27 @@ mod open_line;
 mod reader;
 
 use crate::forms::form_of;
-pub use crate::lines::{Line, joined};
 use crate::reader::{Reader, read_pieces};
 use dump_names::Names;
-use dump_shapes::DocumentType;
+use dump_shapes::Around;
 use dump_values::faults::Fault;
+use dump_walk::fitting;
 use dump_walk::place::outermost;
-use dump_walk::style::{Known, Style};
+use dump_walk::style::Style;
 use jiff::civil::DateTime;
 use std::alloc::{AllocError, Global};
 
 /// The account of a document.
 #[derive(Drop)]
 pub struct Account {
-    /// The lines, of which the first is the title.
-    pub lines: Vec<Line>,
+    /// The lines, of which the first is the title: text that is shown, with a line feed behind each.
+    pub text: String,
     /// Why the octets are no whole encodings, if they are none.
     pub fault: Option<Fault>,
 }
 
-/// The account of a document: a certificate, a certification request, a list of revoked certificates, or a key. What it
-/// is, is `known`, or else the shape says that fits ([`Shapes::type_of`]). `None` of other types, and where a field is
+/// The account of a document: a certificate, a certification request, a list of revoked certificates, or a key. Its
+/// shape is `known`, or else the one that fits ([`fitting`]). `None` of other types, and where a field is
 /// missing that an account shows of each. Of a document that is cut short the account has what is whole. If the time
 /// `now` is given, in UTC, the account says how many days are left.
 ///
@@ -56,26 +59,39 @@ pub struct Account {
 ///
 /// # Errors
 /// Memory ran out.
-///
-/// [`Shapes::type_of`]: dump_shapes::Shapes::type_of
 pub fn account_of(
     alloc: Global,
     names: &Names,
-    known: Option<DocumentType>,
+    known: Option<usize>,
     octets: &[u8],
     now: Option<DateTime>,
-) -> Result<Option<Account>, AllocError> {
-    let Some(document_type) = names.shapes.type_of(alloc, known, octets)? else {
+) -> Result<Option<Account>, AllocError>
+    ensures { IfOk result (λ found. IfSome found (λ account. AreLines (string_bytes account.text))) }
+{
+    let Some(shape) = type_of(alloc, names, known, octets)? else {
         return Ok(None);
     };
-    let Some(form) = form_of(document_type.name) else {
+    let Some(form) = names.shapes.name_of(shape).and_then(|name| form_of(name)) else {
         return Ok(None);
     };
     let style = Style {
-        known: Known::Shape(document_type.shape),
+        around: Around::Shape(shape),
         ..Style::default()
     };
     let mut reader = Reader::new(alloc, names, form, now);
     read_pieces(&mut reader, octets, outermost(style))?;
     reader.finish(octets)
+}
+
+// The shape of a document: the one that is known, or else the one that fits.
+fn type_of(
+    alloc: Global,
+    names: &Names,
+    known: Option<usize>,
+    octets: &[u8],
+) -> Result<Option<usize>, AllocError> {
+    match known {
+        Some(shape) => Ok(Some(shape)),
+        None => fitting(alloc, &names.shapes, octets),
+    }
 }

@@ -1,6 +1,6 @@
 // The lines of an account: its title, and a label and a value each.
-ghost use Rattle.std.specs.Prelude.{IfOk, string_bytes};
-ghost use Rattle.dump_text.specs.Shown.{AreLines, IsShown};
+ghost use Rattle.std.specs.Prelude.{IfOk, OnOk, string_bytes};
+ghost use Rattle.dump_text.specs.Shown.{AreLines};
 
 use der_io::push_shown;
 use std::alloc::{AllocError, Global};
@@ -8,49 +8,33 @@ use std::alloc::{AllocError, Global};
 // How many characters a label takes, with the spaces behind it.
 const LABEL_WIDTH: usize = 20;
 
-/// A line of an account, without a line feed.
-#[derive(Debug, Drop)]
+// The line of a label and a value, which has a place among the others.
+#[derive(Drop)]
 pub struct Line {
-    text: String,
-    ghost shown: { IsShown (string_bytes text) },
+    pub place: usize,
+    pub label: &'static str,
+    pub value: String,
 }
 
-impl Line {
-    /// The line of a text, with `\u{..}` in the place of each character that is not shown.
-    ///
-    /// # Errors
-    /// Memory ran out.
-    pub fn shown(alloc: Global, text: &str) -> Result<Line, AllocError> {
-        let mut shown = String::new(alloc);
-        push_shown(text, &mut shown)?;
-        Ok(Line { text: shown })
-    }
-
-    // The line of a label and a value.
-    pub(crate) fn labelled(alloc: Global, label: &str, value: &str) -> Result<Line, AllocError> {
-        let text = format!(in alloc; "  {label:<LABEL_WIDTH$}{value}")?;
-        Line::shown(alloc, &text)
-    }
-
-    /// Its characters. Each is shown as it is, on one line.
-    pub fn as_str(&self) -> &str
-        ensures { IsShown result.now }
-    {
-        &self.text
-    }
-}
-
-/// The text of lines, with a line feed behind each.
-///
-/// # Errors
-/// Memory ran out.
-pub fn joined(alloc: Global, lines: &[Line]) -> Result<String, AllocError>
+// The text of a title and of lines: `\u{..}` stands in the place of each character that is not shown, and a line feed
+// behind each line.
+pub fn joined(alloc: Global, title: &str, lines: &[Line]) -> Result<String, AllocError>
     ensures { IfOk result (λ text. AreLines (string_bytes text)) }
 {
     let mut text = String::new(alloc);
+    push_line(title, &mut text)?;
     for line in lines {
-        text.push_str(line.as_str())?;
-        text.push_str("\n")?;
+        let Line { label, value, .. } = line;
+        let shown = format!(in alloc; "  {label:<LABEL_WIDTH$}{value}")?;
+        push_line(&shown, &mut text)?;
     }
     Ok(text)
+}
+
+fn push_line(line: &str, text: &mut String) -> Result<(), AllocError>
+    ensures { OnOk result (AreLines (string_bytes text.old) → AreLines (string_bytes text.new)) }
+{
+    push_shown(line, text)?;
+    text.push_str("\n")?;
+    Ok(())
 }

@@ -1,13 +1,16 @@
 // The line of a field, while the pieces inside the field are seen.
 use crate::forms::{Part, Row};
-use crate::leaf::{Leaf, bit_count, characters_of};
+use crate::leaf::{bit_count, identifier_of, text_of};
 use crate::name::NameText;
+use asn1_numbers::number::big_int::BigInt;
 use dump_names::Names;
-use dump_shapes::bits_text;
 use dump_values::value::LeafValue;
 use dump_walk::piece::Piece;
 use jiff::civil::DateTime;
 use std::alloc::{AllocError, Global};
+
+// What is said of an authority.
+pub const AUTHORITY: &str = "yes";
 
 // The line of a field that has not ended.
 #[derive(Drop)]
@@ -24,7 +27,6 @@ pub struct OpenLine {
     name: NameText,
     // how many there are, where they are counted
     count: Option<usize>,
-    is_authority: bool,
 }
 
 impl OpenLine {
@@ -38,7 +40,6 @@ impl OpenLine {
             text: None,
             name: NameText::new(alloc),
             count: None,
-            is_authority: false,
         }
     }
 
@@ -51,39 +52,26 @@ impl OpenLine {
         piece: &Piece<'_>,
         encoding: &[u8],
     ) -> Result<(), AllocError> {
-        let leaf = Leaf::of(piece);
-        match part {
-            Part::Text(text) => self.text = Some(String::from_str(self.alloc, text)?),
-            Part::Item => self.push_item(leaf.identifier(names))?,
-            Part::TypeId => self.push(leaf.identifier(names))?,
-            Part::Bits => {
-                let names_of_bits = bits_text(
-                    self.alloc,
-                    &piece.set_bits(self.alloc, &names.shapes)?,
-                )?;
-                self.text = names_of_bits.or(self.text.take());
-            }
-            Part::Modulus => self.push_modulus(leaf)?,
-            Part::Count => self.count = Some(0),
-            Part::Counted => self.count = self.count.map(|count: usize| count.saturating_add(1)),
-            Part::Authority => self.see_authority(leaf)?,
-            Part::PathLength => self.push_path_length(leaf)?,
-            Part::RelativeName => self.name.begin_relative(),
-            Part::AttributeType => self.name.push_type(self.alloc, names, leaf)?,
-            Part::AttributeValue => self
-                .name
-                .push_value(self.alloc, characters_of(piece), encoding)?,
-            Part::GeneralName(kind) => self.push_general_name(names, kind, leaf)?,
-            Part::GeneralOctets(kind) => {
+        match (part, piece.value()) {
+            (Part::Count, _) => self.count = Some(0),
+            (Part::Counted, _) => self.count = self.count.map(|n: usize| n.saturating_add(1)),
+            (Part::RelativeName, _) => self.name.begin_relative(),
+            (Part::AttributeType, _) => self.name.push_type(names, piece)?,
+            (Part::AttributeValue, _) => self.name.push_value(piece, encoding)?,
+            (Part::Item, _) => self.push_item(identifier_of(piece, names))?,
+            (Part::TypeId, _) => self.push(identifier_of(piece, names))?,
+            (Part::GeneralName(kind), _) => {
                 self.push_item(kind)?;
-                let (_, contents) = encoding.split_at(piece.header_size().min(encoding.len()));
-                self.push_octets(contents)?;
+                self.push_general_name(names, piece)?;
             }
-            _ => {
-                if let Some(text) = leaf.text(self.alloc, names, now, part)? {
-                    self.text = Some(text);
-                }
+            (Part::GeneralOctets(kind), _) => {
+                self.push_item(kind)?;
+                let octets = encoding.get(piece.sizes().header..).unwrap_or(&[]);
+                self.push(&hex::encode(self.alloc, octets)?)?;
             }
+            (Part::Modulus, Some(LeafValue::Integer(modulus))) => self.push_modulus(modulus)?,
+            (Part::PathLength, Some(LeafValue::Integer(most))) => self.push_path_length(most)?,
+            _ => self.text = text_of(self.alloc, names, now, part, piece)?.or(self.text.take()),
         }
         Ok(())
     }
@@ -96,10 +84,6 @@ impl OpenLine {
                 Ok(())
             }
         }
-    }
-
-    fn push_octets(&mut self, octets: &[u8]) -> Result<(), AllocError> {
-        self.push(&hex::encode(self.alloc, octets)?)
     }
 
     // Pushes an item, behind a comma if it is not the first.
@@ -124,51 +108,33 @@ impl OpenLine {
     }
 
     // How many bits a modulus has, behind the kind of its key.
-    fn push_modulus(&mut self, leaf: Leaf<'_>) -> Result<(), AllocError> {
-        let Some(LeafValue::Integer(modulus)) = leaf.value else {
-            return Ok(());
-        };
+    fn push_modulus(&mut self, modulus: &BigInt) -> Result<(), AllocError> {
+        let kind = if self.text.is_none() { "RSA" } else { "" };
         let bits = bit_count(modulus.octets());
-        if self.text.is_none() {
-            self.push("RSA")?;
-        }
-        self.push(&format!(in self.alloc; ", {bits} bits")?)
-    }
-
-    fn see_authority(&mut self, leaf: Leaf<'_>) -> Result<(), AllocError> {
-        if let Some(LeafValue::Boolean(true)) = leaf.value {
-            self.is_authority = true;
-            self.text = Some(String::from_str(self.alloc, "yes")?);
-        }
-        Ok(())
+        self.push(&format!(in self.alloc; "{kind}, {bits} bits")?)
     }
 
     // How many others may stand below an authority, where the number is not too large to be meant.
-    fn push_path_length(&mut self, leaf: Leaf<'_>) -> Result<(), AllocError> {
-        let Some(LeafValue::Integer(most)) = leaf.value else {
-            return Ok(());
-        };
+    fn push_path_length(&mut self, most: &BigInt) -> Result<(), AllocError> {
+        let is_authority = self
+            .text
+            .as_ref()
+            .is_some_and(|shown: &String| shown.as_str() == AUTHORITY);
         match most.to_i128() {
-            Some(most) if self.is_authority => {
+            Some(most) if is_authority => {
                 self.push(&format!(in self.alloc; ", with {most} below it at most")?)
             }
             _ => Ok(()),
         }
     }
 
-    // A GeneralName (RFC 5280, section 4.2.1.6). Of one that holds others its parts follow.
-    fn push_general_name(
-        &mut self,
-        names: &Names,
-        kind: &str,
-        leaf: Leaf<'_>,
-    ) -> Result<(), AllocError> {
-        self.push_item(kind)?;
-        match leaf.value {
+    // The value of a GeneralName (RFC 5280, section 4.2.1.6). Of one that holds others its parts follow.
+    fn push_general_name(&mut self, names: &Names, piece: &Piece<'_>) -> Result<(), AllocError> {
+        match piece.value() {
             Some(LeafValue::Text(text)) => self.push(text),
             Some(LeafValue::Address(address)) => self.push(&address.text(self.alloc)?),
-            Some(LeafValue::Identifier(_)) => self.push(leaf.identifier(names)),
-            _ => self.push_octets(leaf.contents),
+            Some(LeafValue::Identifier(_)) => self.push(identifier_of(piece, names)),
+            _ => self.push(&hex::encode(self.alloc, piece.contents())?),
         }
     }
 

@@ -1,12 +1,12 @@
 // Going over the pieces of a document for its account.
-ghost use Rattle.std.specs.Prelude.{◌<◌, IfSome};
+ghost use Rattle.std.specs.Prelude.{◌<◌, IfOk, IfSome, string_bytes};
+ghost use Rattle.dump_text.specs.Shown.{AreLines};
 
 use crate::Account;
-use crate::forms::{Form, Part, Row};
-use crate::lines::Line;
+use crate::forms::{Form, Part, Row, begins_with, is_path};
+use crate::lines::{Line, joined};
 use crate::open_line::OpenLine;
 use dump_names::Names;
-use dump_shapes::Named;
 use dump_values::faults::Fault;
 use dump_walk::piece::{Piece, PieceKind};
 use dump_walk::place::Place;
@@ -16,22 +16,23 @@ use jiff::civil::DateTime;
 use sha2::{Digest, Sha256};
 use std::alloc::{AllocError, Global};
 
+// The places of lines that are of no row, behind those that are.
+const FINGERPRINT: usize = usize::MAX - 1;
+
+const NOT_DER: usize = usize::MAX;
+
 // What an account has so far. It is of the first outermost encoding.
 #[derive(Drop)]
 pub struct Reader<'a> {
-    pub alloc: Global,
-    pub names: &'a Names,
-    pub form: &'static Form,
-    pub now: Option<DateTime>,
-    // the path of the piece, and how long that of each piece around it is
-    path: String,
-    ends: Vec<usize>,
+    alloc: Global,
+    names: &'a Names,
+    form: &'static Form,
+    now: Option<DateTime>,
+    // the names of the piece and of those around it: of what is no field the name of its type, or else `?`
+    path: Vec<&'static str>,
     // the line of a field that has not ended
     open: Option<OpenLine>,
-    // the lines, with the places of their rows
-    lines: Vec<(usize, Line)>,
-    // the lines of rules of DER that are broken
-    broken: Vec<Line>,
+    lines: Vec<Line>,
     // how many octets the encoding has, once it has ended
     size: Option<usize>,
     // why the octets are no whole encodings, and whether the encoding itself is none
@@ -62,7 +63,7 @@ fn read_nested(reader: &mut Reader<'_>, piece: &Piece<'_>) -> Result<(), AllocEr
     let Some(nested) = piece.nested else {
         return Ok(());
     };
-    let offset = checked_sum(piece.document_offset()?, piece.header_size())?;
+    let offset = checked_sum(piece.document_offset()?, piece.sizes().header)?;
     let inside = piece.place.inside(checked_sum(offset, nested.before)?)?;
     read_pieces(reader, nested.octets, inside)
 }
@@ -80,11 +81,9 @@ impl<'a> Reader<'a> {
             names,
             form,
             now,
-            path: String::new(alloc),
-            ends: Vec::new(alloc),
+            path: Vec::new(alloc),
             open: None,
             lines: Vec::new(alloc),
-            broken: Vec::new(alloc),
             size: None,
             fault: None,
             is_cut: false,
@@ -102,7 +101,10 @@ impl<'a> Reader<'a> {
         if self.size.is_some() {
             return Ok(());
         }
-        self.go_to(depth, name_of(piece.names(&self.names.shapes)))?;
+        let named = piece.names(&self.names.shapes);
+        self.path.truncate(depth);
+        self.path
+            .push(named.map_or("?", |named| named.field.unwrap_or(named.of)))?;
         if ends_early(piece) {
             self.open = None;
             return Ok(());
@@ -112,24 +114,21 @@ impl<'a> Reader<'a> {
 
     // Ends the line of a field that is not around what comes next, at the depth.
     fn leave(&mut self, depth: usize) -> Result<(), AllocError> {
-        match self.open.take() {
-            Some(open) if depth <= open.depth => {
-                let (place, (_, label, _)) = (open.place, open.row);
-                match open.into_text()? {
-                    Some(text) => self.push(place, label, &text),
-                    None => Ok(()),
-                }
-            }
-            open => {
-                self.open = open;
-                Ok(())
+        if let Some(open) = self.open.take_if(|open| depth <= open.depth) {
+            let (place, (_, label, _)) = (open.place, open.row);
+            if let Some(text) = open.into_text()? {
+                self.push(place, label, text)?;
             }
         }
+        Ok(())
     }
 
-    fn push(&mut self, place: usize, label: &str, text: &str) -> Result<(), AllocError> {
-        let line = Line::labelled(self.alloc, label, text)?;
-        self.lines.push((place, line))?;
+    fn push(&mut self, place: usize, label: &'static str, value: String) -> Result<(), AllocError> {
+        self.lines.push(Line {
+            place,
+            label,
+            value,
+        })?;
         Ok(())
     }
 
@@ -141,52 +140,36 @@ impl<'a> Reader<'a> {
         for rule in &piece.breaches.rules {
             let (rule, offset) = (rule.text(), piece.offset);
             let text = format!(in self.alloc; "{rule}, at offset {offset}")?;
-            self.broken
-                .push(Line::labelled(self.alloc, "not DER", &text)?)?;
+            self.push(NOT_DER, "not DER", text)?;
         }
-        Ok(())
-    }
-
-    // Goes on to a piece with this name that stands inside so many others. The first has no name in paths.
-    fn go_to(&mut self, depth: usize, name: &str) -> Result<(), AllocError> {
-        self.ends.truncate(depth);
-        let around = self.ends.last().copied().unwrap_or(0);
-        self.path.truncate(self.path.floor_char_boundary(around));
-        if depth > 1 {
-            self.path.push('.')?;
-        }
-        if depth > 0 {
-            self.path.push_str(name)?;
-        }
-        self.ends.push(self.path.len())?;
         Ok(())
     }
 
     // Shows the piece, which is this encoding, on the line that has it.
     fn show(&mut self, piece: &Piece<'_>, encoding: &[u8]) -> Result<(), AllocError> {
+        let depth = piece.place.depth;
         if self.open.is_none()
-            && let Some((place, row)) = self.form.row_at(&self.path)
+            && let Some((place, row)) = self.form.row_at(inside_of(&self.path, 0))
         {
-            self.open = Some(OpenLine::new(self.alloc, row, place, piece.place.depth));
+            self.open = Some(OpenLine::new(self.alloc, row, place, depth));
         }
         let Some(open) = &mut self.open else {
             return Ok(());
         };
-        let inside = inside_of(&self.path, &self.ends, open.depth);
-        match part_at(open.row, inside) {
+        match part_at(open.row, inside_of(&self.path, open.depth)) {
             Some(part) => open.see(self.names, self.now, part, piece, encoding),
             None => Ok(()),
         }
     }
 
-    // Whether something may be shown of what is inside the piece that was gone on to.
+    // Whether something may be shown of what is inside the piece that was seen last.
     fn shows_inside(&self) -> bool {
         match &self.open {
             Some(open) => {
-                let inside = inside_of(&self.path, &self.ends, open.depth);
-                open.row.2.iter().any(|(path, _)| path.starts_with(inside))
+                let inside = inside_of(&self.path, open.depth);
+                open.row.2.iter().any(|(path, _)| begins_with(path, inside))
             }
-            None => self.form.has_extensions_at(&self.path),
+            None => self.form.has_extensions_at(inside_of(&self.path, 0)),
         }
     }
 
@@ -199,26 +182,22 @@ impl<'a> Reader<'a> {
     }
 
     // The account of the octets, all of whose pieces were seen. `None` where a field is missing that it needs.
-    pub fn finish(mut self, octets: &[u8]) -> Result<Option<Account>, AllocError> {
+    pub fn finish(mut self, octets: &[u8]) -> Result<Option<Account>, AllocError>
+        ensures { IfOk result (λ found. IfSome found (λ account. AreLines (string_bytes account.text))) }
+    {
         if !self.is_cut && !self.add_absent()? {
             return Ok(None);
         }
-        self.lines.sort_by_key(|line: &(usize, Line)| line.0)?;
-        let mut lines = Vec::new(self.alloc);
-        lines.push(Line::shown(self.alloc, self.form.title)?)?;
-        for (_, line) in self.lines {
-            lines.push(line)?;
-        }
-        if self.form.has_fingerprint && !self.is_cut {
-            let (encoding, _) = octets.split_at(
-                self.size.unwrap_or(octets.len()).min(octets.len()),
-            );
+        if self.form.signed.is_some() && !self.is_cut {
+            let encoding = octets
+                .get(..self.size.unwrap_or(octets.len()))
+                .unwrap_or(octets);
             let digest = hex::encode_upper(self.alloc, &Sha256::digest(encoding))?;
-            lines.push(Line::labelled(self.alloc, "SHA-256", &digest)?)?;
+            self.push(FINGERPRINT, "SHA-256", digest)?;
         }
-        lines.append(&mut self.broken)?;
+        self.lines.sort_by_key(|line: &Line| line.place)?;
         Ok(Some(Account {
-            lines,
+            text: joined(self.alloc, self.form.title, &self.lines)?,
             fault: self.fault,
         }))
     }
@@ -226,13 +205,12 @@ impl<'a> Reader<'a> {
     // Adds the lines of counts of what is absent, and returns whether nothing else is that the account needs.
     fn add_absent(&mut self) -> Result<bool, AllocError> {
         for (place, (_, label, parts)) in self.form.rows.iter().enumerate() {
-            let is_there = self
-                .lines
-                .iter()
-                .any(|line: &(usize, Line)| line.0 == place);
+            let is_there = self.lines.iter().any(|line: &Line| line.label == *label);
             match parts {
-                _ if is_there || label.is_empty() || self.form.optional.contains(label) => {}
-                [(_, Part::Count), ..] => self.push(place, label, "0")?,
+                _ if is_there || self.form.optional.contains(label) => {}
+                [(_, Part::Count), ..] => {
+                    self.push(place, label, String::from_str(self.alloc, "0")?)?;
+                }
                 _ => return Ok(false),
             }
         }
@@ -240,35 +218,26 @@ impl<'a> Reader<'a> {
     }
 }
 
-// How a piece at the path inside the field of a row is shown.
-fn part_at((_, _, parts): Row, inside: &str) -> Option<Part> {
-    let (_, part) = parts.iter().find(|(path, _)| *path == inside)?;
+// How a piece with this path inside the field of a row is shown.
+fn part_at((_, _, parts): Row, inside: &[&str]) -> Option<Part> {
+    let (_, part) = parts.iter().find(|(path, _)| is_path(path, inside))?;
     Some(*part)
 }
 
-// The path inside the piece with so many others around it, of which so long are the paths that end at them.
-fn inside_of<'p>(path: &'p str, ends: &[usize], depth: usize) -> &'p str {
-    let own = ends.get(depth).copied().unwrap_or(0);
-    let inside = path.get(own..).unwrap_or("");
-    inside.strip_prefix('.').unwrap_or(inside)
+// The path inside the piece that stands inside so many others.
+fn inside_of<'p>(path: &'p [&'static str], depth: usize) -> &'p [&'static str] {
+    path.get(depth.saturating_add(1)..).unwrap_or(&[])
 }
 
 // The octets of a piece whose length is definite.
 fn encoding_of<'o>(octets: &'o [u8], piece: &Piece<'_>) -> &'o [u8] {
-    if piece.is_indefinite() {
+    let sizes = piece.sizes();
+    if sizes.is_indefinite {
         return &[];
     }
-    let size = piece.header_size().saturating_add(piece.contents_size());
+    let size = sizes.header.saturating_add(sizes.contents);
     let end = piece.offset.saturating_add(size);
     octets.get(piece.offset..end).unwrap_or(&[])
-}
-
-// The name of a piece: that of the field that it is, or else of its type. One that is no field has the name of none.
-fn name_of(named: Option<Named>) -> &'static str {
-    match named {
-        Some(named) => named.field.unwrap_or(named.of),
-        None => "?",
-    }
 }
 
 // Whether the octets end before the piece does, or are no encoding, so that more of it is not known.
