@@ -1,5 +1,5 @@
 // The block at an offset of an input: shown alone, or a part of its octets.
-ghost use Rattle.std.specs.Prelude.{◌≡◌, IfErr, IfOk, List, MatchResult, None, Option, ℕ};
+ghost use Rattle.std.specs.Prelude.{◌≡◌, IfErr, IfOk, List, None, Option, ℕ};
 ghost use Rattle.der_forms.specs.Objects.{IsReadAs, document_of};
 ghost use Rattle.der_io.specs.Output.{IsWritten};
 ghost use Rattle.dump_inputs.specs.Blocks.{IsFoundIn, IsPartOf};
@@ -7,7 +7,6 @@ ghost use Rattle.dump_inputs.specs.Inputs.{IsPart, IsShownIn, IsTaskText};
 ghost use Rattle.dump_inputs.specs.declared.outcome.Outcome.TheVariants.{Written};
 ghost use Rattle.dump_lines.specs.declared.document.Verdict.TheVariants.{Refused};
 ghost use Rattle.dump_options.specs.declared.options.Task.TheVariants.{At, Extract};
-ghost use Rattle.dump_walk.specs.StringOctets.{HoldsNoOctets, HoldsOctets};
 
 use crate::outcome::Outcome;
 use crate::show::{Document, Show};
@@ -21,7 +20,7 @@ use dump_walk::{Block, NoBlock, NoString, block_at, string_octets};
 use std::alloc::{AllocError, Global};
 use std::io::Write;
 
-impl Show {
+impl Show<'_> {
     // Shows the block that begins at the offset in the document of an input, or says why there is none.
     pub fn push_at<W: Write>(
         &self,
@@ -56,7 +55,7 @@ impl Show {
         let shown = Document {
             label: None,
             octets: Ok(block.octets),
-            field: block.place.spot(),
+            field: block.place.field,
         };
         let verdict = self.push_named(name, shown, printer)?;
         Ok(Outcome::Written(verdict))
@@ -71,12 +70,7 @@ impl Show {
     ) -> Result<Outcome, StreamFault>
         ensures { IfOk result (λ outcome. outcome ≡ Written Refused) }
     {
-        let document = Document {
-            label: None,
-            octets: Err(why),
-            field: None,
-        };
-        self.push_named(name, document, printer)?;
+        self.push_named(name, Document::of(None, Err(why)), printer)?;
         Ok(Outcome::Written(Verdict::Refused))
     }
 
@@ -110,13 +104,11 @@ impl Show {
     ) -> Result<Result<Block<'a>, String>, AllocError>
         ensures { IfOk result (IsFoundIn offset document.now.octets.items) }
     {
-        let style = Style {
+        let place = outermost(Style {
             is_flat: false,
             most_depth: None,
-            known: self.known_of(document.label.as_deref()),
-            ..self.style
-        };
-        let place = outermost(style);
+            ..self.style(self.around_of(document.label.as_deref()))
+        });
         match block_at(
             self.alloc,
             &self.names.shapes,
@@ -148,18 +140,15 @@ fn first_document(
 
 // Why no block begins at the offset.
 fn no_block_text(alloc: Global, why: NoBlock, offset: usize) -> Result<String, AllocError> {
-    match why {
-        NoBlock::EndOfContents => {
-            format!(in alloc;
-                "no block begins at offset {offset}: it is the end of an indefinite length"
-            )
+    let because = match why {
+        NoBlock::EndOfContents => ": it is the end of an indefinite length",
+        NoBlock::Unreadable => ": the bytes there are no header",
+        NoBlock::CutShort => {
+            return format!(in alloc; "the block at offset {offset} is cut short");
         }
-        NoBlock::Unreadable => {
-            format!(in alloc; "no block begins at offset {offset}: the bytes there are no header")
-        }
-        NoBlock::CutShort => format!(in alloc; "the block at offset {offset} is cut short"),
-        NoBlock::Nothing => format!(in alloc; "no block begins at offset {offset}"),
-    }
+        NoBlock::Nothing => "",
+    };
+    format!(in alloc; "no block begins at offset {offset}{because}")
 }
 
 // Writes a part of the block at the offset.
@@ -177,31 +166,18 @@ fn push_part_of<W: Write>(
     match part {
         Part::Whole => push_octets(block.octets, out),
         Part::Contents => push_octets(block.contents, out),
-        Part::Value => match octets_held(alloc, block.octets, offset)? {
+        Part::Value => match string_octets(alloc, block.octets)? {
             Ok(octets) => push_octets(&octets, out),
-            Err(why) => Ok(Outcome::Lacking(why)),
+            Err(why) => Ok(Outcome::Lacking(no_string_text(alloc, why, offset)?)),
         },
     }
 }
 
-// The octets that the string holds which begins at the offset, or why a block holds none.
-fn octets_held(
-    alloc: Global,
-    block: &[u8],
-    offset: usize,
-) -> Result<Result<Vec<u8>, String>, AllocError>
-    ensures { IfOk result (λ held. MatchResult held
-        (λ octets. HoldsOctets block.now octets.items)
-        (λ _. HoldsNoOctets block.now)) }
-{
-    match string_octets(alloc, block)? {
-        Ok(octets) => Ok(Ok(octets)),
-        Err(NoString::OtherType) => {
-            Ok(Err(format!(in alloc; "the block at offset {offset} is no string")?))
-        }
-        Err(NoString::Malformed) => {
-            Ok(Err(format!(in alloc; "the string at offset {offset} is malformed")?))
-        }
+// Why the block at the offset holds no octets of a string.
+fn no_string_text(alloc: Global, why: NoString, offset: usize) -> Result<String, AllocError> {
+    match why {
+        NoString::OtherType => format!(in alloc; "the block at offset {offset} is no string"),
+        NoString::Malformed => format!(in alloc; "the string at offset {offset} is malformed"),
     }
 }
 

@@ -1,6 +1,5 @@
-// The outcomes of inputs, and the exit status after them.
+// What was done with an input, and the exit status after it.
 ghost use Rattle.std.specs.Prelude.{◌≡◌};
-ghost use Rattle.dump_inputs.specs.Outcomes.{greatest_status, status_of};
 
 use dump_lines::Verdict;
 
@@ -15,21 +14,17 @@ pub enum Outcome {
     Unread,
 }
 
-// The greatest exit status that one of the inputs asks for.
-pub fn greatest(outcomes: &[Outcome]) -> u8
-    ensures { result ≡ greatest_status outcomes.now }
-{
-    outcomes
-        .iter()
-        .fold(0, |most, outcome| most.max(status_after(outcome)))
-}
+impl Outcome {
+    ghost use Rattle.dump_inputs.specs.Outcomes.{status_of};
 
-fn status_after(outcome: &Outcome) -> u8
-    ensures { result ≡ status_of outcome.now }
-{
-    match outcome {
-        Outcome::Written(Verdict::AllRead) => 0,
-        Outcome::Written(Verdict::Refused) | Outcome::Lacking(_) => 1,
-        Outcome::Unread => 2,
+    /// The exit status that the input asks for.
+    pub fn status(&self) -> u8
+        ensures { result ≡ status_of self.now }
+    {
+        match self {
+            Outcome::Written(Verdict::AllRead) => 0,
+            Outcome::Written(Verdict::Refused) | Outcome::Lacking(_) => 1,
+            Outcome::Unread => 2,
+        }
     }
 }

@@ -9,13 +9,12 @@ use dump_lines::{Dumper, Style, Verdict, push_refusal};
 use dump_names::{Names, OwnNames};
 use dump_options::{Color, Options, Output};
 use dump_rows::{Look, Printer, push_foot, push_head};
-use dump_shapes::{DocumentType, Shapes, Spot};
-use dump_text::{account_of, joined};
-use dump_walk::style::Known;
+use dump_shapes::{Around, Shapes, Spot};
+use dump_text::account_of;
 use jiff::civil::DateTime;
 use std::alloc::{AllocError, Global};
 use std::io::Write;
-use std::str;
+use std::{mem, str};
 
 // What is said of octets that have no account.
 const NO_ACCOUNT: &str =
@@ -31,55 +30,53 @@ pub struct Document<'l, 'a> {
     pub field: Option<Spot>,
 }
 
+impl<'l, 'a> Document<'l, 'a> {
+    // A document of its own.
+    pub fn of(label: Option<&'l [u8]>, octets: Result<&'a [u8], &'a str>) -> Document<'l, 'a> {
+        Document {
+            label,
+            octets,
+            field: None,
+        }
+    }
+}
+
 // How documents are shown.
 #[derive(Drop)]
-pub struct Show {
+pub struct Show<'o> {
     pub alloc: Global,
     pub names: Names,
-    pub style: Style,
+    options: &'o Options<'o>,
     // the name of each input is shown
     is_named: bool,
-    output: Output,
-    is_strict: bool,
-    // that of lines
-    look: Look,
-    // the type that all documents are of, where one is named
-    named_type: Option<DocumentType>,
+    // the shape of the type that all documents are of, where one is named
+    named_type: Option<usize>,
     // the time at which they are shown, in UTC
     time: Option<DateTime>,
 }
 
-impl Show {
+impl<'o> Show<'o> {
     // What the options want of so many inputs.
     pub fn new(
         alloc: Global,
-        options: &Options<'_>,
-        own: OwnNames,
+        options: &'o Options<'o>,
+        own: Option<OwnNames>,
         count: usize,
         time: Option<DateTime>,
-    ) -> Result<Show, AllocError> {
-        let names = Names::with(alloc, own)?.with_fields(Shapes::new(alloc)?);
-        let named_type = match options.type_name {
-            Some(name) => names.shapes.named_type(name),
-            None => None,
+    ) -> Result<Show<'o>, AllocError> {
+        let shapes = Shapes::new(alloc)?;
+        let named_type = options.type_name.and_then(|name| shapes.named(name));
+        let mut names = match own {
+            Some(own) => Names::with(alloc, own)?,
+            None => Names::new(alloc)?,
         };
+        // by a call, since the borrow checker of the prover has no rule yet for an assignment here
+        let _ = mem::replace(&mut names.shapes, shapes);
         Ok(Show {
             alloc,
             names,
-            style: Style {
-                is_full: options.is_full,
-                is_flat: options.is_flat,
-                most_depth: options.most_depth,
-                is_plain: options.is_plain,
-                known: Known::Nothing,
-            },
+            options,
             is_named: matches!(options.output, Output::Json) || count > 1,
-            output: options.output,
-            is_strict: options.is_strict,
-            look: match options.color {
-                Color::Always => Look::Colored,
-                Color::Auto | Color::Never => Look::Plain,
-            },
             named_type,
             time,
         })
@@ -100,12 +97,7 @@ impl Show {
             InputForm::Spelled(octets) | InputForm::LaidOut(octets) => octets,
             InputForm::Der => text,
         };
-        let document = Document {
-            label: None,
-            octets: Ok(&octets),
-            field: None,
-        };
-        self.push(file, document, printer)
+        self.push(file, Document::of(None, Ok(&octets)), printer)
     }
 
     // Writes a document, or why it is not read, behind the name of its input where names are shown.
@@ -119,23 +111,25 @@ impl Show {
         self.push(file, document, printer)
     }
 
-    // Writes the name of an input, and returns it, where names are shown. JSON has it in each line.
+    // Writes the name of an input, and returns it, where names are shown. JSON has it in each line. What is printed of
+    // the input looks as the options want.
     fn push_file<'a, W: Write>(
         &self,
         name: &'a str,
         printer: &mut Printer<W>,
     ) -> Result<Option<&'a str>, StreamFault> {
+        printer.look = match (self.options.output, self.options.color) {
+            (Output::Page, _) => Look::Page,
+            (_, Color::Always) => Look::Colored,
+            (_, Color::Auto | Color::Never) => Look::Plain,
+        };
         if !self.is_named {
             return Ok(None);
         }
-        match self.output {
+        match self.options.output {
             Output::Json => {}
-            Output::Lines | Output::Accounts => {
-                printer.look = self.look;
-                printer.push_title(name.as_bytes())?;
-            }
+            Output::Lines | Output::Accounts => printer.push_title(name.as_bytes())?,
             Output::Page => {
-                printer.look = Look::Page;
                 printer.begin_section()?;
                 printer.push_title(name.as_bytes())?;
                 printer.end_section(&[])?;
@@ -169,14 +163,7 @@ impl Show {
     ) -> Result<Verdict, StreamFault> {
         let label = Some(object.label);
         let verdict = match &object.octets {
-            Ok(octets) => {
-                let document = Document {
-                    label,
-                    octets: Ok(octets),
-                    field: None,
-                };
-                self.push(file, document, printer)?
-            }
+            Ok(octets) => self.push(file, Document::of(label, Ok(octets)), printer)?,
             Err(fault) => self.push_fault(file, label, fault, printer)?,
         };
         match object.bad_end {
@@ -196,12 +183,7 @@ impl Show {
         printer: &mut Printer<W>,
     ) -> Result<Verdict, StreamFault> {
         let why = format!(in self.alloc; "{fault}")?;
-        let document = Document {
-            label,
-            octets: Err(&why),
-            field: None,
-        };
-        self.push(file, document, printer)
+        self.push(file, Document::of(label, Err(&why)), printer)
     }
 
     // Writes a document, or why it is not read. JSON has the name of the file.
@@ -211,14 +193,10 @@ impl Show {
         document: Document<'_, '_>,
         printer: &mut Printer<W>,
     ) -> Result<Verdict, StreamFault> {
-        match self.output {
-            Output::Lines => {
-                printer.look = self.look;
-                self.push_dump(document, printer)
-            }
+        match self.options.output {
+            Output::Lines => self.push_dump(document, printer),
             Output::Json => self.push_json(file, document, &mut printer.out),
             Output::Page => {
-                printer.look = Look::Page;
                 printer.begin_section()?;
                 let verdict = self.push_dump(document, printer)?;
                 printer.end_section(document.octets.unwrap_or(&[]))?;
@@ -243,7 +221,7 @@ impl Show {
         let dumper = Dumper {
             alloc: self.alloc,
             names: &self.names,
-            is_strict: self.is_strict,
+            is_strict: self.options.is_strict,
         };
         let verdict = match document.octets {
             Ok(octets) => dumper.push_document(self.style_of(document), octets, printer)?,
@@ -278,7 +256,7 @@ impl Show {
             alloc: self.alloc,
             names: &self.names,
             origin,
-            is_strict: self.is_strict,
+            is_strict: self.options.is_strict,
         };
         match document.octets {
             Ok(octets) => {
@@ -307,47 +285,54 @@ impl Show {
         let Some(account) = account_of(self.alloc, &self.names, known, octets, self.time)? else {
             return push_refusal(NO_ACCOUNT, printer);
         };
-        let text = joined(self.alloc, &account.lines)?;
-        write_part(&mut printer.out, text.as_bytes())?;
+        write_part(&mut printer.out, account.text.as_bytes())?;
         if let Some(fault) = &account.fault {
             printer.push_fault(fault.offset, &fault.message)?;
             return Ok(Verdict::Refused);
         }
-        Ok(verdict_of(!self.is_strict || is_der(self.alloc, octets)?))
+        Ok(verdict_of(!self.options.is_strict || is_der(self.alloc, octets)?))
     }
 
     // How a document is shown.
     fn style_of(&self, document: Document<'_, '_>) -> Style {
-        let known = match document.field {
-            Some(spot) => Known::Field(spot),
-            None => self.known_of(document.label),
-        };
+        self.style(match document.field {
+            Some(spot) => Around::Alone(spot),
+            None => self.around_of(document.label),
+        })
+    }
+
+    // How documents are shown of which this says which fields they have.
+    pub fn style(&self, around: Around) -> Style {
         Style {
-            known,
-            ..self.style
+            is_full: self.options.is_full,
+            is_flat: self.options.is_flat,
+            most_depth: self.options.most_depth,
+            is_plain: self.options.is_plain,
+            around,
         }
     }
 
-    // What is known of a document with the label.
-    pub fn known_of(&self, label: Option<&[u8]>) -> Known {
+    // What says which fields a document with the label has.
+    pub fn around_of(&self, label: Option<&[u8]>) -> Around {
         match self.type_labelled(label) {
-            Some(known) => Known::Shape(known.shape),
-            None => Known::Nothing,
+            Some(shape) => Around::Shape(shape),
+            None => Around::Unknown,
         }
     }
 
-    // The type that a document is known to be of: the one that is named, or else the one that its label says.
-    fn type_labelled(&self, label: Option<&[u8]>) -> Option<DocumentType> {
+    // The shape of the type that a document is known to be of: the one that is named, or else the one that its label
+    // says.
+    fn type_labelled(&self, label: Option<&[u8]>) -> Option<usize> {
         self.named_type.or_else(|| self.type_of_label(label?))
     }
 
-    fn type_of_label(&self, label: &[u8]) -> Option<DocumentType> {
-        self.names.shapes.labelled_type(str::from_utf8(label).ok()?)
+    fn type_of_label(&self, label: &[u8]) -> Option<usize> {
+        self.names.shapes.labelled(str::from_utf8(label).ok()?)
     }
 
     // Writes what stands before all documents, if it is not there yet: the head of a page.
     pub fn begin<W: Write>(&self, is_begun: &mut bool, out: &mut W) -> Result<(), StreamFault> {
-        if !*is_begun && matches!(self.output, Output::Page) {
+        if !*is_begun && matches!(self.options.output, Output::Page) {
             let mut head = Vec::new(self.alloc);
             push_head(&mut head)?;
             write_part(out, &head)?;
@@ -360,7 +345,7 @@ impl Show {
     pub fn end<W: Write>(&self, is_begun: bool, out: &mut W) -> Result<(), StreamFault>
         ensures { OnOk result (is_begun ≡ false → W.contents out.new ≡ W.contents out.old) }
     {
-        if is_begun && matches!(self.output, Output::Page) {
+        if is_begun && matches!(self.options.output, Output::Page) {
             let mut foot = Vec::new(self.alloc);
             push_foot(&mut foot)?;
             write_part(out, &foot)?;

@@ -1,14 +1,12 @@
 // A run over inputs: each is read to its end before anything of it is written.
-ghost use Rattle.std.specs.Prelude.{◌≡◌, IfOk, IfErr, IfSome, IsErr, IsSome, map, true};
-ghost use Rattle.std.specs.Io.KnownBytes.{IsAtEnd};
+ghost use Rattle.std.specs.Prelude.{◌≡◌, IfOk, IsErr, map, true};
 ghost use Rattle.dump_inputs.specs.Growing.{Grows};
 ghost use Rattle.dump_inputs.specs.Inputs.{AreReadToEnds, IsDone, IsInputText, IsReadToEnd, is_extract};
 ghost use Rattle.dump_inputs.specs.Outcomes.{greatest_status};
 ghost use Rattle.dump_inputs.specs.Texts.{AreTexts};
-ghost use Rattle.der_io.specs.declared.StreamFault.TheVariants.{Memory as memory_fault};
 
 use crate::appended::{Appended, Before};
-use crate::outcome::{Outcome, greatest};
+use crate::outcome::Outcome;
 use crate::show::Show;
 use der_io::{StreamFault, flush, read_all};
 use dump_names::OwnNames;
@@ -40,7 +38,7 @@ pub struct Source<'a, R> {
 pub fn run<R: Read + Drop, W: Write>(
     alloc: Global,
     options: &Options<'_>,
-    own: OwnNames,
+    own: Option<OwnNames>,
     time: Option<DateTime>,
     sources: &mut [Source<'_, R>],
     w: W,
@@ -60,7 +58,7 @@ pub fn run<R: Read + Drop, W: Write>(
 fn run_on<B: Before, R: Read + Drop, W: Write>(
     alloc: Global,
     options: &Options<'_>,
-    own: OwnNames,
+    own: Option<OwnNames>,
     time: Option<DateTime>,
     sources: &mut [Source<'_, R>],
     w: W,
@@ -89,7 +87,7 @@ fn run_on<B: Before, R: Read + Drop, W: Write>(
 
 // Writes what is wanted of each input, one after another. Of inputs none of which can be read nothing is written.
 fn answer_all<R: Read + Drop, W: Write>(
-    show: &Show,
+    show: &Show<'_>,
     task: Task,
     sources: &mut [Source<'_, R>],
     printer: &mut Printer<W>,
@@ -115,7 +113,7 @@ fn answer_all<R: Read + Drop, W: Write>(
 
 // Writes what is wanted of an input, where it can be read; documents, behind what stands before them all.
 fn answer<R: Read + Drop, W: Write>(
-    show: &Show,
+    show: &Show<'_>,
     task: Task,
     source: &mut Source<'_, R>,
     is_begun: &mut bool,
@@ -127,8 +125,10 @@ fn answer<R: Read + Drop, W: Write>(
     ensures begun { is_extract task ≡ true → is_begun.new ≡ is_begun.old }
     ensures read { IfOk result (λ outcome. IsReadToEnd outcome (R.remaining source.new.reader)) }
 {
-    let Some(input) = read_source(show.alloc, &mut source.reader)? else {
-        return Ok(Outcome::Unread);
+    let input = match read_all(show.alloc, &mut source.reader) {
+        Ok(input) => input,
+        Err(StreamFault::Memory) => return Err(StreamFault::Memory),
+        Err(_) => return Ok(Outcome::Unread),
     };
     match task {
         Task::Dump => {
@@ -138,27 +138,9 @@ fn answer<R: Read + Drop, W: Write>(
         }
         Task::At(offset) => {
             show.begin(is_begun, &mut printer.out)?;
-            let outcome = show.push_at(source.name, input, offset, printer)?;
-            Ok(outcome)
+            show.push_at(source.name, input, offset, printer)
         }
-        Task::Extract(part, offset) => {
-            let outcome = show.push_part(part, input, offset, &mut printer.out)?;
-            Ok(outcome)
-        }
-    }
-}
-
-// All that the reader has left, or `None` where a read fails. It is read to its end. The only error is `Memory`.
-fn read_source<R: Read>(alloc: Global, r: &mut R) -> Result<Option<Vec<u8>>, StreamFault>
-    ensures bytes { IfOk result (λ read. IfSome read (λ input.
-        IfSome (R.remaining r.old) (λ bytes. input.items ≡ bytes))) }
-    ensures read { IfOk result (λ read. IsSome read → IsAtEnd (R.remaining r.new)) }
-    ensures fault { IfErr result (λ e. e ≡ memory_fault) }
-{
-    match read_all(alloc, r) {
-        Ok(input) => Ok(Some(input)),
-        Err(StreamFault::Memory) => Err(StreamFault::Memory),
-        Err(_) => Ok(None),
+        Task::Extract(part, offset) => show.push_part(part, input, offset, &mut printer.out),
     }
 }
 
@@ -169,7 +151,9 @@ pub fn status(outcome: &Result<Vec<Outcome>, StreamFault>) -> u8
     ensures fault { IsErr outcome.now → result ≡ 2 }
 {
     match outcome {
-        Ok(outcomes) => greatest(outcomes),
+        Ok(outcomes) => outcomes
+            .iter()
+            .fold(0, |most, outcome| most.max(outcome.status())),
         Err(_) => 2,
     }
 }
