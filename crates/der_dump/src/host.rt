@@ -5,6 +5,7 @@ ghost use Rattle.std.specs.Counts.{IsPrefixLen};
 use der_io::escaped;
 use dump_options::Color;
 use std::env::VarError;
+use std::fmt::Display;
 use std::fs::File;
 use std::io::{ErrorKind, IsTerminal, Read, Write};
 use std::{env, io};
@@ -18,6 +19,13 @@ const MANY: usize = 8;
 pub fn print_error(rt: &HostRuntime, message: &str) {
     if let Ok(text) = escaped(rt.alloc(), message.as_bytes()) {
         let _ = eprintln!(rt; "{text}");
+    }
+}
+
+// Prints what is wrong with an input.
+pub fn print_reason<T: Display>(rt: &HostRuntime, name: &str, why: &T) {
+    if let Ok(message) = format!(in rt.alloc(); "error: {name}: {why}") {
+        print_error(rt, &message);
     }
 }
 
@@ -96,36 +104,17 @@ impl<'r, 'a> HostReader<'r, 'a> {
             let _ = eprint!(self.rt; "\r\u{1b}[K");
         }
     }
-
-    // Says on standard error why nothing more can be read.
-    fn print_answer(&self, fault: &io::Error) {
-        if let Ok(why) = format!(in self.rt.alloc(); "error: {}: {fault}", self.name) {
-            print_error(self.rt, &why);
-        }
-    }
 }
 
 // Writes to standard output, and keeps in mind whether its reader has gone, as that of `| head` may.
 #[derive(Drop)]
 pub struct HostWriter<'r> {
-    rt: &'r HostRuntime,
+    pub rt: &'r HostRuntime,
     pub is_closed: bool,
 }
 
-impl<'r> HostWriter<'r> {
-    pub fn new(rt: &'r HostRuntime) -> HostWriter<'r> {
-        HostWriter {
-            rt,
-            is_closed: false,
-        }
-    }
-}
-
 fn is_closed_pipe<T>(outcome: &io::Result<T>) -> bool {
-    match outcome {
-        Ok(_) => false,
-        Err(fault) => fault.kind() == ErrorKind::BrokenPipe,
-    }
+    matches!(outcome, Err(fault) if fault.kind() == ErrorKind::BrokenPipe)
 }
 
 impl Write for HostWriter<'_> {
@@ -149,7 +138,7 @@ impl Read for HostReader<'_, '_> {
             Ok(count) => self.show_progress(*count),
             Err(fault) => {
                 self.hide_progress();
-                self.print_answer(fault);
+                print_reason(self.rt, self.name, fault);
             }
         }
         outcome
