@@ -65,7 +65,7 @@ def wrong_counts():
 def wrong_types():
     """Types of documents that docs/DUMP.md does not list for `--as`, and those that it lists beside them."""
     tables = (TOP / "crates/dump_shapes/src/tables/roots.rt").read_text()
-    known = set(re.findall(r"^([A-Z][\w.-]*) (?:[A-Z]|\d)", tables, re.M))
+    known = set(re.findall(r'^(?:    \(")?([A-Z][\w.-]*)(?: [A-Z]|", \d)', tables, re.M))
     page = (TOP / "docs/DUMP.md").read_text()
     lists = re.findall(r"^- Types of (?:documents|messages) are (.*?)\.(?:\n| No)", page, re.M | re.S)
     for name in sorted(known ^ set(SPAN.findall(" ".join(lists)))):
@@ -84,14 +84,15 @@ def wrong_shapes():
     texts = [(SHAPES / "tables" / f"{name}.rt").read_text().split('"')[1] for name in order]
     lines = [line for text in texts for line in text.splitlines() if line not in ("", "\\") and line[:2] != "--"]
     yield from wrong_lines(lines)
-    fits = re.search(r'FITS: &str = "\\\n(.*?)"', (SHAPES / "tables/roots.rt").read_text(), re.S)[1].splitlines()
+    fits = re.search(r"FITS: .*? = \[\n(.*?)\];", (SHAPES / "tables/roots.rt").read_text(), re.S)[1].splitlines()
     yield from wrong_fits(fits, {line.split(" ::= ")[0] for line in lines})
-    yield from (f"the wrong line {line!r} passes" for line in ("B 1 2", "A 1") if not list(wrong_fits([line], {"A"})))
+    wrong = ('    ("B", 1, 2),', '    ("A", 1),')
+    yield from (f"the wrong line {line!r} passes" for line in wrong if not list(wrong_fits([line], {"A"})))
 
 
 def wrong_fits(lines, shapes):
     for line in lines:
-        found = re.fullmatch(r"(\S+) \d+ \d+", line)
+        found = re.fullmatch(r'    \("([^"]+)", \d+, \d+\),', line)
         if not found or found[1] not in shapes:
             yield f"the table FITS has the line {line!r}"
 

@@ -12,7 +12,12 @@ pub fn listed(alloc: Global, octets: &[u8]) -> Answer {
     let mut text = String::new(alloc);
     for departure in &found {
         let comma = if text.is_empty() { "" } else { ", " };
-        write!(text, "{comma}{} {}", departure.offset, departure.rule.name())?;
+        write!(
+            text,
+            "{comma}{} {}",
+            departure.offset,
+            departure.rule.name()
+        )?;
     }
     if text.is_empty() {
         text.push_str("none")?;
