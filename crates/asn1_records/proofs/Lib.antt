@@ -9,9 +9,13 @@ mod Spellings
 pub mod Entries
 mod ShortHeaders
 mod Triples
+mod TripleParts
 mod TextOctets
 pub mod Rooms
 mod FittingComponents
 mod PushedNumerals
 mod PathSteps
+mod OneHeader
+mod SideBySide
+mod NamedEntries
 pub mod ListedDepartures

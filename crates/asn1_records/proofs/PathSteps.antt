@@ -1,26 +1,9 @@
--- Steps from one entry to the next, values one after another, and numbers that fit, for `paths`, `number::int64_of` and
--- `putting::put_records`.
-use Rattle.std.proofs.Common.{◌≡◌, ℕ, zero, suc, ◌-◌, ◌<◌, ◌≤◌, ◌^◌, ◌++◌, inl, inr, List, [], ◌∷◌, ℤ, pos, negsuc, None, Some, drop, get_or, length, map, set, take, refl, sym, ap, ◌∙◌, arith, FitsSigned, OkIff, Result, Ok, Err}
+-- Values one after another, and numbers that fit, for `number::int64_of`, `departures` and `putting`.
+use Rattle.std.proofs.Common.{◌≡◌, ℕ, zero, suc, ◌<◌, ◌≤◌, ◌^◌, ◌++◌, inl, inr, List, [], ◌∷◌, ℤ, pos, negsuc, None, Some, drop, get_or, length, map, set, take, refl, sym, ap, ◌∙◌, arith, FitsSigned, OkIff, Result, Ok, Err}
 use Rattle.std.specs.Int.{w64, w128}
 use Rattle.std.specs.Result.{result_ok}
 use Rattle.std.proofs.lemmas.Bool.{cases_lt, cond_above, cond_below}
-use Rattle.asn1_outline.specs.Triple.{entry_at}
-use Rattle.asn1_records.specs.Paths.{fitting, item_from}
-use Rattle.asn1_outline.specs.declared.entry.Entry.{Entry}
-use Rattle.asn1_records.specs.declared.record.Path.{Path}
-
--- the item some steps behind an entry is one step less behind the entry that follows side by side
-pub item_from-next : (rs : List Entry) (index end step : ℕ) → 0 < step → index < end
-    → item_from rs index end step ≡ item_from rs (entry_at rs index).next end (step - 1)
-item_from-next rs index end zero some below = absurd (omega (arith, some))
-item_from-next rs index end (suc step) some below =
-    let one : step ≡ suc step - 1 = omega arith in
-    sym (cond_below index end (item_from rs (entry_at rs index).next end step) None below)
-    ∙ ap (item_from rs (entry_at rs index).next end) one
-
--- a path of no steps
-abbrev pub no_path : Path
-no_path = record { start = 0; length = 0 }
+use Rattle.asn1_records.specs.Paths.{fitting}
 
 -- setting the next value puts one value more
 pub set-next_value : {A B : Type 0} (f : A → B) (xs : List A) (room : List B) (k : ℕ) (d : A) → k < length xs →

@@ -27,7 +27,7 @@ use Rattle.asn1_records.specs.Records.{IsRecord, block_of}
 use Rattle.asn1_records.specs.declared.record.Block.{Block}
 
 -- the tree's encoding is of class Universal with the tag number
-record HasUniversalTag (x : List ℕ) (b : Tree ℕ) (tag : ℕ) : Type 0 where
+pub record HasUniversalTag (x : List ℕ) (b : Tree ℕ) (tag : ℕ) : Type 0 where
   octets : List ℕ
   encoded : Encodes (tree_offset b) octets b
   constructed : Bool
@@ -36,7 +36,7 @@ record HasUniversalTag (x : List ℕ) (b : Tree ℕ) (tag : ℕ) : Type 0 where
   encoding : Encoding octets Universal constructed tag contents header
 
 -- the tree of a universal entry with a small tag number is encoded with it
-HasUniversalTag-entry : (x : List ℕ) (n : Node) (i d tag : ℕ) (e : Entry) (y : List ℕ) → IsEntry x n i d e →
+pub HasUniversalTag-entry : (x : List ℕ) (n : Node) (i d tag : ℕ) (e : Entry) (y : List ℕ) → IsEntry x n i d e →
     IsEncodedIn x (node_tree n) y → tag < 64 → IsUniversal tag e
     → HasUniversalTag x (node_tree n) tag
 HasUniversalTag-entry x n i d tag e y is s small (class, number) =
@@ -56,7 +56,7 @@ HasUniversalTag-entry x n i d tag e y is s small (class, number) =
     }
 
 -- a tree that is encoded with the tag of a SEQUENCE is a SEQUENCE
-HasUniversalTag-sequence : (x : List ℕ) (b : Tree ℕ) → HasUniversalTag x b 16 →
+pub HasUniversalTag-sequence : (x : List ℕ) (b : Tree ℕ) → HasUniversalTag x b 16 →
     (bs : Trees ℕ) × (b ≡ group (tree_offset b) Sequence bs)
 HasUniversalTag-sequence x (leaf p l) t =
     let (_, _, _, _, encoding, _) = t.encoded in
@@ -80,7 +80,7 @@ HasUniversalTag-sequence x (unknown c k p n v) t =
     ])
 
 -- a tree that is encoded with the tag of a leaf is a leaf with it
-HasUniversalTag-leaf : (x : List ℕ) (b : Tree ℕ) (m : Leaf) → HasUniversalTag x b (leaf_tag m) →
+pub HasUniversalTag-leaf : (x : List ℕ) (b : Tree ℕ) (m : Leaf) → HasUniversalTag x b (leaf_tag m) →
     (l : Leaf) × (leaf_tag l ≡ leaf_tag m) × (b ≡ leaf (tree_offset b) l)
 HasUniversalTag-leaf x (leaf p l) m t =
     let (_, _, _, _, encoding, _) = t.encoded in
@@ -171,17 +171,18 @@ single_record e = record (block_of e) { next = 0; depth = 0 }
 module _ (x : List ℕ) (es : List Entry) (ns : Nodes) (d : IsStructure x ns)
     (are : AreEntries x 0 (nodes_in_order ns) (nodes_depths 0 ns) es) where
   -- the node at an index, and its entry
-  record IsNodeAndEntry (k : ℕ) (n : Node) : Type 0 where
-    within : k < length (nodes_in_order ns)
-    is : node_at ns k ≡ n
-    depth : ℕ
-    entry : IsEntry x n k depth (entry_at es k)
-    octets : List ℕ
-    encoded : IsEncodedIn x (node_tree n) octets
-    holds : IsNode x n
+  pub record IsNodeAndEntry (k : ℕ) (n : Node) : Type 0 where
+    pub within : k < length (nodes_in_order ns)
+    pub is : node_at ns k ≡ n
+    pub depth : ℕ
+    pub entry : IsEntry x n k depth (entry_at es k)
+    pub octets : List ℕ
+    pub encoded : IsEncodedIn x (node_tree n) octets
+    pub holds : IsNode x n
 
   -- the node that comes next in order has its entry at this index
-  IsNodeAndEntry-drop : (k : ℕ) (n : Node) (rest : List Node) → drop k (nodes_in_order ns) ≡ node_in_order n ++ rest →
+  pub IsNodeAndEntry-drop : (k : ℕ) (n : Node) (rest : List Node) →
+      drop k (nodes_in_order ns) ≡ node_in_order n ++ rest →
       IsNodeAndEntry k n
   IsNodeAndEntry-drop k n rest e =
       let all = nodes_in_order ns in
@@ -237,7 +238,7 @@ module _ (x : List ℕ) (es : List Entry) (ns : Nodes) (d : IsStructure x ns)
       }
 
 -- a SEQUENCE holds its items
-Holds-sequence : (x : List ℕ) (b : Tree ℕ) (o : ℕ) (bs held : Trees ℕ) → b ≡ group o Sequence bs → Holds x b held →
+pub Holds-sequence : (x : List ℕ) (b : Tree ℕ) (o : ℕ) (bs held : Trees ℕ) → b ≡ group o Sequence bs → Holds x b held →
     held ≡ bs
 Holds-sequence x b o bs held e h = subst (λ z. Holds x z held) e h
 
@@ -249,6 +250,65 @@ pub record HasSignedTriple (x : List ℕ) (es : List Entry) : Type 0 where
   pub identifier : IsRecord x (identifier_tree parts) (single_record (entry_at es ((entry_at es 1).next + 1)))
   pub signature : IsRecord x (signature_tree parts)
       (single_record (entry_at es (entry_at es (entry_at es 1).next).next))
+
+-- a document whose first block holds three
+module _ (x : List ℕ) (es : List Entry) (t ab : Tree ℕ) (c s : Node) (inner rest : Nodes) where
+  abbrev middle : Node
+  middle = node ab inner
+
+  abbrev outer : Node
+  outer = node t (more_nodes c (more_nodes middle (more_nodes s no_nodes)))
+
+  abbrev all_three : Nodes
+  all_three = more_nodes outer rest
+
+  module _ (d : IsStructure x all_three)
+      (are : AreEntries x 0 (nodes_in_order all_three) (nodes_depths 0 all_three) es) where
+    -- behind the first node in order stand what was signed, the algorithm, the signature and the rest
+    drop-whole : drop 1 (nodes_in_order all_three)
+        ≡ node_in_order c ++ (node_in_order middle ++ (node_in_order s ++ ([] ++ nodes_in_order rest)))
+    drop-whole =
+        let x = node_in_order c in
+        let y = node_in_order middle in
+        let z = node_in_order s in
+        let r = nodes_in_order rest in
+        append_assoc x (y ++ (z ++ [])) r ∙ ap (λ w. x ++ w) (append_assoc y (z ++ []) r)
+        ∙ ap (λ w. x ++ (y ++ w)) (append_assoc z [] r)
+
+    -- the first node has the entry at the index 0
+    pub node-whole : IsNodeAndEntry x es all_three d are 0 outer
+    node-whole = IsNodeAndEntry-drop x es all_three d are 0 outer (nodes_in_order rest) refl
+
+    -- the node of what was signed has the entry at the index 1
+    pub node-content : IsNodeAndEntry x es all_three d are 1 c
+    node-content =
+        IsNodeAndEntry-drop x es all_three d are 1 c
+        (node_in_order middle ++ (node_in_order s ++ ([] ++ nodes_in_order rest))) drop-whole
+
+    -- the node of the algorithm has the entry behind what was signed
+    pub node-algorithm : IsNodeAndEntry x es all_three d are (entry_at es 1).next middle
+    node-algorithm =
+        let after = node_in_order s ++ ([] ++ nodes_in_order rest) in
+        IsNodeAndEntry-drop x es all_three d are (entry_at es 1).next middle after
+        (drop-past_front (nodes_in_order all_three) (node_in_order c) (node_in_order middle ++ after) 1
+        (entry_at es 1).next drop-whole
+        node-content.entry.next)
+
+    -- behind what was signed stand the algorithm, the signature and the rest
+    pub drop-content : drop (entry_at es 1).next (nodes_in_order all_three)
+        ≡ node_in_order middle ++ (node_in_order s ++ ([] ++ nodes_in_order rest))
+    drop-content =
+        drop-past_front (nodes_in_order all_three) (node_in_order c)
+        (node_in_order middle ++ (node_in_order s ++ ([] ++ nodes_in_order rest))) 1
+        (entry_at es 1).next drop-whole node-content.entry.next
+
+    -- the node of the signature has the entry behind the algorithm and all inside it
+    pub node-signature : IsNodeAndEntry x es all_three d are (entry_at es (entry_at es 1).next).next s
+    node-signature =
+        let after = [] ++ nodes_in_order rest in
+        IsNodeAndEntry-drop x es all_three d are (entry_at es (entry_at es 1).next).next s after
+        (drop-past_front (nodes_in_order all_three) (node_in_order middle) (node_in_order s ++ after)
+        (entry_at es 1).next (entry_at es (entry_at es 1).next).next drop-content node-algorithm.entry.next)
 
 -- a document whose first block holds three, the second of which holds some
 module _ (x : List ℕ) (es : List Entry) (t ab : Tree ℕ) (c i s : Node) (is rest : Nodes) where
@@ -262,71 +322,26 @@ module _ (x : List ℕ) (es : List Entry) (t ab : Tree ℕ) (c i s : Node) (is r
   all = more_nodes whole rest
 
   module _ (d : IsStructure x all) (are : AreEntries x 0 (nodes_in_order all) (nodes_depths 0 all) es) where
-    -- behind the first node in order stand what was signed, the algorithm, the signature and the rest
-    drop-whole : drop 1 (nodes_in_order all)
-        ≡ node_in_order c ++ (node_in_order algorithm ++ (node_in_order s ++ ([] ++ nodes_in_order rest)))
-    drop-whole =
-        let x = node_in_order c in
-        let y = node_in_order algorithm in
-        let z = node_in_order s in
-        let r = nodes_in_order rest in
-        append_assoc x (y ++ (z ++ [])) r ∙ ap (λ w. x ++ w) (append_assoc y (z ++ []) r)
-        ∙ ap (λ w. x ++ (y ++ w)) (append_assoc z [] r)
-
-    -- the first node has the entry at the index 0
-    node-whole : IsNodeAndEntry x es all d are 0 whole
-    node-whole = IsNodeAndEntry-drop x es all d are 0 whole (nodes_in_order rest) refl
-
-    -- the node of what was signed has the entry at the index 1
-    node-content : IsNodeAndEntry x es all d are 1 c
-    node-content =
-        IsNodeAndEntry-drop x es all d are 1 c
-        (node_in_order algorithm ++ (node_in_order s ++ ([] ++ nodes_in_order rest))) drop-whole
-
-    -- the node of the algorithm has the entry behind what was signed
-    node-algorithm : IsNodeAndEntry x es all d are (entry_at es 1).next algorithm
-    node-algorithm =
-        let after = node_in_order s ++ ([] ++ nodes_in_order rest) in
-        IsNodeAndEntry-drop x es all d are (entry_at es 1).next algorithm after
-        (drop-past_front (nodes_in_order all) (node_in_order c) (node_in_order algorithm ++ after) 1
-        (entry_at es 1).next drop-whole
-        node-content.entry.next)
-
-    -- behind what was signed stand the algorithm, the signature and the rest
-    drop-content : drop (entry_at es 1).next (nodes_in_order all)
-        ≡ node_in_order algorithm ++ (node_in_order s ++ ([] ++ nodes_in_order rest))
-    drop-content =
-        drop-past_front (nodes_in_order all) (node_in_order c)
-        (node_in_order algorithm ++ (node_in_order s ++ ([] ++ nodes_in_order rest))) 1
-        (entry_at es 1).next drop-whole node-content.entry.next
-
     -- the node of the algorithm's identifier has the entry behind that of the algorithm
-    node-identifier : IsNodeAndEntry x es all d are ((entry_at es 1).next + 1) i
+    pub node-identifier : IsNodeAndEntry x es all d are ((entry_at es 1).next + 1) i
     node-identifier =
         let after = node_in_order s ++ ([] ++ nodes_in_order rest) in
         let more = nodes_in_order is ++ after in
         let front : drop (entry_at es 1).next (nodes_in_order all) ≡ (algorithm ∷ []) ++ (node_in_order i ++ more) =
-        drop-content ∙ ap (λ w. algorithm ∷ w) (append_assoc (node_in_order i) (nodes_in_order is) after) in
+        drop-content x es t ab c s (more_nodes i is) rest d are
+        ∙ ap (λ w. algorithm ∷ w) (append_assoc (node_in_order i) (nodes_in_order is) after) in
         IsNodeAndEntry-drop x es all d are ((entry_at es 1).next + 1) i more
         (drop-past_front (nodes_in_order all) (algorithm ∷ []) (node_in_order i ++ more) (entry_at es 1).next
         ((entry_at es 1).next + 1) front refl)
 
-    -- the node of the signature has the entry behind the algorithm and all inside it
-    node-signature : IsNodeAndEntry x es all d are (entry_at es (entry_at es 1).next).next s
-    node-signature =
-        let after = [] ++ nodes_in_order rest in
-        IsNodeAndEntry-drop x es all d are (entry_at es (entry_at es 1).next).next s after
-        (drop-past_front (nodes_in_order all) (node_in_order algorithm) (node_in_order s ++ after) (entry_at es 1).next
-        (entry_at es (entry_at es 1).next).next drop-content node-algorithm.entry.next)
-
     -- a document whose entries have the tags of a triple begins with a signed triple
     pub HasSignedTriple-nodes : BeginWithTriple es → HasSignedTriple x es
     HasSignedTriple-nodes begin =
-        let w = node-whole in
+        let w = node-whole x es t ab c s (more_nodes i is) rest d are in
         let (bs, group_is) = HasUniversalTag-sequence x t
         (HasUniversalTag-entry x whole 0 w.depth 16 (entry_at es 0) w.octets w.entry w.encoded
         (omega arith) begin.whole) in
-        let f = node-algorithm in
+        let f = node-algorithm x es t ab c s (more_nodes i is) rest d are in
         let (others, algorithm_is) = HasUniversalTag-sequence x ab
         (HasUniversalTag-entry x algorithm (entry_at es 1).next f.depth 16
         (entry_at es (entry_at es 1).next) f.octets f.entry
@@ -337,7 +352,7 @@ module _ (x : List ℕ) (es : List Entry) (t ab : Tree ℕ) (c i s : Node) (is r
         (entry_at es ((entry_at es 1).next + 1)) g.octets g.entry
         g.encoded (omega arith) begin.identifier) in
         let (components, identifier_is) = leaf_tag-object_identifier l six in
-        let q = node-signature in
+        let q = node-signature x es t ab c s (more_nodes i is) rest d are in
         let (m, three, last_is) = HasUniversalTag-leaf x (node_tree s) (bit_string 0 [])
         (HasUniversalTag-entry x s (entry_at es (entry_at es 1).next).next q.depth 3
         (entry_at es (entry_at es (entry_at es 1).next).next) q.octets q.entry q.encoded (omega arith)
@@ -370,7 +385,8 @@ module _ (x : List ℕ) (es : List Entry) (t ab : Tree ℕ) (c i s : Node) (is r
         record {
           parts = p;
           signed = (nodes_trees rest, subst (IsDocument x) (ap (λ z. more_trees z (nodes_trees rest)) signed) d.0);
-          content = IsRecord-node x es all d are 1 c p.content node-content refl;
+          content = IsRecord-node x es all d are 1 c p.content
+              (node-content x es t ab c s (more_nodes i is) rest d are) refl;
           identifier = IsRecord-node x es all d are ((entry_at es 1).next + 1) i (identifier_tree p) g named;
           signature = IsRecord-node x es all d are (entry_at es (entry_at es 1).next).next s (signature_tree p) q last;
         }
@@ -381,10 +397,10 @@ module _ (x : List ℕ) (es : List Entry) (t ab : Tree ℕ) (c i s : Node) (is r
         node_tree s ≡ signature_tree p
         → BeginWithTriple es
     BeginWithTriple-nodes p whole_is algorithm_is identifier_is signature_is =
-        let w = node-whole in
-        let f = node-algorithm in
+        let w = node-whole x es t ab c s (more_nodes i is) rest d are in
+        let f = node-algorithm x es t ab c s (more_nodes i is) rest d are in
         let g = node-identifier in
-        let q = node-signature in
+        let q = node-signature x es t ab c s (more_nodes i is) rest d are in
         let (_, whole_bit, whole_contents, whole_header, whole_encoding, _) =
         subst (λ z. Encodes (tree_offset t) w.octets z) whole_is w.encoded.encoded in
         let (_, algorithm_bit, algorithm_contents, algorithm_header, algorithm_encoding, _) =
@@ -410,28 +426,6 @@ module _ (x : List ℕ) (es : List Entry) (t ab : Tree ℕ) (c i s : Node) (is r
               signature_header q.entry q.encoded signature_encoding (omega arith);
         }
 
--- the entry of the second of three nodes has no items where nothing is inside it
-items-none_inside : (x : List ℕ) (es : List Entry) (t ab : Tree ℕ) (c s : Node) (rest : Nodes)
-    → (d : IsStructure x (more_nodes (node t (more_nodes c (more_nodes (node ab no_nodes) (more_nodes s no_nodes))))
-    rest))
-    → AreEntries x 0 (nodes_in_order
-    (more_nodes (node t (more_nodes c (more_nodes (node ab no_nodes) (more_nodes s no_nodes)))) rest))
-    (nodes_depths 0 (more_nodes (node t (more_nodes c (more_nodes (node ab no_nodes) (more_nodes s no_nodes)))) rest))
-    es
-    → (entry_at es (entry_at es 1).next).items ≡ 0
-items-none_inside x es t ab c s rest d are =
-    let n = node ab no_nodes in
-    let ns = more_nodes (node t (more_nodes c (more_nodes n (more_nodes s no_nodes)))) rest in
-    let front = node_in_order c in
-    let after = (node_in_order s ++ []) ++ nodes_in_order rest in
-    let inside : drop 1 (nodes_in_order ns) ≡ front ++ (node_in_order n ++ after) =
-    append_assoc front (node_in_order n ++ (node_in_order s ++ [])) (nodes_in_order rest) in
-    let first = IsNodeAndEntry-drop x es ns d are 1 c (node_in_order n ++ after) inside in
-    let behind =
-    drop-past_front (nodes_in_order ns) front (node_in_order n ++ after) 1
-    (entry_at es 1).next inside first.entry.next in
-    (IsNodeAndEntry-drop x es ns d are (entry_at es 1).next n after behind).entry.items
-
 -- all entries of a document, by whether they begin with a triple
 module _ (x : List ℕ) (es : List Entry) where
   -- a document whose first block has three items and the tags of a triple begins with one
@@ -444,7 +438,9 @@ module _ (x : List ℕ) (es : List Entry) where
   HasSignedTriple-items t (more_nodes c (more_nodes n no_nodes)) rest d are begin three = absurd (omega (arith, three))
   HasSignedTriple-items t (more_nodes c (more_nodes (node ab no_nodes) (more_nodes s no_nodes)))
       rest d are begin three =
-      absurd (omega (arith, begin.some, items-none_inside x es t ab c s rest d are))
+      let none : (entry_at es (entry_at es 1).next).items ≡ 0 =
+      (node-algorithm x es t ab c s no_nodes rest d are).entry.items in
+      absurd (omega (arith, begin.some, none))
   HasSignedTriple-items t (more_nodes c (more_nodes (node ab (more_nodes i is)) (more_nodes s no_nodes)))
       rest d are begin
       three =

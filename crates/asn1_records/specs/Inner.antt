@@ -1,3 +1,5 @@
 -- What private contracts name, but no public one.
 pub mod Prepended
 pub mod InRecords
+pub mod TripleRecords
+pub mod Named

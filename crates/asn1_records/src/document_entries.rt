@@ -7,19 +7,20 @@ ghost use Rattle.simple_asn1.specs.ReadBack.{CanonicalDocument};
 ghost use Rattle.simple_asn1.specs.Tree.{Trees};
 ghost use Rattle.asn1_outline.specs.Entries.{AreEntriesOf, IsOutline};
 ghost use Rattle.asn1_outline.specs.declared.entry.Entry.{Entry};
-ghost use Rattle.asn1_outline.specs.Listing.{IsFound};
-ghost use Rattle.asn1_outline.specs.Shapes.{AreEntriesOfShapes, HasShapes, Shapes, entries_of};
+ghost use Rattle.asn1_outline.specs.Listing.{IsFound, IsFront};
+ghost use Rattle.asn1_outline.specs.Shapes.{HasShapes, Shapes, entries_of};
 ghost use Rattle.asn1_records.specs.Answers.{IsRefused, IsRefusedByHeader, IsRefusedStrict};
 ghost use Rattle.asn1_records.specs.Room.{IsNoMemory, OrNoMemory};
 ghost use Rattle.asn1_records.specs.Status.{status_of};
 ghost use Rattle.asn1_headers.specs.declared.error.ASN1DecodeErr.TheVariants.{OutOfMemory};
 
 use crate::status::{NO_MEMORY, status_of_fault};
+use asn1_blocks::read_loop::read_into;
 use asn1_headers::header::HeaderCount;
 use asn1_outline::entry::Entry;
-use asn1_outline::entry_builder::Found;
-use asn1_outline::header_walk::{check_headers, list_headers, list_headers_within};
-use asn1_outline::listing::{list, list_within};
+use asn1_outline::entry_builder::{EntryBuilder, Found};
+use asn1_outline::header_walk::{check_headers, list_headers_within};
+use asn1_outline::listing::{EntryItems, list_within};
 use asn1_outline::strict::check_canonical;
 use asn1_writing::strict::strict_blocks;
 use simple_asn1::{
@@ -50,8 +51,26 @@ pub fn check(alloc: Global, octets: &[u8]) -> Result<(), Fault>
     }
 }
 
-// The canonical octets of a document, where they are not found to be its own.
+// Of no more octets the blocks take little memory.
+const FEW_OCTETS: usize = 1 << 16;
+
+// The canonical octets of a document, where they are not found to be its own. Where its blocks would take much memory,
+// none is built before the octets are known to be a document.
 pub fn canonical_octets(alloc: Global, octets: &[u8]) -> Result<Option<Vec<u8>>, Fault>
+    ensures document { IfOk result (λ written. (bs : Trees ℕ) × IsDocument octets.now bs
+        × MatchOption written (octets.now ≡ all_canonical bs) (λ v. v.items ≡ all_canonical bs)) }
+    ensures fault { IfErr result (λ f. OrNoMemory (IsRefused octets.now) f.status f.offset) }
+{
+    if octets.len() > FEW_OCTETS
+        && let Err(fault) = check(alloc, octets)
+    {
+        return Err(fault);
+    }
+    written_unless_canonical(alloc, octets)
+}
+
+// The same, where blocks are built up to a fault.
+fn written_unless_canonical(alloc: Global, octets: &[u8]) -> Result<Option<Vec<u8>>, Fault>
     ensures document { IfOk result (λ written. (bs : Trees ℕ) × IsDocument octets.now bs
         × MatchOption written (octets.now ≡ all_canonical bs) (λ v. v.items ≡ all_canonical bs)) }
     ensures fault { IfErr result (λ f. OrNoMemory (IsRefused octets.now) f.status f.offset) }
@@ -121,7 +140,7 @@ fn check_strict(alloc: Global, octets: &[u8], found: &Found) -> Result<(), Fault
             Err(located) => Err(fault_at(&located)),
         };
     }
-    match canonical_octets(alloc, octets) {
+    match written_unless_canonical(alloc, octets) {
         Ok(None) => Ok(()),
         Ok(Some(_)) => check_blocks(alloc, octets),
         Err(fault) => Err(fault),
@@ -142,25 +161,18 @@ fn check_blocks(alloc: Global, octets: &[u8]) -> Result<(), Fault>
     }
 }
 
-// The entries of a document.
-pub fn read_records(alloc: Global, octets: &[u8]) -> Result<Vec<Entry>, Fault>
-    ensures document { IfOk result (λ entries. IsOutline octets.now entries.items) }
+// A builder of the first entries of a document, of which it keeps so many.
+pub fn read_first(alloc: Global, octets: &[u8], room: usize) -> Result<EntryBuilder, Fault>
+    ensures document { IfOk result (λ builder. (all : List Entry) × IsOutline octets.now all × IsFront builder all) }
     ensures fault { IfErr result (λ f. OrNoMemory (IsRefused octets.now) f.status f.offset) }
 {
+    let Ok(builder) = EntryBuilder::with_room(alloc, octets.len(), room) else {
+        return Err(OUT_OF_MEMORY);
+    };
     let mut count = HeaderCount::new();
-    match list(alloc, octets, &mut count) {
-        Ok(entries) => Ok(entries),
-        Err(located) => Err(fault_at(&located)),
-    }
-}
-
-// The entries of encodings by their headers alone.
-pub fn read_headers(alloc: Global, octets: &[u8]) -> Result<Vec<Entry>, Fault>
-    ensures document { IfOk result (λ entries. AreEntriesOfShapes octets.now entries.items) }
-    ensures fault { IfErr result (λ f. OrNoMemory (IsRefusedByHeader octets.now) f.status f.offset) }
-{
-    match list_headers(alloc, octets) {
-        Ok(entries) => Ok(entries),
+    let items = EntryItems { entry: 0, count: 0 };
+    match read_into(alloc, octets, builder, items, &mut count) {
+        Ok((builder, _)) => Ok(builder),
         Err(located) => Err(fault_at(&located)),
     }
 }

@@ -1,10 +1,10 @@
 // One encoding of a document by its header: its record, and its tag number of any size.
-ghost use Rattle.std.specs.Prelude.{◌≡◌, ◌<◌, IfOk, Bool, List, ℕ, length, string_bytes};
+ghost use Rattle.std.specs.Prelude.{◌≡◌, ◌<◌, IfOk, MatchOption, Bool, List, ℕ, length, string_bytes};
 ghost use Rattle.asn1_numbers.specs.Decimal.{natural_numeral};
-ghost use Rattle.simple_asn1.specs.Places.{IsEncoding};
+ghost use Rattle.simple_asn1.specs.Places.{HasNoEncodingAt, IsEncoding};
 ghost use Rattle.simple_asn1.specs.Header.{Encoding};
 ghost use Rattle.asn1_headers.specs.declared.header.ASN1Class.{ASN1Class};
-ghost use Rattle.asn1_records.specs.Contents.{AnswersHeader, AnswersTag, AnswersTagOctets};
+ghost use Rattle.asn1_records.specs.Contents.{AnswersHeader, AnswersTag, AnswersTagOctets, IsHeaderAt};
 
 use crate::dotted::MOST_IN_DECIMAL;
 use crate::header_record::header_record;
@@ -16,24 +16,33 @@ use asn1_headers::whole_header::read_header;
 use simple_asn1::{ASN1DecodeErr, BigUint, HeaderCount, encoding_at};
 use std::alloc::{AllocError, Global};
 
-// Puts the record of the encoding at the offset.
-pub fn put_header(alloc: Global, octets: &[u8], offset: usize, room: &mut [Block]) -> Outcome
-    ensures { AnswersHeader octets.now offset room.old room.new result }
+// The record of the encoding at the offset by its header alone, where one stands there.
+pub fn header_at(alloc: Global, octets: &[u8], offset: usize) -> Result<Option<Block>, AllocError>
+    ensures { IfOk result (λ found. MatchOption found
+        (HasNoEncodingAt octets.now offset) (IsHeaderAt octets.now offset)) }
 {
     let Some(encoding) = encoding_at(octets, offset) else {
-        return nothing_put(NO_SUCH_VALUE, offset);
+        return Ok(None);
     };
-    let Ok(header) = header_record(alloc, encoding) else {
-        return nothing_put(NO_MEMORY, offset);
-    };
-    let block = Block {
+    let header = header_record(alloc, encoding)?;
+    Ok(Some(Block {
         offset,
         items: 0,
         next: 0,
         depth: 0,
         ..header
-    };
-    put_front(&[block], room)
+    }))
+}
+
+// Puts the record of the encoding at the offset.
+pub fn put_header(alloc: Global, octets: &[u8], offset: usize, room: &mut [Block]) -> Outcome
+    ensures { AnswersHeader octets.now offset room.old room.new result }
+{
+    match header_at(alloc, octets, offset) {
+        Ok(Some(block)) => put_front(&[block], room),
+        Ok(None) => nothing_put(NO_SUCH_VALUE, offset),
+        Err(AllocError) => nothing_put(NO_MEMORY, offset),
+    }
 }
 
 // How many identifier octets an encoding has.

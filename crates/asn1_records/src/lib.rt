@@ -17,6 +17,7 @@ pub mod first_fault;
 mod header_record;
 pub mod identifier;
 pub mod integer;
+mod items;
 pub mod moment;
 mod number;
 pub mod paths;

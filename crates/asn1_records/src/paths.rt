@@ -1,16 +1,21 @@
-// The encodings that paths name, by the entries of their document, and their values.
-ghost use Rattle.std.specs.Prelude.{◌≡◌, ◌+◌, ◌<◌, ◌≤◌, IfSome, length, map};
-ghost use Rattle.asn1_outline.specs.Shapes.{contents_octets};
-ghost use Rattle.asn1_records.specs.Paths.{index_at, integer_in, item_from, items_end, no_value, path_in, value_of, value_with};
-ghost use Rattle.asn1_records.specs.Room.{ArePut};
+// The encodings that paths name, found by headers, and their values.
+ghost use Rattle.std.specs.Prelude.{◌≡◌, ◌<◌, IfErr, IfOk, IfSome, MatchOption, length, map};
+ghost use Rattle.asn1_outline.specs.Shapes.{HasShapes, Shapes, contents_octets, entries_of};
+ghost use Rattle.asn1_records.specs.Answers.{IsRefusedByHeader};
+ghost use Rattle.asn1_records.specs.Inner.Named.{IsFound, IsPlaced, shapes_at};
+ghost use Rattle.asn1_records.specs.Paths.{integer_in, no_value, path_in, value_of, value_with};
+ghost use Rattle.asn1_records.specs.Room.{OrNoMemory};
 
+use crate::document_entries::{Fault, OUT_OF_MEMORY, check_by_headers};
 use crate::header_record::class_number_of;
+use crate::items::{PlacedEncoding, item_from, items_of};
 use crate::number::int64_of;
-use crate::putting::{all_put, not_enough};
-use crate::record::{Outcome, Path, Value};
+use crate::record::{Path, Value};
 use asn1_headers::tags::INTEGER;
 use asn1_outline::entry::Entry;
+use asn1_outline::listing::header_entry;
 use simple_asn1::ASN1Class;
+use std::alloc::{AllocError, Global};
 
 // What a path leads to: nothing; an encoding; or an INTEGER whose number is there.
 const NOTHING: u32 = 0;
@@ -18,56 +23,6 @@ const NOTHING: u32 = 0;
 const ENCODING: u32 = 1;
 
 const NUMBER: u32 = 2;
-
-// The index of the entry so many after the one at the index, side by side, if all are before the end.
-fn item_from(entries: &[Entry], index: usize, end: usize, step: usize) -> Option<usize>
-    requires { end ≤ length entries.now }
-    ensures item { result ≡ item_from entries.now index end step }
-    ensures within { IfSome result (λ i. i < length entries.now) }
-{
-    let mut at = index;
-    let mut left = step;
-    while left > 0 {
-        if at >= end {
-            return None;
-        }
-        at = entries[at].next;
-        left -= 1;
-    }
-    if at >= end {
-        return None;
-    }
-    Some(at)
-}
-
-// The index behind the items of the encoding at the index.
-fn items_end(entries: &[Entry], index: usize) -> usize
-    requires { index < length entries.now }
-    ensures end { result ≡ items_end entries.now index }
-    ensures within { result ≤ length entries.now }
-{
-    entries[index].next.min(entries.len())
-}
-
-// The index of the entry that the path leads to.
-fn index_at(entries: &[Entry], path: &[usize]) -> Option<usize>
-    ensures index { result ≡ index_at entries.now path.now }
-    ensures within { IfSome result (λ i. i < length entries.now) }
-{
-    let Some((first, rest)) = path.split_first() else {
-        return None;
-    };
-    let Some(mut index) = item_from(entries, 0, entries.len(), *first) else {
-        return None;
-    };
-    for step in rest {
-        let Some(inside) = item_from(entries, index + 1, items_end(entries, index), *step) else {
-            return None;
-        };
-        index = inside;
-    }
-    Some(index)
-}
 
 // The numbers of the path, if it lies in the steps; otherwise none, which lead nowhere.
 fn path_in<'a>(steps: &'a [usize], path: &Path) -> &'a [usize]
@@ -131,33 +86,83 @@ fn no_value() -> Value
     }
 }
 
-// What is answered of a path.
-fn value_of(octets: &[u8], entries: &[Entry], steps: &[usize], path: &Path) -> Value
-    ensures { result ≡ value_of octets.now entries.now steps.now path.now }
+// The encoding that the path leads to.
+fn encoding_of(
+    alloc: Global,
+    octets: &[u8],
+    path: &[usize],
+) -> Result<Option<PlacedEncoding>, AllocError>
+    ensures placed { IfOk result (λ found. IfSome found (IsPlaced octets.now)) }
+    ensures named { (all : Shapes) → HasShapes octets.now all
+        → IfOk result (IsFound octets.now (shapes_at all path.now)) }
 {
-    let Some(index) = index_at(entries, path_in(steps, path)) else {
-        return no_value();
+    let Some((first, rest)) = path.split_first() else {
+        return Ok(None);
     };
-    let entry = &entries[index];
-    value_with(entry, integer_in(octets, entry))
+    let Some(mut found) = item_from(alloc, octets, 0, octets.len(), *first)? else {
+        return Ok(None);
+    };
+    for step in rest {
+        let (start, end) = items_of(alloc, octets, &found)?;
+        let Some(inside) = item_from(alloc, octets, start, end, *step)? else {
+            return Ok(None);
+        };
+        found = inside;
+    }
+    Ok(Some(found))
 }
 
-// Puts what is answered of each path at the front.
-pub fn put_values(
+// What is answered of a path.
+fn value_of(alloc: Global, octets: &[u8], steps: &[usize], path: &Path) -> Result<Value, AllocError>
+    ensures { (all : Shapes) → HasShapes octets.now all
+        → IfOk result (λ v. v ≡ value_of octets.now (entries_of 0 0 all) steps.now path.now) }
+{
+    let Some(found) = encoding_of(alloc, octets, path_in(steps, path))? else {
+        return Ok(no_value());
+    };
+    let entry = header_entry(&found.header, found.offset, 0, 0);
+    Ok(value_with(&entry, integer_in(octets, &entry)))
+}
+
+// The values of all paths.
+fn values_of(
+    alloc: Global,
     octets: &[u8],
-    entries: &[Entry],
     steps: &[usize],
     paths: &[Path],
-    room: &mut [Value],
-) -> Outcome
-    ensures { ArePut (map (λ p. value_of octets.now entries.now steps.now p) paths.now) room.old room.new result }
+) -> Result<Vec<Value>, AllocError>
+    ensures { (all : Shapes) → HasShapes octets.now all → IfOk result (λ values.
+        values.items ≡ map (λ p. value_of octets.now (entries_of 0 0 all) steps.now p) paths.now) }
 {
-    let count = paths.len();
-    if room.len() < count {
-        return not_enough(count);
+    let mut values = Vec::with_capacity(alloc, paths.len())?;
+    for path in paths {
+        let value = value_of(alloc, octets, steps, path)?;
+        values.push(value)?;
     }
-    for k in 0..count {
-        room[k] = value_of(octets, entries, steps, &paths[k]);
+    Ok(values)
+}
+
+// The values of all paths in octets that are encodings by their headers, where there is room for so many.
+pub fn find_values(
+    alloc: Global,
+    octets: &[u8],
+    steps: &[usize],
+    paths: &[Path],
+    room: usize,
+) -> Result<Option<Vec<Value>>, Fault>
+    ensures document { IfOk result (λ found. (all : Shapes) × HasShapes octets.now all
+        × MatchOption found (room < length paths.now) (λ values. values.items
+        ≡ map (λ p. value_of octets.now (entries_of 0 0 all) steps.now p) paths.now)) }
+    ensures fault { IfErr result (λ f. OrNoMemory (IsRefusedByHeader octets.now) f.status f.offset) }
+{
+    if let Err(fault) = check_by_headers(alloc, octets) {
+        return Err(fault);
     }
-    all_put(count)
+    if room < paths.len() {
+        return Ok(None);
+    }
+    match values_of(alloc, octets, steps, paths) {
+        Ok(values) => Ok(Some(values)),
+        Err(AllocError) => Err(OUT_OF_MEMORY),
+    }
 }

@@ -1,25 +1,12 @@
 -- For `encoding::put_header`: what it returns is right.
-use Rattle.std.proofs.Common.{refl}
-use Rattle.asn1_records.specs.Contents.{header_was_found}
-use Rattle.asn1_records.specs.Records.{HasHeader}
-use Rattle.asn1_records.specs.declared.record.Block.{Block}
+use Rattle.std.proofs.lemmas.Option.{MatchOption-at_some}
+use Rattle.simple_asn1.specs.Places.{HasNoEncodingAt}
+use Rattle.asn1_records.specs.Contents.{IsHeaderAt, header_was_found}
 use Rattle.asn1_records.proofs.encoding.put_header.Goals as goal
 
-pub returns : goal.returns
-returns c =
-    let x = c.in-Some.encoding.now in
-    let head = c.in-Ok.header in
-    let h = c.in-Ok.ensures in
-    let r : Block = record head { offset = c.args.offset; items = 0; next = 0; depth = 0 } in
-    let own : HasHeader x r = record {
-      class = h.class;
-      constructed = h.constructed;
-      tag = h.tag;
-      contents = h.contents;
-      encoding = h.encoding;
-      class_field = h.class_field;
-      constructed_field = h.constructed_field;
-      tag_field = h.tag_field;
-      contents_field = h.contents_field;
-    } in
-    header_was_found r (x, c.in-Some.ensures.found, own, refl, refl, (refl, refl)) c.put_front.ensures
+pub returns-in-Ok-Some : goal.returns-in-Ok-Some
+returns-in-Ok-Some c =
+    let x = c.args.octets.now in
+    let r = c.in-Ok-Some.block in
+    header_was_found r (MatchOption-at_some (HasNoEncodingAt x c.args.offset) (IsHeaderAt x c.args.offset) r
+    c.in-Ok-Some.field-0-is c.in-Ok-Some.ensures) c.put_front.ensures

@@ -1,0 +1,130 @@
+// Encodings one after another, found by their headers: no entries are kept. A constructed encoding of another class
+// than Universal holds encodings if its contents octets are such.
+ghost use Rattle.std.specs.Prelude.{◌≡◌, ◌≤◌, ◌↔◌, ℕ, IfOk, IfSome, IsTrue, false, length};
+ghost use Rattle.asn1_headers.specs.Fault.{DecodeFault};
+ghost use Rattle.asn1_headers.specs.declared.header.ASN1Class.TheVariants.{Universal};
+ghost use Rattle.asn1_blocks.specs.HeadersBegun.{IsReadInside};
+ghost use Rattle.asn1_outline.specs.Shapes.{AreShapes, HasItems, HeadersFaultAt, Shapes};
+ghost use Rattle.asn1_records.specs.Inner.Named.{IsFound, IsPlaced, shapes_from};
+
+use asn1_blocks::parsed::{PlacedHeader, header_between};
+use asn1_blocks::read_loop::is_read_inside;
+use simple_asn1::ASN1Class;
+use std::alloc::{AllocError, Global};
+
+// An encoding of a document: where it begins, and its header.
+#[derive(Drop)]
+pub struct PlacedEncoding {
+    pub offset: usize,
+    pub header: PlacedHeader,
+}
+
+// The encoding so many behind the first of those that stand side by side from the start to the end.
+pub fn item_from(
+    alloc: Global,
+    octets: &[u8],
+    start: usize,
+    end: usize,
+    step: usize,
+) -> Result<Option<PlacedEncoding>, AllocError>
+    requires order { start ≤ end }
+    requires within { end ≤ length octets.now }
+    ensures placed { IfOk result (λ found. IfSome found (IsPlaced octets.now)) }
+    ensures item { (all : Shapes) → AreShapes octets.now start end all
+        → IfOk result (IsFound octets.now (shapes_from step all)) }
+{
+    let mut offset = start;
+    for _ in 0..step {
+        let Some(header) = header_between(alloc, octets, offset, end)? else {
+            return Ok(None);
+        };
+        offset = header.end;
+    }
+    match header_between(alloc, octets, offset, end)? {
+        Some(header) => Ok(Some(PlacedEncoding { offset, header })),
+        None => Ok(None),
+    }
+}
+
+// Where the items of an encoding begin, and where they end: at once, where it holds none.
+pub fn items_of(
+    alloc: Global,
+    octets: &[u8],
+    encoding: &PlacedEncoding,
+) -> Result<(usize, usize), AllocError>
+    requires { IsPlaced octets.now encoding.now }
+    ensures order { IfOk result (λ bounds. bounds.0 ≤ bounds.1) }
+    ensures within { IfOk result (λ bounds. bounds.1 ≤ length octets.now) }
+    ensures items { (items : Shapes) → HasItems octets.now encoding.now.header items
+        → IfOk result (λ bounds. AreShapes octets.now bounds.0 bounds.1 items) }
+{
+    let PlacedHeader { start, end, .. } = encoding.header;
+    if holds_items(alloc, octets, encoding)? {
+        return Ok((start, end));
+    }
+    Ok((end, end))
+}
+
+// Whether the contents octets of an encoding are encodings, one after another.
+fn holds_items(alloc: Global, octets: &[u8], encoding: &PlacedEncoding) -> Result<bool, AllocError>
+    requires { IsPlaced octets.now encoding.now }
+    ensures yes { (items : Shapes) → HasItems octets.now encoding.now.header items
+        → IfOk result (λ yes. IsTrue yes
+        → AreShapes octets.now encoding.now.header.start encoding.now.header.end items) }
+    ensures no { (items : Shapes) → HasItems octets.now encoding.now.header items
+        → IfOk result (λ yes. yes ≡ false
+        → AreShapes octets.now encoding.now.header.end encoding.now.header.end items) }
+{
+    let header = &encoding.header;
+    if !is_read_inside(header) {
+        return Ok(false);
+    }
+    match header.class {
+        ASN1Class::Universal => Ok(true),
+        _ => are_encodings(alloc, octets, header.start, header.end),
+    }
+}
+
+// Whether a SEQUENCE or SET has the header.
+fn is_group(header: &PlacedHeader) -> bool
+    ensures { IsTrue result ↔ ((header.now.class ≡ Universal)
+        × IsReadInside header.now.class header.now.constructed header.now.tag) }
+{
+    match header.class {
+        ASN1Class::Universal => is_read_inside(header),
+        _ => false,
+    }
+}
+
+// Whether octets from the start to the end are encodings, one after another, also in each SEQUENCE and SET. What stands
+// in encodings of other classes is no matter: a fault in there is theirs alone.
+fn are_encodings(alloc: Global, octets: &[u8], start: usize, end: usize) -> Result<bool, AllocError>
+    requires order { start ≤ end }
+    requires within { end ≤ length octets.now }
+    ensures yes { IfOk result (λ yes. IsTrue yes
+        → (fault : DecodeFault) (offset : ℕ) → HeadersFaultAt octets.now start start end fault offset → ⊥) }
+    ensures no { IfOk result (λ yes. yes ≡ false → (all : Shapes) → AreShapes octets.now start end all → ⊥) }
+{
+    let mut offset = start;
+    let mut limit = end;
+    let mut limits = Vec::new(alloc);
+    'turns: loop {
+        if offset == limit {
+            let Some(outer) = limits.pop() else {
+                return Ok(true);
+            };
+            limit = outer;
+            continue 'turns;
+        }
+        let Some(header) = header_between(alloc, octets, offset, limit)? else {
+            return Ok(false);
+        };
+        if !is_group(&header) {
+            offset = header.end;
+            continue 'turns;
+        }
+        limits.push(limit)?;
+        offset = header.start;
+        limit = header.end;
+    }
+}
