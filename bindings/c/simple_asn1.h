@@ -11,10 +11,12 @@
  *   nesting that is open at a time. simple_asn1_check: these levels alone.
  * - simple_asn1_read_strict: the same, or 4,096 records, if that is more. But a document that is not seen at once to be
  *   canonical takes its blocks, up to 40 bytes for each of its bytes.
- * - simple_asn1_rewrite and simple_asn1_write: of canonical bytes little; of others their blocks, and what is written.
- * - simple_asn1_values: a record for each block, up to 32 bytes for each byte, if there is room for all values, or else
- *   the levels alone. simple_asn1_signed: a record for each block. simple_asn1_departures: 16 bytes for each departure,
- *   also inside contents that turn out to be no encodings, where only that is listed.
+ * - simple_asn1_rewrite: of bytes that are seen at once to be canonical, and of more than 65,536 that are no document,
+ *   these levels alone; of others their blocks, and what is written. simple_asn1_write: the bytes that the records
+ *   describe, and what rewriting these takes.
+ * - simple_asn1_values: the values, if there is room for all, and these levels. simple_asn1_signed: two records, and
+ *   these levels. simple_asn1_departures: 16 bytes for each departure, also inside contents that turn out to be no
+ *   encodings, where only that is listed.
  *
  * Where it is not X.690's BER, and what strict reading accepts though DER forbids it:
  *

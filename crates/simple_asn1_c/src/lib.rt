@@ -20,15 +20,14 @@ use asn1_records::bits::{bits_at, put_bits, put_boolean};
 use asn1_records::components::{component_at, put_components, put_dotted, put_shortest};
 use asn1_records::departures::{list_departures, put_departures};
 use asn1_records::document_entries::{
-    canonical_octets, check, check_by_headers, find_headers, find_records, find_records_strict,
-    read_headers,
+    canonical_octets, check, find_headers, find_records, find_records_strict,
 };
 use asn1_records::encoding::{put_header, put_tag, tag_octets_at};
 use asn1_records::first_fault::{FaultAnswer, fault_in};
 use asn1_records::identifier::{identifier_at, put_identifier};
 use asn1_records::integer::{integer_at, put_integer};
 use asn1_records::moment::{moment_at, put_moment};
-use asn1_records::paths::put_values;
+use asn1_records::paths::find_values;
 use asn1_records::put_encodings::{put_encoding, put_spelled};
 use asn1_records::putting::{all_put, not_enough, nothing_put, put_found, put_front};
 use asn1_records::raw::{put_raw_bits, put_raw_identifier, put_raw_moment, put_raw_text};
@@ -121,8 +120,8 @@ pub extern "C" fn simple_asn1_outline(alloc: Global, octets: &[u8], blocks: &mut
 /// encoding.
 ///
 /// Returns the number of paths; `NO_ROOM` with it, if there is less room; or an error as [`simple_asn1_outline`]. After
-/// an error nothing is written. It takes memory for a record of each encoding, where there is room for all paths, and
-/// for each open level of nesting.
+/// an error nothing is written. It takes memory for the values, where there is room for all, and for each open level of
+/// nesting. The headers in front of what a path leads to are read once more for each path.
 #[unsafe(no_mangle)]
 pub extern "C" fn simple_asn1_values(
     alloc: Global,
@@ -133,14 +132,9 @@ pub extern "C" fn simple_asn1_values(
 ) -> Outcome
     ensures { AnswersValues octets.now steps.now paths.now values.old values.new result }
 {
-    if values.len() < paths.len() {
-        return match check_by_headers(alloc, octets) {
-            Ok(()) => not_enough(paths.len()),
-            Err(fault) => nothing_put(fault.status, fault.offset),
-        };
-    }
-    match read_headers(alloc, octets) {
-        Ok(entries) => put_values(octets, &entries, steps, paths, values),
+    match find_values(alloc, octets, steps, paths, values.len()) {
+        Ok(Some(found)) => put_front(&found, values),
+        Ok(None) => not_enough(paths.len()),
         Err(fault) => nothing_put(fault.status, fault.offset),
     }
 }
@@ -171,7 +165,7 @@ pub extern "C" fn simple_asn1_departures(
 /// Writes the canonical octets of a document at the front of the room, and returns their number; or `NO_ROOM` with
 /// that number, if there is less room, or the first fault, as [`simple_asn1_read`] does: then nothing is written. A
 /// document that a quick look does not find to be canonical takes memory for its blocks and for what is written, also
-/// without room.
+/// without room. More than 65,536 octets are checked first, so that no block is built of many that are no document.
 #[unsafe(no_mangle)]
 pub extern "C" fn simple_asn1_rewrite(alloc: Global, octets: &[u8], room: &mut [u8]) -> Outcome
     ensures { AnswersRewrite octets.now room.old room.new result }
@@ -258,7 +252,7 @@ pub extern "C" fn simple_asn1_oid(
 
 /// The records of the content, the algorithm's OBJECT IDENTIFIER and the signature of the signed triple that a
 /// document begins with; `next` and `depth` are 0 in them. `NOT_SIGNED` if it begins with another block; for any other
-/// input the first fault, as [`simple_asn1_read`]. It takes memory for a record of each block.
+/// input the first fault, as [`simple_asn1_read`]. It takes memory for two records, and for each open level of nesting.
 #[unsafe(no_mangle)]
 pub extern "C" fn simple_asn1_signed(alloc: Global, octets: &[u8]) -> SignedAnswer
     ensures { AnswersSigned octets.now result }

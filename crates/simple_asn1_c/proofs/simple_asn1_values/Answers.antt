@@ -1,8 +1,7 @@
 -- For `simple_asn1_values`: what it returns is right.
-use Rattle.std.proofs.Common.{◌<◌, List, length, map, inr, refl, ap, ◌∙◌, sym, arith}
-use Rattle.std.proofs.lemmas.Grind.{common_steps}
+use Rattle.std.proofs.Common.{◌<◌, length, map, inr, refl, ◌∙◌, sym, arith}
 use Rattle.std.proofs.lemmas.List.{length-map}
-use Rattle.asn1_outline.specs.declared.entry.Entry.{Entry}
+use Rattle.std.proofs.lemmas.Option.{MatchOption-at_none, MatchOption-at_some}
 use Rattle.simple_asn1.specs.Shapes.{entries_of}
 use Rattle.asn1_records.specs.Answers.{IsRefusedByHeader}
 use Rattle.asn1_records.specs.Paths.{value_of}
@@ -12,14 +11,21 @@ use Rattle.asn1_records.specs.declared.record.Value.{Value}
 use Rattle.asn1_records.proofs.Outcomes.{Answers-refused}
 use Rattle.simple_asn1_c.proofs.simple_asn1_values.Goals as goal
 
-pub returns-in-Ok : goal.returns-in-Ok
-returns-in-Ok c =
-    let few : length c.args.values.now < length c.args.paths.now = grind (arith, common_steps) in
-    let (all, has) = c.in-Ok.ensures.document in
+pub returns-in-Ok-Some : goal.returns-in-Ok-Some
+returns-in-Ok-Some c =
+    let (all, has, m) = c.in-Ok-Some.ensures.document in
+    let is = MatchOption-at_some _ _ c.in-Ok-Some.found c.in-Ok-Some.field-0-is m in
+    was_found c.deref.result.now (all, has, c.deref.ensures.value ∙ is) c.put_front.ensures
+
+pub returns-in-Ok-None : goal.returns-in-Ok-None
+returns-in-Ok-None c =
+    let paths = c.args.paths.now in
+    let (all, has, m) = c.in-Ok-None.ensures.document in
     let value : Path → Value = λ p. value_of c.args.octets.now (entries_of 0 0 all) c.args.steps.now p in
-    let size = length-map c.args.paths.now value in
+    let few : length c.args.values.now < length paths = MatchOption-at_none _ _ c.in-Ok-None.field-0-is m in
+    let size = length-map paths value in
     let (status, count, offset) = c.not_enough.ensures in
-    was_found (map value c.args.paths.now) (all, has, refl)
+    was_found (map value paths) (all, has, refl)
     (count ∙ sym size, offset, inr (status, omega (arith, few, count, size), refl))
 
 pub returns-in-Err : goal.returns-in-Err
@@ -27,16 +33,3 @@ returns-in-Err c =
     let put = c.nothing_put.ensures in
     Answers-refused _ (IsRefusedByHeader c.args.octets.now) c.args.values.now _ _ _ put.status put.offset put.count
     c.in-Err.ensures.fault
-
-pub returns-in-Ok-read_headers : goal.returns-in-Ok-read_headers
-returns-in-Ok-read_headers c =
-    let (all, has, are) = c.in-Ok-read_headers.ensures.document in
-    let value : List Entry → Path → Value = λ es p. value_of c.args.octets.now es c.args.steps.now p in
-    was_found (map (value c.deref.result.now) c.args.paths.now)
-    (all, has, ap (λ es. map (value es) c.args.paths.now) (c.deref.ensures.value ∙ are)) c.put_values.ensures
-
-pub returns-in-Err-read_headers : goal.returns-in-Err-read_headers
-returns-in-Err-read_headers c =
-    let put = c.nothing_put-in-Err-read_headers.ensures in
-    Answers-refused _ (IsRefusedByHeader c.args.octets.now) c.args.values.now _ _ _ put.status put.offset put.count
-    c.in-Err-read_headers.ensures.fault
