@@ -82,14 +82,17 @@ CALLS = {
     "json": {shape: {OK: "--json"} for shape in SHAPES},
 }
 
-# what each call without room answers of a shape: a status and a count. `kept` reads [0] around NULLs, which stays as it
-# came
-NO_ROOM = 11
+# what each call without room answers of a shape: a status and a count; `a value` has room for one. At the end of the
+# documents of `kept` and `refused rewrite` a header is cut off: `kept` reads [0] around NULLs, which stays as it came,
+# and `refused rewrite` NULLs alone. `signed triple` finds what was signed, many NULLs
+INCOMPLETE, NO_ROOM, NOT_SIGNED = 8, 11, 14
 
 
 def without_room(records):
     """Of a document with so many records."""
-    return dict.fromkeys(("read", "outline"), (NO_ROOM, records)) | {"check": (OK, 0), "values": (NO_ROOM, 1)}
+    values = {"values": (NO_ROOM, 1), "no values": (OK, 0), "a value": (OK, 1)}
+    read = dict.fromkeys(("read", "outline"), (NO_ROOM, records))
+    return read | values | {"check": (OK, 0), "signed": (NOT_SIGNED, 0)}
 
 
 def of_der(records):
@@ -99,7 +102,10 @@ def of_der(records):
 
 
 MEMORY = {
-    "NULLs": of_der(50_000_000) | {"kept": (NO_ROOM, 1)},
+    "NULLs": of_der(50_000_000) | {
+        "kept": (NO_ROOM, 1), "refused rewrite": (INCOMPLETE, 0), "signed triple": (OK, 49_999_988),
+    },
+    "empty groups": of_der(50_000_000),
     "groups": of_der(25_000_000),
     "nests": of_der(50_000_000),
     "attempts": without_room(12_500_000),
@@ -145,8 +151,7 @@ def memory(program):
         kilobytes, *answer = map(int, said)
         good = kilobytes <= MOST_KILOBYTES and tuple(answer) == MEMORY[shape][call]
         wrong += not good
-        print(f"growth: {call} of 100 MB of {shape} without room takes {kilobytes} kB" + ("" if good else ": WRONG"),
-              flush=True)
+        print(f"growth: {call} of 100 MB of {shape} takes {kilobytes} kB" + ("" if good else ": WRONG"), flush=True)
     return wrong
 
 

@@ -14,6 +14,7 @@ static const struct {
     const char *item;
 } shapes[] = {
     {"NULLs", 2, "\x05\0"},
+    {"empty groups", 2, "\x30\0"},
     {"groups", 8, "\x30\6\4\4\1\2\3\4"},
     {"nests", 16, "\x30\16\x31\14\xA0\12\x30\10\x61\6\x30\4\x05\0\x05\0"},
     {"attempts", 8, "\xA0\6\4\2\1\2\2\5"}, /* with a header that is cut off at the end */
@@ -37,23 +38,58 @@ static int fill(uint8_t *octets, const char *shape)
     return 0;
 }
 
-static simple_asn1_outcome called(const char *call, uint8_t *octets)
+/* the count is how many items what was signed has */
+static simple_asn1_outcome signed_of(const uint8_t *octets)
+{
+    simple_asn1_signed_parts parts = simple_asn1_signed(octets, SIZE);
+    simple_asn1_outcome found = {parts.status, parts.offset, parts.content.items};
+    return found;
+}
+
+static simple_asn1_outcome called(const char *call, const uint8_t *octets)
 {
     static const size_t steps[] = {1};
     static const simple_asn1_path path = {0, 1};
+    static simple_asn1_value value;
     if (!strcmp(call, "read_strict"))
         return simple_asn1_read_strict(octets, SIZE, NULL, 0);
     if (!strcmp(call, "outline"))
         return simple_asn1_outline(octets, SIZE, NULL, 0);
     if (!strcmp(call, "values"))
         return simple_asn1_values(octets, SIZE, steps, 1, &path, 1, NULL, 0);
+    if (!strcmp(call, "no values"))
+        return simple_asn1_values(octets, SIZE, steps, 1, NULL, 0, NULL, 0);
+    if (!strcmp(call, "a value"))
+        return simple_asn1_values(octets, SIZE, steps, 1, &path, 1, &value, 1);
     if (!strcmp(call, "check"))
         return simple_asn1_check(octets, SIZE);
-    if (!strcmp(call, "rewrite"))
+    if (!strcmp(call, "signed") || !strcmp(call, "signed triple"))
+        return signed_of(octets);
+    if (!strcmp(call, "rewrite") || !strcmp(call, "refused rewrite"))
         return simple_asn1_rewrite(octets, SIZE, NULL, 0);
     if (!strcmp(call, "departures"))
         return simple_asn1_departures(octets, SIZE, NULL, 0);
     return simple_asn1_read(octets, SIZE, NULL, 0);
+}
+
+/* At the end a header is cut off. */
+static void cut_off(uint8_t *octets)
+{
+    octets[SIZE - 2] = 2;
+    octets[SIZE - 1] = 5;
+}
+
+/* Calls of their own documents: `kept` of [0], which stays as it came, and `signed triple` of one around the items. */
+static void change(const char *call, uint8_t *octets)
+{
+    if (!strcmp(call, "kept"))
+        memcpy(octets, "\xA0\x84\x05\xF5\xE0\xFA", 6);
+    if (!strcmp(call, "kept") || !strcmp(call, "refused rewrite"))
+        cut_off(octets);
+    if (!strcmp(call, "signed triple")) {
+        memcpy(octets, "\x30\x84\x05\xF5\xE0\xFA\x30\x84\x05\xF5\xE0\xE8", 12);
+        memcpy(octets + SIZE - 12, "\x30\5\6\3\x2B\x65\x70\3\3\0\xAB\xAB", 12);
+    }
 }
 
 int main(int count, char **words)
@@ -61,11 +97,7 @@ int main(int count, char **words)
     uint8_t *octets = malloc(SIZE);
     if (count != 3 || !octets || !fill(octets, words[2]))
         return 2;
-    if (!strcmp(words[1], "kept")) { /* in [0], which stays as it came, since at its end a header is cut off */
-        memcpy(octets, "\xA0\x84\x05\xF5\xE0\xFA", 6);
-        octets[SIZE - 2] = 2;
-        octets[SIZE - 1] = 5;
-    }
+    change(words[1], octets);
     long before = most();
     simple_asn1_outcome found = called(words[1], octets);
     printf("%ld %u %zu\n", most() - before, (unsigned)found.status, found.count);
