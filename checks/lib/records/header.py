@@ -50,7 +50,7 @@ told = dict(re.findall(r"^\.B SIMPLE_ASN1_(?!RULE_)(\w+)\n([^;\n]*)", page, re.M
 same("the header's and the man page's texts", {k: t for k, t in texts.items() if k != "OK"}, told)
 fault = (top / "bindings/rust/records/src/fault.rs").read_text()
 kinds = dict(re.findall(r"FaultKind::(\w+) => \"([^\"]*)\"", fault))
-numbers = {int(n): kinds[k] for n, k in re.findall(r"(\d+) => FaultKind::(\w+)", fault)}
+numbers = {rust[s]: kinds[k] for s, k in re.findall(r"sys::(\w+) => FaultKind::(\w+)", fault)}
 never = {statuses["OK"], statuses["NO_ROOM"]}
 same("the header's and Rust's texts", {n: texts[s] for s, n in statuses.items() if n not in never}, numbers)
 
