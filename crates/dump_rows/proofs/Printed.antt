@@ -1,9 +1,10 @@
 -- What is printed, one after another, for `printer` and for crates that print rows.
-use Rattle.std.proofs.Common.{◌≡◌, ℕ, List, [], ◌∷◌, ◌++◌, ap, append-nil, append_assoc, refl, subst, sym, ◌∙◌}
+use Rattle.std.proofs.Common.{◌≡◌, ℕ, zero, suc, ◌+◌, List, [], ◌∷◌, ◌++◌, ap, append-nil, append_assoc, refl, subst, sym, ◌∙◌}
+use Rattle.std.proofs.Math.Numerals.{suc-eq-add-one}
 use Rattle.std.proofs.KnownBytes.{Appends-nil, Appends-trans}
 use Rattle.std.proofs.lemmas.Grind.{flat_map-append}
 use Rattle.std.specs.Io.KnownBytes.{Appends}
-use Rattle.std.specs.List.{flat_map}
+use Rattle.std.specs.List.{flat_map, repeat}
 use Rattle.std.specs.Prelude.{Option}
 use Rattle.der_io.specs.Escaped.{all_escaped}
 use Rattle.dump_rows.specs.Parts.{text_of, written}
@@ -19,6 +20,14 @@ all_escaped-append escape [] x = append-nil (escape x)
 all_escaped-append escape (y ∷ xs) x =
     ap (λ z. escape y ++ z) (all_escaped-append escape xs x)
     ∙ sym (append_assoc (escape y) (all_escaped escape xs) (escape x))
+
+repeat-behind : (n : ℕ) (xs : List ℕ) → repeat (suc n) xs ≡ repeat n xs ++ xs
+repeat-behind zero xs = append-nil xs
+repeat-behind (suc n) xs = ap (λ z. xs ++ z) (repeat-behind n xs) ∙ sym (append_assoc xs (repeat n xs) xs)
+
+-- a text once more stands behind the others
+pub repeat-more : (n : ℕ) (xs : List ℕ) → repeat (n + 1) xs ≡ repeat n xs ++ xs
+repeat-more n xs = ap (λ k. repeat k xs) (sym (suc-eq-add-one n)) ∙ repeat-behind n xs
 
 module _ {W : Type 0} (contents : W → Option (List ℕ)) where
   -- a text of a kind that was printed is of each kind that follows from it

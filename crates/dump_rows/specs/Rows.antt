@@ -1,6 +1,6 @@
 -- The lines of rows.
 use Rattle.std.specs.Prelude.{◌≡◌, ◌&&◌, ℕ, ◌-◌, ◌^◌, ◌==◌, Bool, false, None, Option, Some, List, [], ◌∷◌, ◌++◌, codes, decimal, if◌then◌else◌, length, min, nat_le, nat_lt}
-use Rattle.std.specs.Fmt.{format_spec, padded, padded_integral}
+use Rattle.std.specs.Fmt.{format_spec, padded_integral}
 use Rattle.std.specs.List.{join_by, list_all, repeat}
 use Rattle.std.specs.Str.{chars}
 use Rattle.der_io.specs.Characters.{greater_than_sign, line_feed, space}
@@ -31,12 +31,16 @@ abbrev pub size_text : Option ℕ → List ℕ
 size_text None = codes "inf"
 size_text (Some size) = decimal size
 
+-- the size on the right of seven columns
+abbrev pub size_column : Option ℕ → List ℕ
+size_column None = codes "    inf"
+size_column (Some size) = right_of 7 size
+
 -- the offset, the sizes of header and contents octets, and two spaces a level, for 40 levels at most
 abbrev pub columns_text : Row → List ℕ
 columns_text row =
     offset_column row ++ (space ∷ (right_of 2 row.header ++ (space ∷ (
-    padded (format_spec space 3 0 7 (2 ^ 64 - 1)) (size_text (size_of row))
-    ++ (space ∷ space ∷ repeat (min row.depth 40) (space ∷ space ∷ []))))))
+    size_column (size_of row) ++ (space ∷ space ∷ repeat (min row.depth 40) (space ∷ space ∷ []))))))
 
 -- the mark at the end of a line: the rules in words, if there are some
 abbrev pub mark_text : {A : Type 0} → (A → List ℕ) → List A → List ℕ

@@ -191,7 +191,7 @@ fn place_text(alloc: Global, place: Option<Place>) -> Result<String, AllocError>
 }
 
 // The size of contents, or that the length is indefinite.
-pub fn size_text(alloc: Global, size: Option<usize>) -> Result<String, AllocError>
+fn size_text(alloc: Global, size: Option<usize>) -> Result<String, AllocError>
     ensures { IfOk result (λ text. string_bytes text ≡ size_is size) }
 {
     match size {

@@ -15,6 +15,12 @@ use std::io::Write;
 // How many octets beside the rows of a page are written at a time.
 const OCTETS_AT_ONCE: usize = 4096;
 
+// Room for the columns of most rows: offset, sizes, and two octets for each level.
+const COLUMNS_ROOM: usize = 100;
+
+// Room for most lines.
+const LINE_ROOM: usize = 200;
+
 // The levels that have an open fold, a bit each.
 #[derive(Drop)]
 struct Folds(u64);
@@ -71,8 +77,10 @@ impl<W: Write> Printer<W> {
     pub fn push(&mut self, row: &Row<'_>) -> Result<(), StreamFault>
         ensures { OnOk result (IsPrinted W.contents (IsRowLine row.now) self.old self.new) }
     {
+        let mut columns = String::with_capacity(self.alloc, COLUMNS_ROOM)?;
+        row.push_columns(&mut columns)?;
         let texts = (
-            row.columns(self.alloc)?,
+            columns,
             row.field_text(self.alloc)?,
             String::from_str(self.alloc, row.type_name)?,
             row.value_text(self.alloc)?,
@@ -205,7 +213,7 @@ impl<W: Write> Printer<W> {
     fn write(&mut self, parts: &[Part<'_>]) -> Result<(), StreamFault>
         ensures { OnOk result (IsPrinted W.contents (λ text. text ≡ text_of parts.now) self.old self.new) }
     {
-        let mut text = String::new(self.alloc);
+        let mut text = String::with_capacity(self.alloc, LINE_ROOM)?;
         for part in parts {
             part.push(self.alloc, self.look, &mut text)?;
         }

@@ -1,8 +1,10 @@
 // What is shown of one piece of a document, and its texts.
-ghost use Rattle.std.specs.Prelude.{◌≡◌, IfOk, min, string_bytes};
-ghost use Rattle.dump_rows.specs.Rows.{columns_text, mark_text, offset_column, size_of};
+ghost use Rattle.std.specs.Prelude.{◌≡◌, [], ◌∷◌, ◌++◌, IfOk, OnOk, min, string_bytes};
+ghost use Rattle.std.specs.List.{repeat};
+ghost use Rattle.der_io.specs.Characters.{space};
+ghost use Rattle.dump_rows.specs.Rows.{columns_text, mark_text, size_of};
 
-use crate::part::{Place, size_text};
+use crate::part::Place;
 use std::alloc::{AllocError, Global};
 
 // How many levels are shown by spaces and folds; deeper ones stand where the last of them does.
@@ -101,27 +103,21 @@ impl Row<'_> {
         }
     }
 
-    // Its offset, the sizes of its header and of its contents, and the spaces for its level.
-    pub fn columns(&self, alloc: Global) -> Result<String, AllocError>
-        ensures { IfOk result (λ text. string_bytes text ≡ columns_text self.now) }
+    // Pushes its offset, the sizes of its header and of its contents, and the spaces for its level. Inside octets of a
+    // string `>` stands before the offset.
+    pub fn push_columns(&self, out: &mut String) -> Result<(), AllocError>
+        ensures { OnOk result (string_bytes out.new ≡ string_bytes out.old ++ columns_text self.now) }
     {
-        let header = self.header;
-        let offset = self.offset_column(alloc)?;
-        let contents = size_text(alloc, self.place().contents)?;
-        let spaces = "  ".repeat(alloc, self.level())?;
-        format!(in alloc; "{offset} {header:>2} {contents:>7}  {spaces}")
-    }
-
-    // Its offset, behind `>` inside octets of a string.
-    fn offset_column(&self, alloc: Global) -> Result<String, AllocError>
-        ensures { IfOk result (λ text. string_bytes text ≡ offset_column self.now) }
-    {
-        let offset = self.offset;
-        if self.is_inside {
-            format!(in alloc; ">{offset:>6}")
-        } else {
-            format!(in alloc; "{offset:>7}")
+        let (offset, header) = (self.offset, self.header);
+        match self.is_inside {
+            true => write!(out, ">{offset:>6} {header:>2} ")?,
+            false => write!(out, "{offset:>7} {header:>2} ")?,
         }
+        match self.place().contents {
+            Some(size) => write!(out, "{size:>7}  ")?,
+            None => out.push_str("    inf  ")?,
+        }
+        push_spaces(self.level(), out)
     }
 
     // The name of its field, as it stands before the type.
@@ -195,4 +191,14 @@ fn write_behind(out: &mut String, has_colon: bool, value: &str) -> Result<(), Al
         (_, true) => write!(out, ": {value}"),
         (_, false) => write!(out, " {value}"),
     }
+}
+
+// Pushes two spaces for each level.
+fn push_spaces(levels: usize, out: &mut String) -> Result<(), AllocError>
+    ensures { OnOk result (string_bytes out.new ≡ string_bytes out.old ++ repeat levels (space ∷ space ∷ [])) }
+{
+    for _ in 0..levels {
+        out.push_str("  ")?;
+    }
+    Ok(())
 }

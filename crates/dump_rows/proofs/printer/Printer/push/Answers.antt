@@ -21,7 +21,8 @@ returns g c =
       fault = fault;
       line_is =
           e
-          ∙ (ap (λ z. line z c.deref-3.result.now c.deref-6.result.now) (c.deref.ensures ∙ c.in_ok-columns.ensures)
+          ∙ (ap (λ z. line z c.deref-3.result.now c.deref-6.result.now) (c.deref.ensures
+          ∙ (c.in_ok-push_columns.ensures ∙ ap (λ z. z ++ columns_text row) c.in_ok-columns.ensures.bytes))
           ∙ (ap (λ z. line (columns_text row) z c.deref-6.result.now)
           (c.deref-3.ensures ∙ c.in_ok-from_str.ensures.ok)
           ∙ ap (line (columns_text row) row.type_name.now) (c.deref-6.ensures ∙ c.in_ok-mark_text.ensures)));
