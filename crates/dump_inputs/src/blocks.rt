@@ -55,7 +55,7 @@ impl Show<'_> {
         let shown = Document {
             label: None,
             octets: Ok(block.octets),
-            field: block.place.field,
+            field: block.place.naming.field,
         };
         let verdict = self.push_named(name, shown, printer)?;
         Ok(Outcome::Written(verdict))

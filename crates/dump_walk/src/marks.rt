@@ -83,7 +83,7 @@ pub fn find_breaches(
 {
     let contents = &left[header.size..header.size + header.announced];
     // whether a primitive encoding at the place is a list of named bits (X.680 22.2)
-    let leaf = place.field.and_then(|field| field.leaf);
+    let leaf = place.naming.field.and_then(|field| field.leaf);
     let is_list = leaf.is_some_and(|leaf| matches!(leaf.rule, ValueRule::Named));
     Ok(Breaches {
         rules: broken_rules(alloc, left, header)?,

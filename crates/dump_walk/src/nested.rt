@@ -47,7 +47,10 @@ pub fn nested_in<'a>(
     if !place.shows_inside() {
         return Ok(None);
     }
-    let held = place.field.map_or(Held::Anything, |field| field.held);
+    let held = place
+        .naming
+        .field
+        .map_or(Held::Anything, |field| field.held);
     let Some(nested) = octets_inside(header, contents, held) else {
         return Ok(None);
     };

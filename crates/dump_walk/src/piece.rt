@@ -123,7 +123,7 @@ impl<'a> Piece<'a> {
         if self.place.style.is_plain {
             return None;
         }
-        let spot = self.place.field?;
+        let spot = self.place.naming.field?;
         match &self.kind {
             PieceKind::EndOfContents(_) | PieceKind::Unreadable(_) => None,
             _ => Some(Named {
@@ -157,7 +157,10 @@ impl<'a> Piece<'a> {
 
     // The names of the bits of it that are set, if its type has names for bits, and some are set.
     pub fn bits_text(&self, alloc: Global, shapes: &Shapes) -> Result<Option<String>, AllocError> {
-        match (self.place.field.and_then(|field| field.leaf), self.value()) {
+        match (
+            self.place.naming.field.and_then(|field| field.leaf),
+            self.value(),
+        ) {
             (Some(leaf), Some(LeafValue::Bits(bits))) => shapes.bits_text(
                 alloc,
                 leaf,

@@ -25,7 +25,13 @@ pub struct Place {
     // whether they stand in a string that is constructed
     pub is_segment: bool,
     pub style: Style,
-    // what says which fields they are
+    pub naming: Naming,
+}
+
+// Which fields blocks are.
+#[derive(Clone, Copy, Drop)]
+pub struct Naming {
+    // what says it
     pub around: Around,
     // which field the one is that stands here, if it is one
     pub field: Option<Spot>,
@@ -46,8 +52,10 @@ pub fn outermost(style: Style) -> Place
         documents: if style.is_flat { 0 } else { MOST_DOCUMENTS },
         is_segment: false,
         style,
-        around: style.around,
-        field: None,
+        naming: Naming {
+            around: style.around,
+            field: None,
+        },
     }
 }
 
@@ -75,7 +83,10 @@ impl Place {
         Ok(Place {
             depth: checked_sum(self.depth, levels)?,
             is_segment,
-            field,
+            naming: Naming {
+                around: self.naming.around,
+                field,
+            },
             ..self
         })
     }
@@ -96,17 +107,20 @@ impl Place {
             depth: checked_sum(self.depth, 1)?,
             documents: self.documents - 1,
             is_segment: false,
-            around: self
-                .field
-                .map_or(Around::Nothing, |spot| Around::String(spot)),
-            field: None,
+            naming: Naming {
+                around: self
+                    .naming
+                    .field
+                    .map_or(Around::Nothing, |spot| Around::String(spot)),
+                field: None,
+            },
             ..self
         })
     }
 
     // Of which type the contents octets of a primitive encoding here are.
     pub fn contents_type(self) -> ContentsType {
-        match self.field.and_then(|field| field.leaf) {
+        match self.naming.field.and_then(|field| field.leaf) {
             Some(leaf) if matches!(leaf.rule, ValueRule::Address) => ContentsType::Address,
             Some(leaf) => ContentsType::Known(leaf.tag),
             None => ContentsType::OfTag,

@@ -37,8 +37,8 @@ impl<'a> Walk<'a> {
             place,
             string: None,
             fields: Fields {
-                walk: FieldWalk::inside(alloc, shapes, place.around),
-                around: place.around,
+                walk: FieldWalk::inside(alloc, shapes, place.naming.around),
+                around: place.naming.around,
             },
         })
     }
