@@ -7,13 +7,15 @@
 //! after a run.
 //!
 //! `sources` reads the inputs, `show` writes their documents, each object of PEM before it decodes the next, and
-//! `blocks` finds the block at an offset, to show it or to write a part of it.
+//! `blocks` finds the block at an offset, to show it or to write a part of it. `other_forms` knows how forms begin that
+//! are not read.
 //!
 //! It opens nothing by itself: `der_dump` gives it files and standard input, and tests give it octets.
 #![tactic(auto)]
 
 mod appended;
 mod blocks;
+mod other_forms;
 mod outcome;
 mod show;
 mod sources;

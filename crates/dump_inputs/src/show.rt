@@ -1,6 +1,7 @@
 // How documents are shown.
 ghost use Rattle.std.specs.Prelude.{◌≡◌, false, OnOk};
 
+use crate::other_forms::other_form;
 use asn1_der::is_der;
 use der_forms::{FormFault, InputForm, Objects, PemObject, form_of, text_of};
 use der_io::{StreamFault, write_part};
@@ -82,7 +83,8 @@ impl<'o> Show<'o> {
         })
     }
 
-    // Writes each document of an input, one after another, behind its name where names are shown.
+    // Writes each document of an input, one after another, behind its name where names are shown. Where something is not
+    // read, a line behind them says which other form it may be of.
     pub fn push_input<W: Write>(
         &self,
         name: &str,
@@ -91,6 +93,21 @@ impl<'o> Show<'o> {
     ) -> Result<Verdict, StreamFault> {
         let file = self.push_file(name, printer)?;
         let text = text_of(self.alloc, input)?;
+        let other = other_form(&text);
+        let verdict = self.push_documents(file, text, printer)?;
+        if let (Verdict::Refused, Some(form)) = (verdict, other) {
+            self.push_other_form(form, printer)?;
+        }
+        Ok(verdict)
+    }
+
+    // Writes each document of a text.
+    fn push_documents<W: Write>(
+        &self,
+        file: Option<&str>,
+        text: Vec<u8>,
+        printer: &mut Printer<W>,
+    ) -> Result<Verdict, StreamFault> {
         let octets = match form_of(self.alloc, &text)? {
             InputForm::Pem => return self.push_objects(file, &text, printer),
             InputForm::Unread(fault) => return self.push_fault(file, None, &fault, printer),
@@ -98,6 +115,24 @@ impl<'o> Show<'o> {
             InputForm::Der => text,
         };
         self.push(file, Document::of(None, Ok(&octets)), printer)
+    }
+
+    // Writes which other form an input may be of, for people.
+    fn push_other_form<W: Write>(
+        &self,
+        form: &str,
+        printer: &mut Printer<W>,
+    ) -> Result<(), StreamFault> {
+        let why = format!(in self.alloc; "this may be {form}")?;
+        match self.options.output {
+            Output::Json => Ok(()),
+            Output::Lines | Output::Accounts => printer.push_refusal(&why),
+            Output::Page => {
+                printer.begin_section()?;
+                printer.push_refusal(&why)?;
+                printer.end_section(&[])
+            }
+        }
     }
 
     // Writes a document, or why it is not read, behind the name of its input where names are shown.
