@@ -2,7 +2,7 @@
 use Rattle.std.specs.Prelude.{ℕ, Bool, true, not, ◌==◌, ◌||◌, ◌&&◌, nat_le, List, [], ◌∷◌, ◌++◌, if◌then◌else◌, codes, drop, length, take}
 use Rattle.std.specs.Char.{is_ascii_hexdigit, is_ascii_whitespace}
 use Rattle.std.specs.List.{list_all, list_any, prefix_len}
-use Rattle.der_digits.specs.Search.{begins, up_to}
+use Rattle.der_digits.specs.Search.{begins, up_to, without_indent}
 use Rattle.der_io.specs.Characters.{colon, comma, hyphen, left_brace, right_brace, vertical_bar}
 
 -- the octet may stand between hex digits: white space, `:`, `,`, `-`, `{` and `}`
@@ -43,13 +43,20 @@ has_bits text =
     && (nat_le 18 (length text)
     && (list_all is_bit (take 8 (drop 10 text)) && begins_space (drop 18 text)))
 
--- the text comes in columns, as `xxd`, `hexdump -C` and `od -t x1` print them: an offset, digits, and maybe characters.
--- `od` prints seven octal digits of an offset, or six hex digits
+-- a pair of digits stands behind four digits of an offset and two spaces or more, as Wireshark and `certutil -encodehex`
+-- print it, which also has an indent
+abbrev pub has_short_offset : List ℕ → Bool
+has_short_offset text =
+    begins (codes "0000  ") (without_indent text)
+    && begins_space (drop 2 (without_indent (drop 4 (without_indent text))))
+
+-- the text comes in columns, as `xxd`, `hexdump -C`, `od -t x1`, Wireshark and `certutil -encodehex` print them: an
+-- offset, digits, and maybe characters. `od` prints seven octal digits of an offset, or six hex digits
 abbrev pub has_columns : List ℕ → Bool
 has_columns text =
     begins (codes "00000000: ") text
     || (begins (codes "00000000  ") text && list_any (λ b. b == vertical_bar) text)
-    || (has_pairs (codes "0000000 ") text || has_pairs (codes "000000 ") text)
+    || (has_pairs (codes "0000000 ") text || (has_pairs (codes "000000 ") text || has_short_offset text))
 
 -- the text begins with an offset, and then comes in another way, as that of `hexdump`, `od` and `xxd -b`: in words
 -- whose octets are turned round, in octal digits or in bits
@@ -62,16 +69,18 @@ has_other_columns text =
 abbrev pub offset_of : List ℕ → List ℕ
 offset_of line = take (prefix_len is_ascii_hexdigit line) line
 
--- the digits behind an offset: up to two spaces where `:` ends the offset, and else up to a `|` or `>`, at which a
--- column of characters begins
+-- the digits behind an offset, up to a column of characters: this begins with two spaces where `:` ends the offset, and
+-- else with a `|`, a `>`, or three spaces behind the digits
 abbrev pub column_behind : List ℕ → List ℕ
 column_behind text =
-    if begins (codes ":") text then up_to (codes "  ") (drop 1 text) else up_to (codes "|") (up_to (codes ">") text)
+    if begins (codes ":") text then up_to (codes "  ") (drop 1 text)
+    else up_to (codes "   ") (without_indent (up_to (codes "|") (up_to (codes ">") text)))
 
--- the column of digits in a line, behind six digits of an offset or more
+-- the column of digits in a line, behind an indent and four digits of an offset or more
 abbrev pub column_of : List ℕ → List ℕ
 column_of line =
-    if nat_le 6 (length (offset_of line)) then column_behind (drop (length (offset_of line)) line) else line
+    let text = without_indent line in
+    if nat_le 4 (length (offset_of text)) then column_behind (drop (length (offset_of text)) text) else line
 
 -- what may be the digits of the lines, which come in columns or do not
 abbrev pub digits_of : Bool → List (List ℕ) → List ℕ

@@ -3,14 +3,14 @@ ghost use Rattle.std.specs.Prelude.{◌≡◌, ◌++◌, ℕ, List, if◌then◌
 ghost use Rattle.std.specs.Iterator.{YieldsFirst, item_count};
 ghost use Rattle.std.specs.List.{list_all};
 ghost use Rattle.der_digits.specs.Decoded.{HasRead, IsRead};
-ghost use Rattle.der_digits.specs.Digits.{begins_prefix, begins_space, column_behind, column_of, digits_of, has_bits, has_columns, has_other_columns, has_pairs, is_bit, is_separator, offset_of, without_separators};
+ghost use Rattle.der_digits.specs.Digits.{begins_prefix, begins_space, column_behind, column_of, digits_of, has_bits, has_columns, has_other_columns, has_pairs, has_short_offset, is_bit, is_separator, offset_of, without_separators};
 ghost use Rattle.der_digits.specs.Spelled.{IsSpelling};
 ghost use Rattle.der_digits.specs.Symbols.{symbols_left};
 ghost use Rattle.der_io.specs.Lines.{lines_of};
 
 use crate::hex_decoder::{HexDecoder, Spelling};
 use crate::lines::Lines;
-use crate::search::{behind, part_before};
+use crate::search::{behind, part_before, without_indent};
 use std::alloc::{AllocError, Global};
 
 // The first offset in columns of octets: of `xxd`, of `od` by itself, and of `od -A x`.
@@ -20,13 +20,16 @@ pub(crate) const OCTAL_OFFSET: &[u8] = b"0000000 ";
 
 const HEX_OFFSET: &[u8] = b"000000 ";
 
+// That of Wireshark and of `certutil -encodehex`, whose lines may have an indent.
+const SHORT_OFFSET: &[u8] = b"0000  ";
+
 // Where the first eight bits stand in what `xxd -b` prints.
 const BITS_START: usize = 10;
 
 const BITS_END: usize = 18;
 
 // How many digits an offset has at least.
-const LEAST_OFFSET: usize = 6;
+const LEAST_OFFSET: usize = 4;
 
 /// What the digits of a text spell.
 pub fn spelling_in(alloc: Global, text: &[u8]) -> Result<Spelling, AllocError>
@@ -64,6 +67,7 @@ pub fn is_in_columns(text: &[u8]) -> bool
         || (text.starts_with(b"00000000  ") && text.contains(&b'|'))
         || has_pairs(OCTAL_OFFSET, text)
         || has_pairs(HEX_OFFSET, text)
+        || has_short_offset(text)
 }
 
 /// Whether the text comes in columns of another kind, as `hexdump` and `od` print them by default, and `xxd -b`.
@@ -80,6 +84,14 @@ pub(crate) fn has_pairs(offset: &[u8], text: &[u8]) -> bool
     ensures { result ≡ has_pairs offset.now text.now }
 {
     text.starts_with(offset) && begins_space(behind(2, behind(offset.len(), text)))
+}
+
+// Whether a pair of digits stands behind an offset of four digits and two spaces or more.
+fn has_short_offset(text: &[u8]) -> bool
+    ensures { result ≡ has_short_offset text.now }
+{
+    let text = without_indent(text);
+    text.starts_with(SHORT_OFFSET) && begins_space(behind(2, without_indent(behind(4, text))))
 }
 
 // Whether the text comes in columns of bits, as `xxd -b` prints them.
@@ -133,9 +145,10 @@ pub fn digits_part(in_columns: bool, line: &[u8]) -> &[u8]
 pub fn digits_column(line: &[u8]) -> &[u8]
     ensures { result.now ≡ column_of line.now }
 {
-    let size = offset_of(line).len();
+    let text = without_indent(line);
+    let size = offset_of(text).len();
     if size >= LEAST_OFFSET {
-        column_behind(behind(size, line))
+        column_behind(behind(size, text))
     } else {
         line
     }
@@ -148,7 +161,10 @@ fn column_behind(text: &[u8]) -> &[u8]
     if text.starts_with(b":") {
         part_before(b"  ", &text[1..])
     } else {
-        part_before(b"|", part_before(b">", text))
+        part_before(
+            b"   ",
+            without_indent(part_before(b"|", part_before(b">", text))),
+        )
     }
 }
 
