@@ -48,7 +48,7 @@ SECTIONS = [
     ("Laws", "simple_asn1", "law_*"),
     ("Laws of DER", "asn1_laws", "law_*"),
     ("PEM, base64 and hex digits", "der_forms", "document_of labelled_document_of LabelledDocument FormFault"
-     " text_of form_of InputForm Objects PemObject BadEnd"),
+     " text_of form_of InputForm Objects PemObject BadEnd to_pem LabelFault"),
     ("Names of object identifiers", "dump_names", "Names OwnNames NamesFault"),
 ]
 

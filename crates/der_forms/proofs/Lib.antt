@@ -1,3 +1,5 @@
 mod Decoded
 mod Numbers
+mod ReadBack
+mod Symbols
 mod Utf8

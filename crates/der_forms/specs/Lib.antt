@@ -4,3 +4,4 @@ pub mod Known
 pub mod Texts
 pub mod Objects
 pub mod Shown
+pub mod Written

@@ -1,6 +1,7 @@
-// Why an input has no document to be read.
+// Why an input has no document to be read, and why no PEM is written.
 ghost use Rattle.std.specs.Prelude.{◌≡◌};
 ghost use Rattle.der_forms.specs.declared.fault.FormFault.TheVariants.{OutOfMemory};
+ghost use Rattle.der_forms.specs.declared.fault.LabelFault.TheVariants.{OutOfMemory as no_memory};
 
 use std::alloc::AllocError;
 use thiserror::Error;
@@ -59,5 +60,25 @@ impl From<AllocError> for FormFault {
 
     fn from(_e: AllocError) -> FormFault {
         FormFault::OutOfMemory
+    }
+}
+
+/// Why no PEM is written.
+#[derive(Debug, Drop, Error, PartialEq)]
+pub enum LabelFault {
+    /// Memory ran out.
+    #[error("out of memory")]
+    OutOfMemory,
+    /// A label has printed characters of ASCII, between which single spaces and single hyphens may stand (RFC 7468,
+    /// section 3).
+    #[error("not a label of PEM")]
+    BadLabel,
+}
+
+impl From<AllocError> for LabelFault {
+    ghost from_gives = { λ _ e. e ≡ no_memory };
+
+    fn from(_e: AllocError) -> LabelFault {
+        LabelFault::OutOfMemory
     }
 }
