@@ -43,15 +43,15 @@ has_bits text =
     && (nat_le 18 (length text)
     && (list_all is_bit (take 8 (drop 10 text)) && begins_space (drop 18 text)))
 
--- a pair of digits stands behind four digits of an offset and two spaces or more, as Wireshark and `certutil -encodehex`
--- print it, which also has an indent
+-- a pair of digits stands behind four digits of an offset and two spaces or more, as Wireshark prints it, or a tab, as
+-- `certutil` does; there may be an indent
 abbrev pub has_short_offset : List ℕ → Bool
 has_short_offset text =
-    begins (codes "0000  ") (without_indent text)
+    (begins (codes "0000  ") (without_indent text) || begins (codes "0000\t") (without_indent text))
     && begins_space (drop 2 (without_indent (drop 4 (without_indent text))))
 
--- the text comes in columns, as `xxd`, `hexdump -C`, `od -t x1`, Wireshark and `certutil -encodehex` print them: an
--- offset, digits, and maybe characters. `od` prints seven octal digits of an offset, or six hex digits
+-- the text comes in columns, as `xxd`, `hexdump -C`, `od -t x1`, Wireshark and `certutil` print them: an offset, digits,
+-- and maybe characters. `od` prints seven octal digits of an offset, or six hex digits
 abbrev pub has_columns : List ℕ → Bool
 has_columns text =
     begins (codes "00000000: ") text

@@ -20,8 +20,8 @@ pub(crate) const OCTAL_OFFSET: &[u8] = b"0000000 ";
 
 const HEX_OFFSET: &[u8] = b"000000 ";
 
-// That of Wireshark and of `certutil -encodehex`, whose lines may have an indent.
-const SHORT_OFFSET: &[u8] = b"0000  ";
+// Those of Wireshark and of `certutil`, whose lines may have an indent.
+const SHORT_OFFSETS: [&[u8]; 2] = [b"0000  ", b"0000\t"];
 
 // Where the first eight bits stand in what `xxd -b` prints.
 const BITS_START: usize = 10;
@@ -86,12 +86,14 @@ pub(crate) fn has_pairs(offset: &[u8], text: &[u8]) -> bool
     text.starts_with(offset) && begins_space(behind(2, behind(offset.len(), text)))
 }
 
-// Whether a pair of digits stands behind an offset of four digits and two spaces or more.
+// Whether a pair of digits stands behind an offset of four digits, and two spaces or more or a tab.
 fn has_short_offset(text: &[u8]) -> bool
     ensures { result ≡ has_short_offset text.now }
 {
     let text = without_indent(text);
-    text.starts_with(SHORT_OFFSET) && begins_space(behind(2, without_indent(behind(4, text))))
+    let [spaces, tab] = SHORT_OFFSETS;
+    (text.starts_with(spaces) || text.starts_with(tab))
+        && begins_space(behind(2, without_indent(behind(4, text))))
 }
 
 // Whether the text comes in columns of bits, as `xxd -b` prints them.
