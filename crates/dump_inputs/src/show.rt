@@ -93,28 +93,18 @@ impl<'o> Show<'o> {
     ) -> Result<Verdict, StreamFault> {
         let file = self.push_file(name, printer)?;
         let text = text_of(self.alloc, input)?;
-        let other = other_form(&text);
-        let verdict = self.push_documents(file, text, printer)?;
-        if let (Verdict::Refused, Some(form)) = (verdict, other) {
+        let verdict = match form_of(self.alloc, &text)? {
+            InputForm::Pem => self.push_objects(file, &text, printer)?,
+            InputForm::Unread(fault) => self.push_fault(file, None, &fault, printer)?,
+            InputForm::Spelled(octets) | InputForm::LaidOut(octets) => {
+                self.push(file, Document::of(None, Ok(&octets)), printer)?
+            }
+            InputForm::Der => self.push(file, Document::of(None, Ok(&text)), printer)?,
+        };
+        if let (Verdict::Refused, Some(form)) = (verdict, other_form(&text)) {
             self.push_other_form(form, printer)?;
         }
         Ok(verdict)
-    }
-
-    // Writes each document of a text.
-    fn push_documents<W: Write>(
-        &self,
-        file: Option<&str>,
-        text: Vec<u8>,
-        printer: &mut Printer<W>,
-    ) -> Result<Verdict, StreamFault> {
-        let octets = match form_of(self.alloc, &text)? {
-            InputForm::Pem => return self.push_objects(file, &text, printer),
-            InputForm::Unread(fault) => return self.push_fault(file, None, &fault, printer),
-            InputForm::Spelled(octets) | InputForm::LaidOut(octets) => octets,
-            InputForm::Der => text,
-        };
-        self.push(file, Document::of(None, Ok(&octets)), printer)
     }
 
     // Writes which other form an input may be of, for people.

@@ -173,7 +173,11 @@ impl Dumper<'_> {
         named: Option<Named>,
         texts: &'a Texts,
     ) -> RowValue<'a> {
-        let named = named.filter(|_| is_read(piece));
+        // what its tag and its number mean is shown where it is gone into or has a value
+        let named = match &piece.kind {
+            PieceKind::Opened(_, _, _) | PieceKind::Leaf(_, _, Some(_)) => named,
+            _ => None,
+        };
         RowValue {
             alternative: named.and_then(|named| named.alternative),
             is_constructed: is_shown_constructed(piece),
@@ -217,14 +221,6 @@ struct Texts {
     type_name: String,
     value: String,
     bits: Option<String>,
-}
-
-// Whether a piece is gone into or has a value, so that what its tag and its number mean is shown.
-fn is_read(piece: &Piece<'_>) -> bool {
-    matches!(
-        &piece.kind,
-        PieceKind::Opened(_, _, _) | PieceKind::Leaf(_, _, Some(_))
-    )
 }
 
 // What is wrong with a piece, if anything is.
