@@ -1,6 +1,6 @@
 //! Names of object identifiers, with the standard that each comes from.
 //!
-//! [`Names`] is a table of 1,200 names, made once; [`OwnNames`] are those of a user, which come before it.
+//! [`Names`] is a table of 1,400 names, made once; [`OwnNames`] are those of a user, which come before it.
 //!
 //! ```rust
 //! use dump_names::Names;
