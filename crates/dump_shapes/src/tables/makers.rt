@@ -13,7 +13,7 @@ SpcValue ::= OPEN
 SpcPeImageData ::= SEQUENCE
   flags SpcPeImageFlags OPTIONAL
   file [0] EXPLICIT SpcLink OPTIONAL
-SpcPeImageFlags ::= BIT STRING
+SpcPeImageFlags ::= BIT STRING NAMED
   0 includeResources
   1 includeDebugInfo
   2 includeImportAddressTable
