@@ -1,4 +1,4 @@
-// Names under 2, jointly assigned: X.500, NIST, the CA/Browser Forum, countries.
+// Names under 2, jointly assigned: X.500, NIST, DigiCert, TCG, ICAO, the CA/Browser Forum, countries.
 pub const JOINT: &str = "\
 2.16.756.1.89.1.2.1.1 swissSignGoldPolicy SwissSign
 2.16.840.1.101.3.4.1.1 aes128-ECB NIST CSOR

@@ -1,4 +1,4 @@
-// Names under 1.0 and 1.2, ISO's standards and member bodies: PKCS, ANSI X9, GOST, Korea and China.
+// Names under 1.0 and 1.2, ISO's standards and member bodies: PKCS, ANSI X9, Apple, GOST, Korea and China.
 pub const MEMBER_BODIES: &str = "\
 1.0.10118.3.0.55 whirlpool ISO/IEC 10118-3
 1.0.9797.3.4 gmac ISO/IEC 9797-3

@@ -1,4 +1,4 @@
-// Names under 1.3, identified organizations: PKIX, SEC 2, Teletrust, Microsoft, SNMP.
+// Names under 1.3, identified organizations: PKIX, SEC 2, Teletrust, Microsoft, Sigstore, SNMP.
 pub const ORGANIZATIONS: &str = "\
 1.3.101.1.4.1 SXNetID Thawte
 1.3.101.110 X25519 RFC 8410
