@@ -21,16 +21,36 @@ pub const ITU_T: &str = "\
 0.3.4401.5.3.1.9.6 camellia-128-gcm NTT Camellia
 0.3.4401.5.3.1.9.7 camellia-128-ccm NTT Camellia
 0.3.4401.5.3.1.9.9 camellia-128-ctr NTT Camellia
+0.4.0.1456.1.1 qcp-public-with-sscd ETSI TS 101 456
+0.4.0.1456.1.2 qcp-public ETSI TS 101 456
 0.4.0.1862.1.1 qcCompliance ETSI EN 319 412-5
 0.4.0.1862.1.2 qcLimitValue ETSI EN 319 412-5
 0.4.0.1862.1.3 qcRetentionPeriod ETSI EN 319 412-5
 0.4.0.1862.1.4 qcSSCD ETSI EN 319 412-5
 0.4.0.1862.1.5 qcPDS ETSI EN 319 412-5
 0.4.0.1862.1.6 qcType ETSI EN 319 412-5
+0.4.0.1862.1.6.1 qct-esign ETSI EN 319 412-5
+0.4.0.1862.1.6.2 qct-eseal ETSI EN 319 412-5
+0.4.0.1862.1.6.3 qct-web ETSI EN 319 412-5
+0.4.0.1862.1.7 qcCClegislation ETSI EN 319 412-5
+0.4.0.194112.1.0 qcp-natural ETSI EN 319 411-2
+0.4.0.194112.1.1 qcp-legal ETSI EN 319 411-2
+0.4.0.194112.1.2 qcp-natural-qscd ETSI EN 319 411-2
+0.4.0.194112.1.3 qcp-legal-qscd ETSI EN 319 411-2
+0.4.0.194112.1.4 qcp-web ETSI EN 319 411-2
+0.4.0.194121.1.1 semanticsId-Natural ETSI EN 319 412-1
+0.4.0.194121.1.2 semanticsId-Legal ETSI EN 319 412-1
+0.4.0.19495.1.1 psp-as ETSI TS 119 495
+0.4.0.19495.1.2 psp-pi ETSI TS 119 495
+0.4.0.19495.1.3 psp-ai ETSI TS 119 495
+0.4.0.19495.1.4 psp-ic ETSI TS 119 495
+0.4.0.19495.2 psd2-qcStatement ETSI TS 119 495
+0.4.0.2023.1.1 baseline-ts-policy ETSI EN 319 421
 0.4.0.2042.1.1 ncp ETSI EN 319 411-1
 0.4.0.2042.1.2 ncpPlus ETSI EN 319 411-1
 0.4.0.2042.1.3 lcp ETSI EN 319 411-1
 0.4.0.2042.1.4 evcp ETSI EN 319 411-1
+0.4.0.2042.1.5 evcpPlus ETSI TS 102 042
 0.4.0.2042.1.6 dvcp ETSI EN 319 411-1
 0.4.0.2042.1.7 ovcp ETSI EN 319 411-1
 0.9.2342.19200300.100.1 pilotAttributeType RFC 4524

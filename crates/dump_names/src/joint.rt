@@ -1,4 +1,4 @@
-// Names under 2, jointly assigned: X.500, NIST, the CA/Browser Forum, countries.
+// Names under 2, jointly assigned: X.500, NIST, DigiCert, TCG, ICAO, the CA/Browser Forum, countries.
 pub const JOINT: &str = "\
 2.16.756.1.89.1.2.1.1 swissSignGoldPolicy SwissSign
 2.16.840.1.101.3.4.1.1 aes128-ECB NIST CSOR
@@ -33,6 +33,8 @@ pub const JOINT: &str = "\
 2.16.840.1.101.3.4.2.14 hmacWithSHA3-256 NIST CSOR
 2.16.840.1.101.3.4.2.15 hmacWithSHA3-384 NIST CSOR
 2.16.840.1.101.3.4.2.16 hmacWithSHA3-512 NIST CSOR
+2.16.840.1.101.3.4.2.17 shake128-len NIST CSOR
+2.16.840.1.101.3.4.2.18 shake256-len NIST CSOR
 2.16.840.1.101.3.4.2.19 kmac128 NIST CSOR
 2.16.840.1.101.3.4.2.2 sha384 NIST CSOR
 2.16.840.1.101.3.4.2.20 kmac256 NIST CSOR
@@ -55,8 +57,35 @@ pub const JOINT: &str = "\
 2.16.840.1.101.3.4.3.18 ml-dsa-65 NIST CSOR
 2.16.840.1.101.3.4.3.19 ml-dsa-87 NIST CSOR
 2.16.840.1.101.3.4.3.2 dsa-with-sha256 NIST CSOR
+2.16.840.1.101.3.4.3.20 slh-dsa-sha2-128s NIST CSOR
+2.16.840.1.101.3.4.3.21 slh-dsa-sha2-128f NIST CSOR
+2.16.840.1.101.3.4.3.22 slh-dsa-sha2-192s NIST CSOR
+2.16.840.1.101.3.4.3.23 slh-dsa-sha2-192f NIST CSOR
+2.16.840.1.101.3.4.3.24 slh-dsa-sha2-256s NIST CSOR
+2.16.840.1.101.3.4.3.25 slh-dsa-sha2-256f NIST CSOR
+2.16.840.1.101.3.4.3.26 slh-dsa-shake-128s NIST CSOR
+2.16.840.1.101.3.4.3.27 slh-dsa-shake-128f NIST CSOR
+2.16.840.1.101.3.4.3.28 slh-dsa-shake-192s NIST CSOR
+2.16.840.1.101.3.4.3.29 slh-dsa-shake-192f NIST CSOR
 2.16.840.1.101.3.4.3.3 dsa-with-sha384 NIST CSOR
+2.16.840.1.101.3.4.3.30 slh-dsa-shake-256s NIST CSOR
+2.16.840.1.101.3.4.3.31 slh-dsa-shake-256f NIST CSOR
+2.16.840.1.101.3.4.3.32 hash-ml-dsa-44-with-sha512 NIST CSOR
+2.16.840.1.101.3.4.3.33 hash-ml-dsa-65-with-sha512 NIST CSOR
+2.16.840.1.101.3.4.3.34 hash-ml-dsa-87-with-sha512 NIST CSOR
+2.16.840.1.101.3.4.3.35 hash-slh-dsa-sha2-128s-with-sha256 NIST CSOR
+2.16.840.1.101.3.4.3.36 hash-slh-dsa-sha2-128f-with-sha256 NIST CSOR
+2.16.840.1.101.3.4.3.37 hash-slh-dsa-sha2-192s-with-sha512 NIST CSOR
+2.16.840.1.101.3.4.3.38 hash-slh-dsa-sha2-192f-with-sha512 NIST CSOR
+2.16.840.1.101.3.4.3.39 hash-slh-dsa-sha2-256s-with-sha512 NIST CSOR
 2.16.840.1.101.3.4.3.4 dsa-with-sha512 NIST CSOR
+2.16.840.1.101.3.4.3.40 hash-slh-dsa-sha2-256f-with-sha512 NIST CSOR
+2.16.840.1.101.3.4.3.41 hash-slh-dsa-shake-128s-with-shake128 NIST CSOR
+2.16.840.1.101.3.4.3.42 hash-slh-dsa-shake-128f-with-shake128 NIST CSOR
+2.16.840.1.101.3.4.3.43 hash-slh-dsa-shake-192s-with-shake256 NIST CSOR
+2.16.840.1.101.3.4.3.44 hash-slh-dsa-shake-192f-with-shake256 NIST CSOR
+2.16.840.1.101.3.4.3.45 hash-slh-dsa-shake-256s-with-shake256 NIST CSOR
+2.16.840.1.101.3.4.3.46 hash-slh-dsa-shake-256f-with-shake256 NIST CSOR
 2.16.840.1.101.3.4.3.5 id-dsa-with-sha3-224 NIST CSOR
 2.16.840.1.101.3.4.3.6 id-dsa-with-sha3-256 NIST CSOR
 2.16.840.1.101.3.4.3.7 id-dsa-with-sha3-384 NIST CSOR
@@ -89,12 +118,54 @@ pub const JOINT: &str = "\
 2.16.840.1.113730.3.4.18 proxiedAuthorization RFC 4370
 2.16.840.1.113730.3.4.2 manageDsaIT RFC 3296
 2.16.840.1.113730.4.1 netscapeServerGatedCrypto Netscape
+2.16.840.1.114412.1.1 digiCertOV DigiCert
+2.16.840.1.114412.1.2 digiCertDV DigiCert
+2.16.840.1.114412.2.1 digiCertEV DigiCert
+2.16.840.1.114412.3.1 digiCertCodeSigning DigiCert
+2.16.840.1.114412.3.2 digiCertEVCodeSigning DigiCert
+2.16.840.1.114412.7.1 digiCertTimeStamping DigiCert
+2.23.133.2.1 tcg-at-tpmManufacturer TCG
+2.23.133.2.10 tcg-at-securityQualities TCG
+2.23.133.2.15 tcg-at-tpmIdLabel TCG
+2.23.133.2.16 tcg-at-tpmSpecification TCG
+2.23.133.2.18 tcg-at-tpmSecurityAssertions TCG
+2.23.133.2.2 tcg-at-tpmModel TCG
+2.23.133.2.3 tcg-at-tpmVersion TCG
+2.23.133.2.4 tcg-at-platformManufacturer TCG
+2.23.133.2.5 tcg-at-platformModel TCG
+2.23.133.2.6 tcg-at-platformVersion TCG
+2.23.133.3.1 tcg-prt-tpmIdProtocol TCG
+2.23.133.5.4.1 tcg-dice-TcbInfo TCG
+2.23.133.8.1 tcg-kp-EKCertificate TCG
+2.23.133.8.2 tcg-kp-PlatformAttributeCertificate TCG
+2.23.133.8.3 tcg-kp-AIKCertificate TCG
+2.23.136.1.1.1 ldsSecurityObject ICAO Doc 9303
+2.23.136.1.1.2 cscaMasterList ICAO Doc 9303
+2.23.136.1.1.3 cscaMasterListSigningKey ICAO Doc 9303
+2.23.136.1.1.5 aaProtocolObject ICAO Doc 9303
+2.23.136.1.1.6.1 nameChange ICAO Doc 9303
+2.23.136.1.1.6.2 documentTypeList ICAO Doc 9303
+2.23.136.1.1.7 deviationList ICAO Doc 9303
+2.23.136.1.1.8 deviationListSigningKey ICAO Doc 9303
 2.23.140.1.1 extended-validation CA/Browser Forum
 2.23.140.1.2.1 domain-validated CA/Browser Forum
 2.23.140.1.2.2 organization-validated CA/Browser Forum
 2.23.140.1.2.3 individual-validated CA/Browser Forum
 2.23.140.1.3 extended-validation-codesigning CA/Browser Forum
 2.23.140.1.4.1 code-signing-requirements CA/Browser Forum
+2.23.140.1.4.2 timestamping CA/Browser Forum
+2.23.140.1.5.1.1 mailbox-validated-legacy CA/Browser Forum
+2.23.140.1.5.1.2 mailbox-validated-multipurpose CA/Browser Forum
+2.23.140.1.5.1.3 mailbox-validated-strict CA/Browser Forum
+2.23.140.1.5.2.1 organization-validated-legacy CA/Browser Forum
+2.23.140.1.5.2.2 organization-validated-multipurpose CA/Browser Forum
+2.23.140.1.5.2.3 organization-validated-strict CA/Browser Forum
+2.23.140.1.5.3.1 sponsor-validated-legacy CA/Browser Forum
+2.23.140.1.5.3.2 sponsor-validated-multipurpose CA/Browser Forum
+2.23.140.1.5.3.3 sponsor-validated-strict CA/Browser Forum
+2.23.140.1.5.4.1 individual-validated-legacy CA/Browser Forum
+2.23.140.1.5.4.2 individual-validated-multipurpose CA/Browser Forum
+2.23.140.1.5.4.3 individual-validated-strict CA/Browser Forum
 2.23.140.3.1 cabfOrganizationIdentifier CA/Browser Forum
 2.23.43.1 wap-wsg WAP
 2.23.43.1.4.1 wap-wsg-idm-ecid-wtls1 WAP

@@ -1,6 +1,6 @@
 //! Names of object identifiers, with the standard that each comes from.
 //!
-//! [`Names`] is a table of 1,200 names, made once; [`OwnNames`] are those of a user, which come before it.
+//! [`Names`] is a table of 1,400 names, made once; [`OwnNames`] are those of a user, which come before it.
 //!
 //! ```rust
 //! use dump_names::Names;
@@ -14,7 +14,8 @@
 //!
 //! The texts of the table have a row a name: the number, the name and the standard, with a space between two, in the
 //! order of the numbers' texts. Numbers and names are those of the standards named; many of algorithms, of S/MIME and
-//! of WAP are as `openssl list -objects` of OpenSSL 3.0 has them.
+//! of WAP are as `openssl list -objects` of OpenSSL 3.0 has them. Where no standard has a number, its maker stands in
+//! the place of one, such as Apple or Microsoft.
 #![tactic(auto)]
 
 mod itu_t;

@@ -1,4 +1,4 @@
-// Names under 1.0 and 1.2, ISO's standards and member bodies: PKCS, ANSI X9, GOST, Korea and China.
+// Names under 1.0 and 1.2, ISO's standards and member bodies: PKCS, ANSI X9, Apple, GOST, Korea and China.
 pub const MEMBER_BODIES: &str = "\
 1.0.10118.3.0.55 whirlpool ISO/IEC 10118-3
 1.0.9797.3.4 gmac ISO/IEC 9797-3
@@ -208,8 +208,8 @@ pub const MEMBER_BODIES: &str = "\
 1.2.840.113533.7.65.0 entrustVersInfo Entrust
 1.2.840.113533.7.66.10 cast5-cbc RFC 2144
 1.2.840.113533.7.66.12 pbeWithMD5AndCast5CBC RFC 2144
-1.2.840.113533.7.66.13 id-PasswordBasedMAC RFC 2144
-1.2.840.113533.7.66.30 id-DHBasedMac RFC 2144
+1.2.840.113533.7.66.13 id-PasswordBasedMAC RFC 4211
+1.2.840.113533.7.66.30 id-DHBasedMac RFC 4210
 1.2.840.113549.1.1 pkcs1 PKCS
 1.2.840.113549.1.1.1 rsaEncryption RFC 8017
 1.2.840.113549.1.1.10 RSASSA-PSS RFC 8017
@@ -326,6 +326,7 @@ pub const MEMBER_BODIES: &str = "\
 1.2.840.113549.1.9.16.2.9 id-smime-aa-equivalentLabels RFC 7107
 1.2.840.113549.1.9.16.3 id-smime-alg RFC 7107
 1.2.840.113549.1.9.16.3.1 id-smime-alg-ESDHwith3DES RFC 7107
+1.2.840.113549.1.9.16.3.17 id-alg-hss-lms-hashsig RFC 9708
 1.2.840.113549.1.9.16.3.2 id-smime-alg-ESDHwithRC2 RFC 7107
 1.2.840.113549.1.9.16.3.3 id-smime-alg-3DESwrap RFC 7107
 1.2.840.113549.1.9.16.3.4 id-smime-alg-RC2wrap RFC 7107
@@ -375,7 +376,34 @@ pub const MEMBER_BODIES: &str = "\
 1.2.840.113549.3.4 rc4 RSA Laboratories
 1.2.840.113549.3.7 des-EDE3-CBC RFC 8018
 1.2.840.113549.3.8 rc5-cbc RSA Laboratories
+1.2.840.113554.1.2.2 krb5 RFC 4121
 1.2.840.113556.1.4.319 pagedResults RFC 2696
 1.2.840.113556.1.4.473 sortKeyRequest RFC 2891
 1.2.840.113556.1.4.474 sortKeyResponse RFC 2891
+1.2.840.113635.100.1.16 appleCodeSigningPolicy Apple
+1.2.840.113635.100.1.3 appleSSLPolicy Apple
+1.2.840.113635.100.4.1 appleCodeSigning Apple
+1.2.840.113635.100.4.1.1 appleCodeSigningDevelopment Apple
+1.2.840.113635.100.4.1.2 appleSoftwareUpdateSigning Apple
+1.2.840.113635.100.4.1.3 appleCodeSigningThirdParty Apple
+1.2.840.113635.100.4.1.4 appleResourceSigning Apple
+1.2.840.113635.100.4.2 appleIChatSigning Apple
+1.2.840.113635.100.4.3 appleIChatEncryption Apple
+1.2.840.113635.100.4.4 appleSystemIdentity Apple
+1.2.840.113635.100.5.1 appleCertificatePolicyID Apple
+1.2.840.113635.100.6.1.12 appleMacDeveloper Apple
+1.2.840.113635.100.6.1.13 appleDeveloperIDApplication Apple
+1.2.840.113635.100.6.1.14 appleDeveloperIDInstaller Apple
+1.2.840.113635.100.6.1.2 appleIPhoneDeveloper Apple
+1.2.840.113635.100.6.1.4 appleIPhoneDistribution Apple
+1.2.840.113635.100.6.1.7 appleMacAppDistribution Apple
+1.2.840.113635.100.6.1.9 appleMacAppStore Apple
+1.2.840.113635.100.6.11.1 appleReceiptSigning Apple
+1.2.840.113635.100.6.2.1 appleWWDRIntermediate Apple
+1.2.840.113635.100.6.2.6 appleDeveloperIDIntermediate Apple
+1.2.840.113635.100.6.29 applePayLeaf Apple
+1.2.840.113635.100.6.3.1 applePushDevelopment Apple
+1.2.840.113635.100.6.3.2 applePushProduction Apple
+1.2.840.113635.100.8.2 appleAppAttestNonce Apple
+1.2.840.48018.1.2.2 ms-krb5 Microsoft
 ";

@@ -1,4 +1,4 @@
-// Names under 1.3, identified organizations: PKIX, SEC 2, Teletrust, Microsoft, SNMP.
+// Names under 1.3, identified organizations: PKIX, SEC 2, Teletrust, Microsoft, Sigstore, SNMP.
 pub const ORGANIZATIONS: &str = "\
 1.3.101.1.4.1 SXNetID Thawte
 1.3.101.110 X25519 RFC 8410
@@ -166,6 +166,7 @@ pub const ORGANIZATIONS: &str = "\
 1.3.6.1.2.1.31.1.1.1.15 ifHighSpeed RFC 2863
 1.3.6.1.2.1.31.1.1.1.18 ifAlias RFC 2863
 1.3.6.1.2.1.31.1.1.1.6 ifHCInOctets RFC 2863
+1.3.6.1.4.1.11129.2.1.17 androidKeyAttestation Google
 1.3.6.1.4.1.11129.2.4.2 signedCertificateTimestampList RFC 6962
 1.3.6.1.4.1.11129.2.4.3 ctPoison RFC 6962
 1.3.6.1.4.1.11129.2.4.4 ctPrecertificateSigning RFC 6962
@@ -194,29 +195,79 @@ pub const ORGANIZATIONS: &str = "\
 1.3.6.1.4.1.250.1.57 labeledURI RFC 2079
 1.3.6.1.4.1.250.3.15 labeledURIObject RFC 2079
 1.3.6.1.4.1.3029.1.2 bf-cbc Cryptlib
+1.3.6.1.4.1.311.10.1 certTrustList Microsoft
+1.3.6.1.4.1.311.10.12.1 anyApplicationPolicy Microsoft
 1.3.6.1.4.1.311.10.3.1 certTrustListSigning Microsoft
+1.3.6.1.4.1.311.10.3.10 qualifiedSubordination Microsoft
+1.3.6.1.4.1.311.10.3.11 keyRecovery Microsoft
 1.3.6.1.4.1.311.10.3.12 documentSigning Microsoft
+1.3.6.1.4.1.311.10.3.13 lifetimeSigning Microsoft
+1.3.6.1.4.1.311.10.3.2 timeStampSigning Microsoft
 1.3.6.1.4.1.311.10.3.3 serverGatedCrypto Microsoft
 1.3.6.1.4.1.311.10.3.4 encryptedFileSystem Microsoft
+1.3.6.1.4.1.311.10.3.4.1 efsRecovery Microsoft
+1.3.6.1.4.1.311.10.3.5 whqlCrypto Microsoft
+1.3.6.1.4.1.311.10.3.6 nt5Crypto Microsoft
+1.3.6.1.4.1.311.10.3.7 oemWHQLCrypto Microsoft
+1.3.6.1.4.1.311.10.3.8 embeddedNTCrypto Microsoft
+1.3.6.1.4.1.311.10.3.9 rootListSigner Microsoft
+1.3.6.1.4.1.311.12.1.1 catalogList Microsoft
+1.3.6.1.4.1.311.12.1.2 catalogListMember Microsoft
+1.3.6.1.4.1.311.12.2.1 catalogNameValue Microsoft
+1.3.6.1.4.1.311.12.2.2 catalogMemberInfo Microsoft
+1.3.6.1.4.1.311.13.1 renewalCertificate Microsoft
+1.3.6.1.4.1.311.13.2.1 enrollmentNameValuePair Microsoft
+1.3.6.1.4.1.311.13.2.2 enrollmentCSP Microsoft
+1.3.6.1.4.1.311.13.2.3 osVersion Microsoft
 1.3.6.1.4.1.311.17.1 cspName Microsoft
 1.3.6.1.4.1.311.17.2 LocalKeySet Microsoft
+1.3.6.1.4.1.311.17.3 pkcs12ExtendedAttributes Microsoft
+1.3.6.1.4.1.311.2.1.10 spcAgencyInfo Microsoft
 1.3.6.1.4.1.311.2.1.11 spcStatementType Microsoft
 1.3.6.1.4.1.311.2.1.12 spcSpOpusInfo Microsoft
 1.3.6.1.4.1.311.2.1.14 msExtReq Microsoft
 1.3.6.1.4.1.311.2.1.15 spcPEImageData Microsoft
 1.3.6.1.4.1.311.2.1.21 individualCodeSigning Microsoft
 1.3.6.1.4.1.311.2.1.22 commercialCodeSigning Microsoft
+1.3.6.1.4.1.311.2.1.25 spcCabData Microsoft
+1.3.6.1.4.1.311.2.1.30 spcSipInfo Microsoft
 1.3.6.1.4.1.311.2.1.4 spcIndirectDataContext Microsoft
+1.3.6.1.4.1.311.2.2.10 ntlmssp Microsoft
+1.3.6.1.4.1.311.2.2.30 negoex Microsoft
+1.3.6.1.4.1.311.2.4.1 nestedSignature Microsoft
 1.3.6.1.4.1.311.20.2 certificateTemplateName Microsoft
+1.3.6.1.4.1.311.20.2.1 enrollmentAgent Microsoft
 1.3.6.1.4.1.311.20.2.2 smartcardLogon Microsoft
 1.3.6.1.4.1.311.20.2.3 userPrincipalName Microsoft
 1.3.6.1.4.1.311.21.1 caVersion Microsoft
 1.3.6.1.4.1.311.21.10 applicationCertificatePolicies Microsoft
+1.3.6.1.4.1.311.21.11 applicationPolicyMappings Microsoft
+1.3.6.1.4.1.311.21.12 applicationPolicyConstraints Microsoft
+1.3.6.1.4.1.311.21.13 archivedKey Microsoft
+1.3.6.1.4.1.311.21.14 crlSelfCDP Microsoft
+1.3.6.1.4.1.311.21.19 dsEmailReplication Microsoft
 1.3.6.1.4.1.311.21.2 previousCaCertificateHash Microsoft
+1.3.6.1.4.1.311.21.20 requestClientInfo Microsoft
+1.3.6.1.4.1.311.21.22 crossCaVersion Microsoft
+1.3.6.1.4.1.311.21.3 crlVirtualBase Microsoft
+1.3.6.1.4.1.311.21.4 crlNextPublish Microsoft
+1.3.6.1.4.1.311.21.5 caExchange Microsoft
+1.3.6.1.4.1.311.21.6 keyRecoveryAgent Microsoft
 1.3.6.1.4.1.311.21.7 certificateTemplate Microsoft
+1.3.6.1.4.1.311.25.1 ntdsReplication Microsoft
+1.3.6.1.4.1.311.25.2 ntdsCaSecurity Microsoft
+1.3.6.1.4.1.311.25.2.1 ntdsObjectSid Microsoft
+1.3.6.1.4.1.311.3.2.1 spcTimeStampRequest Microsoft
+1.3.6.1.4.1.311.3.3.1 rfc3161CounterSign Microsoft
+1.3.6.1.4.1.311.54.1.2 remoteDesktopAuthentication Microsoft
+1.3.6.1.4.1.311.60.1.1 rootProgramFlags Microsoft
 1.3.6.1.4.1.311.60.2.1.1 jurisdictionLocalityName Microsoft
 1.3.6.1.4.1.311.60.2.1.2 jurisdictionStateOrProvinceName Microsoft
 1.3.6.1.4.1.311.60.2.1.3 jurisdictionCountryName Microsoft
+1.3.6.1.4.1.311.61.1.1 kernelModeCodeSigning Microsoft
+1.3.6.1.4.1.311.67.1.1 bitLockerDriveEncryption Microsoft
+1.3.6.1.4.1.311.67.1.2 bitLockerDataRecoveryAgent Microsoft
+1.3.6.1.4.1.311.80.1 documentEncryption Microsoft
 1.3.6.1.4.1.4203.1.10.1 subentries RFC 3672
 1.3.6.1.4.1.4203.1.11.1 passwordModify RFC 3062
 1.3.6.1.4.1.4203.1.11.3 whoAmI RFC 4532
@@ -225,11 +276,38 @@ pub const ORGANIZATIONS: &str = "\
 1.3.6.1.4.1.4203.1.9.1.2 syncState RFC 4533
 1.3.6.1.4.1.4203.1.9.1.3 syncDone RFC 4533
 1.3.6.1.4.1.4203.1.9.1.4 syncInfo RFC 4533
+1.3.6.1.4.1.45724.1.1.4 id-fido-gen-ce-aaguid FIDO
+1.3.6.1.4.1.57264.1.1 issuer Sigstore
+1.3.6.1.4.1.57264.1.10 buildSignerDigest Sigstore
+1.3.6.1.4.1.57264.1.11 runnerEnvironment Sigstore
+1.3.6.1.4.1.57264.1.12 sourceRepositoryURI Sigstore
+1.3.6.1.4.1.57264.1.13 sourceRepositoryDigest Sigstore
+1.3.6.1.4.1.57264.1.14 sourceRepositoryRef Sigstore
+1.3.6.1.4.1.57264.1.15 sourceRepositoryIdentifier Sigstore
+1.3.6.1.4.1.57264.1.16 sourceRepositoryOwnerURI Sigstore
+1.3.6.1.4.1.57264.1.17 sourceRepositoryOwnerIdentifier Sigstore
+1.3.6.1.4.1.57264.1.18 buildConfigURI Sigstore
+1.3.6.1.4.1.57264.1.19 buildConfigDigest Sigstore
+1.3.6.1.4.1.57264.1.2 gitHubWorkflowTrigger Sigstore
+1.3.6.1.4.1.57264.1.20 buildTrigger Sigstore
+1.3.6.1.4.1.57264.1.21 runInvocationURI Sigstore
+1.3.6.1.4.1.57264.1.22 sourceRepositoryVisibilityAtSigning Sigstore
+1.3.6.1.4.1.57264.1.3 gitHubWorkflowSHA Sigstore
+1.3.6.1.4.1.57264.1.4 gitHubWorkflowName Sigstore
+1.3.6.1.4.1.57264.1.5 gitHubWorkflowRepository Sigstore
+1.3.6.1.4.1.57264.1.6 gitHubWorkflowRef Sigstore
+1.3.6.1.4.1.57264.1.7 otherName Sigstore
+1.3.6.1.4.1.57264.1.8 issuerV2 Sigstore
+1.3.6.1.4.1.57264.1.9 buildSignerURI Sigstore
 1.3.6.1.4.1.6189.3.4.1.1 atosTrustedRootPolicy Atos
 1.3.6.1.4.1.8024.0.3 quoVadisRootCA3Policy QuoVadis
 1.3.6.1.5.2.2 pkinitSan RFC 4556
+1.3.6.1.5.2.3.1 pkinitAuthData RFC 4556
+1.3.6.1.5.2.3.2 pkinitDHKeyData RFC 4556
+1.3.6.1.5.2.3.3 pkinitRkeyData RFC 4556
 1.3.6.1.5.2.3.4 pkinitKPClientAuth RFC 4556
 1.3.6.1.5.2.3.5 pkinitKPKdc RFC 4556
+1.3.6.1.5.5.2 spnego RFC 4178
 1.3.6.1.5.5.7.0 id-pkix-mod RFC 7299
 1.3.6.1.5.5.7.0.1 id-pkix1-explicit-88 RFC 7299
 1.3.6.1.5.5.7.0.10 id-mod-qualified-cert-88 RFC 7299
@@ -371,6 +449,10 @@ pub const ORGANIZATIONS: &str = "\
 1.3.6.1.5.5.7.6.1 id-alg-des40 RFC 7299
 1.3.6.1.5.5.7.6.2 id-alg-noSignature RFC 7299
 1.3.6.1.5.5.7.6.3 id-alg-dh-sig-hmac-sha1 RFC 7299
+1.3.6.1.5.5.7.6.30 id-RSASSA-PSS-SHAKE128 RFC 8702
+1.3.6.1.5.5.7.6.31 id-RSASSA-PSS-SHAKE256 RFC 8702
+1.3.6.1.5.5.7.6.32 id-ecdsa-with-shake128 RFC 8692
+1.3.6.1.5.5.7.6.33 id-ecdsa-with-shake256 RFC 8692
 1.3.6.1.5.5.7.6.4 id-alg-dh-pop RFC 7299
 1.3.6.1.5.5.7.7 id-cmc RFC 7299
 1.3.6.1.5.5.7.7.1 id-cmc-statusInfo RFC 7299

@@ -3,8 +3,10 @@ mod certificates;
 mod extensions;
 mod kerberos;
 mod keys;
+mod makers;
 mod messages;
 mod pkcs12;
+mod requests;
 mod roots;
 mod services;
 mod signed;
@@ -13,7 +15,7 @@ mod universal;
 pub use roots::{FITS, LABELS};
 
 // Types of class Universal come first, since others are made of them.
-pub const TABLES: [&str; 9] = [
+pub const TABLES: [&str; 11] = [
     universal::TABLE,
     certificates::TABLE,
     extensions::TABLE,
@@ -21,6 +23,8 @@ pub const TABLES: [&str; 9] = [
     signed::TABLE,
     pkcs12::TABLE,
     services::TABLE,
+    requests::TABLE,
+    makers::TABLE,
     messages::TABLE,
     kerberos::TABLE,
 ];

@@ -70,7 +70,11 @@ AttributeValue ::= OPEN
   1.2.840.113549.1.9.20 BMPString
   1.2.840.113549.1.9.21 OCTET STRING
   1.2.840.113549.1.9.52 CMSAlgorithmProtection
+  1.3.6.1.4.1.311.2.1.11 SpcStatementType
+  1.3.6.1.4.1.311.2.1.12 SpcSpOpusInfo
   1.3.6.1.4.1.311.2.1.14 Extensions
+  1.3.6.1.4.1.311.2.4.1 ContentInfo
+  1.3.6.1.4.1.311.3.3.1 ContentInfo
   1.3.6.1.4.1.311.17.1 BMPString
 
 -- RFC 5280, 5.1

@@ -1,6 +1,7 @@
 // What stands in extensions.
 pub const TABLE: &str = "\
--- RFC 5280, 4.2 and 5.2; RFC 6962, 3.3; RFC 7633; RFC 3739; RFC 6960, 4.2.2.2.1; SET; Netscape; Microsoft; Entrust
+-- RFC 5280, 4.2 and 5.2; RFC 3779; RFC 8360; RFC 6962, 3.3; RFC 7633; RFC 3739; RFC 6960, 4.2.2.2.1; SET; Netscape;
+-- Microsoft; Entrust; Android
 ExtensionValue ::= KNOWN
   2.5.29.9 SubjectDirectoryAttributes
   2.5.29.14 SubjectKeyIdentifier
@@ -27,19 +28,51 @@ ExtensionValue ::= KNOWN
   2.5.29.54 InhibitAnyPolicy
   1.3.6.1.5.5.7.1.1 AuthorityInfoAccessSyntax
   1.3.6.1.5.5.7.1.3 QCStatements
+  1.3.6.1.5.5.7.1.7 IPAddrBlocks
+  1.3.6.1.5.5.7.1.8 ASIdentifiers
   1.3.6.1.5.5.7.1.11 SubjectInfoAccessSyntax
   1.3.6.1.5.5.7.1.14 ProxyCertInfo
   1.3.6.1.5.5.7.1.24 Features
+  1.3.6.1.5.5.7.1.28 IPAddrBlocks
+  1.3.6.1.5.5.7.1.29 ASIdentifiers
   1.3.6.1.5.5.7.48.1.2 OCTET STRING
   1.3.6.1.5.5.7.48.1.5 NULL
+  1.3.6.1.4.1.11129.2.1.17 KeyDescription
   1.3.6.1.4.1.11129.2.4.2 SignedCertificateTimestampList
   1.3.6.1.4.1.11129.2.4.3 NULL
   1.3.6.1.4.1.11129.2.4.5 SignedCertificateTimestampList
   1.3.6.1.4.1.311.20.2 BMPString
   1.3.6.1.4.1.311.21.1 INTEGER
   1.3.6.1.4.1.311.21.2 OCTET STRING
+  1.3.6.1.4.1.311.21.4 Time
   1.3.6.1.4.1.311.21.7 CertificateTemplate
   1.3.6.1.4.1.311.21.10 CertificatePolicies
+  1.3.6.1.4.1.311.21.11 PolicyMappings
+  1.3.6.1.4.1.311.21.12 PolicyConstraints
+  1.3.6.1.4.1.311.21.14 CRLDistributionPoints
+  1.3.6.1.4.1.311.25.2 GeneralNames
+-- Sigstore: those of version 1 are texts without a header
+  1.3.6.1.4.1.57264.1.1 NOTHING
+  1.3.6.1.4.1.57264.1.2 NOTHING
+  1.3.6.1.4.1.57264.1.3 NOTHING
+  1.3.6.1.4.1.57264.1.4 NOTHING
+  1.3.6.1.4.1.57264.1.5 NOTHING
+  1.3.6.1.4.1.57264.1.6 NOTHING
+  1.3.6.1.4.1.57264.1.8 UTF8String
+  1.3.6.1.4.1.57264.1.9 UTF8String
+  1.3.6.1.4.1.57264.1.10 UTF8String
+  1.3.6.1.4.1.57264.1.11 UTF8String
+  1.3.6.1.4.1.57264.1.12 UTF8String
+  1.3.6.1.4.1.57264.1.13 UTF8String
+  1.3.6.1.4.1.57264.1.14 UTF8String
+  1.3.6.1.4.1.57264.1.15 UTF8String
+  1.3.6.1.4.1.57264.1.16 UTF8String
+  1.3.6.1.4.1.57264.1.17 UTF8String
+  1.3.6.1.4.1.57264.1.18 UTF8String
+  1.3.6.1.4.1.57264.1.19 UTF8String
+  1.3.6.1.4.1.57264.1.20 UTF8String
+  1.3.6.1.4.1.57264.1.21 UTF8String
+  1.3.6.1.4.1.57264.1.22 UTF8String
   1.2.840.113533.7.65.0 EntrustVersInfo
   1.2.840.113549.1.9.15 SMIMECapabilities
   2.23.42.7.0 RootKeyThumb
@@ -127,7 +160,7 @@ EDIPartyName ::= SEQUENCE
   nameAssigner [0] EXPLICIT DirectoryString OPTIONAL
   partyName [1] EXPLICIT DirectoryString
 SubjectDirectoryAttributes ::= SEQUENCE OF Attribute
--- RFC 4556, 3.2.2; RFC 6120, 13.7.1.4; RFC 9598, 3; RFC 4985, 2; RFC 4108, 5; Microsoft
+-- RFC 4556, 3.2.2; RFC 6120, 13.7.1.4; RFC 9598, 3; RFC 4985, 2; RFC 4108, 5; Microsoft; Sigstore
 OtherNameValue ::= OPEN
   1.3.6.1.5.2.2 KRB5PrincipalName
   1.3.6.1.5.5.7.8.4 HardwareModuleName
@@ -135,6 +168,9 @@ OtherNameValue ::= OPEN
   1.3.6.1.5.5.7.8.7 IA5String
   1.3.6.1.5.5.7.8.9 UTF8String
   1.3.6.1.4.1.311.20.2.3 UTF8String
+  1.3.6.1.4.1.311.25.1 OCTET STRING
+  1.3.6.1.4.1.311.25.2.1 OCTET STRING
+  1.3.6.1.4.1.57264.1.7 UTF8String
 HardwareModuleName ::= SEQUENCE
   hwType OBJECT IDENTIFIER
   hwSerialNum OCTET STRING
@@ -215,7 +251,38 @@ CertificateIssuer ::= SEQUENCE OF GeneralName
 -- RFC 3280, 5.3.2
 HoldInstructionCode ::= OBJECT IDENTIFIER
 
--- RFC 6962, 3.3; RFC 7633, 4; RFC 3739, 3.2.6; RFC 3820, 3.8; RFC 8551, 2.5.2
+-- RFC 3779, 2.2.3 and 3.2.3
+IPAddrBlocks ::= SEQUENCE OF IPAddressFamily
+IPAddressFamily ::= SEQUENCE
+  addressFamily OCTET STRING
+  ipAddressChoice IPAddressChoice
+IPAddressChoice ::= CHOICE
+  inherit NULL
+  addressesOrRanges SEQUENCE OF IPAddressOrRange
+SEQUENCE OF IPAddressOrRange
+IPAddressOrRange ::= CHOICE
+  addressPrefix IPAddress
+  addressRange IPAddressRange
+IPAddressRange ::= SEQUENCE
+  min IPAddress
+  max IPAddress
+IPAddress ::= BIT STRING
+ASIdentifiers ::= SEQUENCE
+  asnum [0] EXPLICIT ASIdentifierChoice OPTIONAL
+  rdi [1] EXPLICIT ASIdentifierChoice OPTIONAL
+ASIdentifierChoice ::= CHOICE
+  inherit NULL
+  asIdsOrRanges SEQUENCE OF ASIdOrRange
+SEQUENCE OF ASIdOrRange
+ASIdOrRange ::= CHOICE
+  id ASId
+  range ASRange
+ASRange ::= SEQUENCE
+  min ASId
+  max ASId
+ASId ::= INTEGER
+
+-- RFC 6962, 3.3, whose octets are structures of TLS; RFC 7633, 4; RFC 3739, 3.2.6; RFC 3820, 3.8; RFC 8551, 2.5.2
 SignedCertificateTimestampList ::= OCTET STRING
 Features ::= SEQUENCE OF INTEGER
 QCStatements ::= SEQUENCE OF QCStatement

@@ -1,6 +1,7 @@
 // Keys and the parameters of algorithms.
 pub const TABLE: &str = "\
--- RFC 8017, appendix A; RFC 3279, 2.3; RFC 5480, 2.1; RFC 8018, appendix A; RFC 7914, 7; RFC 5084, 3; RFC 3565, 4
+-- RFC 8017, appendix A; RFC 3279, 2.3; RFC 5480, 2.1; RFC 8018, appendix A; RFC 7914, 7; RFC 5084, 3; RFC 3565, 4;
+-- RFC 4210, 5.1.3
 AlgorithmParameters ::= OPEN
   1.2.840.113549.1.1.7 RSAES-OAEP-params
   1.2.840.113549.1.1.8 AlgorithmIdentifier
@@ -27,6 +28,8 @@ AlgorithmParameters ::= OPEN
   1.2.840.113549.1.12.1.5 Pkcs-12PbeParams
   1.2.840.113549.1.12.1.6 Pkcs-12PbeParams
   1.3.6.1.4.1.11591.4.11 Scrypt-params
+  1.2.840.113533.7.66.13 PBMParameter
+  1.2.840.113533.7.66.30 DHBMParameter
   1.2.840.113549.3.2 RC2-CBC-Parameter
   1.2.840.113549.3.7 DES-IV
   2.16.840.1.101.3.4.1.2 AES-IV

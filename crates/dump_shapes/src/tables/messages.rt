@@ -94,6 +94,19 @@ ResultCode ::= ENUMERATED
   69 objectClassModsProhibited
   71 affectsMultipleDSAs
   80 other
+-- RFC 3928, RFC 3909, RFC 4528, RFC 4370 and RFC 4533
+  113 lcupResourcesExhausted
+  114 lcupSecurityViolation
+  115 lcupInvalidData
+  116 lcupUnsupportedScheme
+  117 lcupReloadRequired
+  118 canceled
+  119 noSuchOperation
+  120 tooLate
+  121 cannotCancel
+  122 assertionFailed
+  123 authorizationDenied
+  4096 e-syncRefreshRequired
 
 -- RFC 4511, 4.2
 BindRequest ::= SEQUENCE

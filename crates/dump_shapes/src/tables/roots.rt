@@ -29,7 +29,7 @@ DomainParameters X9.42 DH PARAMETERS";
 // The shapes that may fit a document, in the order in which they are tried: the shape, down to which depth each field
 // that has to be there is looked for, and how many elements there are at least down to that depth. Shapes of a few
 // numbers, such as RSAPublicKey, are not tried: too much else looks like them.
-pub const FITS: [(&str, usize, usize); 21] = [
+pub const FITS: [(&str, usize, usize); 22] = [
     ("Certificate", 2, 11),
     ("CertificateList", 2, 8),
     ("CertificationRequest", 2, 9),
@@ -50,5 +50,6 @@ pub const FITS: [(&str, usize, usize); 21] = [
     ("SNMP.Message", 2, 8),
     ("SNMPv3Message", 2, 9),
     ("KerberosMessage", 3, 6),
+    ("PKIMessage", 3, 6),
     ("GSSAPI-Token", 3, 4),
 ];

@@ -105,15 +105,35 @@ PKIStatus ::= INTEGER
   4 revocationWarning
   5 revocationNotification
 PKIFreeText ::= SEQUENCE OF UTF8String
+-- RFC 4210, 5.2.3, which has all of them
 PKIFailureInfo ::= BIT STRING NAMED
   0 badAlg
+  1 badMessageCheck
   2 badRequest
+  3 badTime
+  4 badCertId
   5 badDataFormat
+  6 wrongAuthority
+  7 incorrectData
+  8 missingTimeStamp
+  9 badPOP
+  10 certRevoked
+  11 certConfirmed
+  12 wrongIntegrity
+  13 badRecipientNonce
   14 timeNotAvailable
   15 unacceptedPolicy
   16 unacceptedExtension
   17 addInfoNotAvailable
+  18 badSenderNonce
+  19 badCertTemplate
+  20 signerNotTrusted
+  21 transactionIdInUse
+  22 unsupportedVersion
+  23 notAuthorized
+  24 systemUnavail
   25 systemFailure
+  26 duplicateCertReq
 TSTInfo ::= SEQUENCE
   version TSP.Version
   policy TSAPolicyId

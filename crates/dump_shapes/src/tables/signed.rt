@@ -33,11 +33,15 @@ SignedData ::= SEQUENCE
   signerInfos SignerInfos
 EncapsulatedContentInfo ::= SEQUENCE
   eContentType ContentType
-  eContent [0] EXPLICIT OCTET STRING CONTAINING EncapsulatedContent OPTIONAL
-OCTET STRING CONTAINING EncapsulatedContent
--- RFC 3161, 2.4.2; RFC 4108, 2.2.1
+  eContent [0] EXPLICIT EncapsulatedContent OPTIONAL
+-- RFC 3161, 2.4.2; ICAO Doc 9303, part 10; RFC 2315, 7, by which Authenticode has no OCTET STRING here
 EncapsulatedContent ::= KNOWN
-  1.2.840.113549.1.9.16.1.4 TSTInfo
+  1.2.840.113549.1.7.1 Held.OCTET STRING
+  1.2.840.113549.1.9.16.1.4 OCTET STRING CONTAINING TSTInfo
+  1.3.6.1.4.1.311.2.1.4 SpcIndirectDataContent
+  2.23.136.1.1.1 OCTET STRING CONTAINING LDSSecurityObject
+OCTET STRING CONTAINING TSTInfo
+OCTET STRING CONTAINING LDSSecurityObject
 
 -- RFC 5652, 5.3
 SignerInfos ::= SET OF SignerInfo
