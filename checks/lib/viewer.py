@@ -68,7 +68,8 @@ onload = () => {
       send(line, 'mouseover');
       const marked = header().map(it => it.toString());
       check('bytes of a line', isMarked() && marked[0].split(/\s/).length === Math.min(size, bytes.length - offset)
-        && parseInt(marked[0], 16) === bytes[offset] && marked.length === 2);
+        && parseInt(marked[0], 16) === bytes[offset]
+        && marked[1].replaceAll('\n', '') === texts.join('').slice(offset, offset + size));
       send(all('[data-offset]', section)[0], 'mouseover');
       send(octets, 'mousemove', place(hex, 3 * offset, 2));
       check('line of a byte', isMarked());
