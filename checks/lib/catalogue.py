@@ -106,7 +106,7 @@ WHOLE = [
           needs="bash base64 git xxd", uses="jq", programs="der_dump"),
     Check("json", "lib/dump_lines.py", "der_dump --json keeps to its schema, and documents are rebuilt from it",
           uses="python:jsonschema jq openssl", programs="der_dump"),
-    Check("page", "scripts/page", "pages of der_dump --html: lines, bytes, one script; on a phone, in a browser",
+    Check("page", "scripts/page", "pages of der_dump --html: lines, bytes, one script, and what it does; on a phone",
           needs="openssl", uses="chromium", programs="der_dump"),
     Check("dumps", "scripts/dumps",
           "der_dump shows stored inputs, a million levels, terminals, offsets as openssl does",

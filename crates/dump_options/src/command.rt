@@ -3,43 +3,69 @@
 use clap::{Command, arg};
 use std::alloc::{AllocError, Global};
 
+// Its name, whatever the path that it was started by.
+const NAME: &str = "der_dump";
+
 // What `--version` prints after the name.
 const VERSION: &str = "1.0.0";
 
 const ABOUT: &str =
     "Shows DER documents, such as certificates and keys, given as DER, PEM, hex digits or base64.";
 
+// The headings under which help lists options.
+const BLOCK: &str = "One block";
+
+const SHOWN: &str = "What is shown";
+
+const FORM: &str = "Other forms";
+
 // The command with all of its arguments, as help lists them.
 pub fn command<'a>(alloc: Global) -> Result<Command<'a>, AllocError> {
-    Command::new(alloc, "der_dump")
+    Command::new(alloc, NAME)
+        .bin_name(NAME)?
         .version(VERSION)
         .about(ABOUT)
         .arg(arg!(in alloc; [FILE]...
             "Files to read, each in turn; `-`, or no file, is standard input"))?
         .arg(arg!(in alloc; --at <OFFSET>
-            "Show only the block that begins at the offset, in bytes, also as 0x1a"))?
+            "Show only the block that begins at the offset, in bytes, also as 0x1a")
+        .help_heading(BLOCK))?
         .arg(arg!(in alloc; --extract <OFFSET>
-            "Write the bytes of the block that begins at the offset"))?
+            "Write the bytes of the block that begins at the offset")
+        .help_heading(BLOCK))?
         .arg(arg!(in alloc; --contents <OFFSET>
-            "Write the contents of the block that begins at the offset"))?
+            "Write the contents of the block that begins at the offset")
+        .help_heading(BLOCK))?
         .arg(arg!(in alloc; --value <OFFSET>
-            "Write the bytes that the string at the offset holds, its segments joined"))?
+            "Write the bytes that the string at the offset holds, its segments joined")
+        .help_heading(BLOCK))?
         .arg(arg!(in alloc; --strict
-            "Reject documents that are not DER, and list why, after showing them"))?
-        .arg(arg!(in alloc; --full "Do not cut values to 32 bytes"))?
-        .arg(arg!(in alloc; --flat "Do not expand nested DER"))?
+            "Reject documents that are not DER, and list why, after showing them")
+        .help_heading(SHOWN))?
+        .arg(arg!(in alloc; --full "Do not cut values to 32 bytes").help_heading(SHOWN))?
+        .arg(arg!(in alloc; --flat "Do not expand nested DER").help_heading(SHOWN))?
         .arg(arg!(in alloc; --depth <COUNT>
-            "Hide blocks with more than COUNT blocks around them; 0 shows the outermost only"))?
-        .arg(arg!(in alloc; --oids <FILE> "Name object identifiers by a file of dumpasn1 first"))?
+            "Hide blocks with more than COUNT blocks around them; 0 shows the outermost only")
+        .help_heading(SHOWN))?
+        .arg(
+            arg!(in alloc; --oids <FILE> "Name object identifiers by a file of dumpasn1 first").help_heading(
+                SHOWN,
+            ),
+        )?
         .arg(arg!(in alloc; --color <WHEN>
-            "Color lines: always, never, or auto, on a terminal without NO_COLOR [default: auto]"))?
-        .arg(arg!(in alloc; --plain "Do not name the fields of known types"))?
+            "Color lines: always, never, or auto, on a terminal without NO_COLOR [default: auto]")
+        .help_heading(SHOWN))?
+        .arg(arg!(in alloc; --plain "Do not name the fields of known types").help_heading(SHOWN))?
         .arg(arg!(in alloc; --"as" <TYPE>
-            "Name fields as those of this type, such as Certificate [default: by label, or what fits]"))?
+            "Name fields as those of this type, such as Certificate [default: by label, or what fits]")
+        .help_heading(SHOWN))?
         .arg(arg!(in alloc; --json
-            "Write each document as one line of JSON, with all blocks whole"))?
+            "Write each document as one line of JSON, with all blocks whole")
+        .help_heading(FORM))?
         .arg(arg!(in alloc; --html
-            "Write one page of HTML that shows all documents, their bytes beside them"))?
+            "Write one page of HTML that shows all documents, their bytes beside them")
+        .help_heading(FORM))?
         .arg(arg!(in alloc; --text
-            "Write a short account of each certificate, request, list or key"))
+            "Write a short account of each certificate, request, list or key")
+        .help_heading(FORM))
 }
