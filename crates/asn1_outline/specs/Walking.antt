@@ -96,8 +96,8 @@ Leads (Ok u) a t b = (t ≡ More) × (b ≡ a)
 Leads (Err e) a t b = (t ≡ Stop) × (b.fault ≡ OutOfMemory)
 
 -- the innermost frame is read up to some offset, and there is the fault. Entries of frames that were dropped may follow
-pub record IsFaulty (document : List ℕ) (w : Reader EntryBuilder EntryItems) (fault : DecodeFault) (offset most : ℕ)
-    : Type 0 where
+pub record IsFaulty (document : List ℕ) (w : Reader EntryBuilder EntryItems) (fault : DecodeFault)
+    (offset most : ℕ) : Type 0 where
   pub reached : ℕ
   pub front : List Entry
   pub more : List Entry
