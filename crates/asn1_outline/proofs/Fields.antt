@@ -9,7 +9,7 @@ use Rattle.asn1_headers.specs.declared.header.ASN1Class.TheVariants.{Universal}
 use Rattle.asn1_headers.proofs.Prefixes.{SameEncoding, Encoding-unique}
 use Rattle.asn1_blocks.specs.Grammar.{EncodesAll}
 use Rattle.asn1_blocks.specs.Places.{EncodingAt}
-use Rattle.asn1_outline.specs.Entries.{HasHeader, HasTag}
+use Rattle.asn1_outline.specs.Entries.{HasEntryHeader, IsCapped}
 use Rattle.asn1_blocks.specs.Tree.{Tree, explicit, group, leaf, more_trees, no_trees, unknown}
 use Rattle.asn1_blocks.specs.View.{tree_offset}
 use Rattle.asn1_blocks.proofs.OneReading.{IsBlock-encodes, Encodes-single}
@@ -23,7 +23,7 @@ use Rattle.asn1_outline.proofs.Values.{EntryContents-entry, SameEncoding-octets}
 -- the entry has these fields
 abbrev pub HasItsFields : Tree ℕ → Entry → ASN1Class → Bool → ℕ → List ℕ → ℕ → Type 0
 HasItsFields b r c k n v h =
-    (r.offset ≡ tree_offset b) × (r.class ≡ c) × (r.constructed ≡ k) × HasTag n r.tag × (r.contents ≡ length v)
+    (r.offset ≡ tree_offset b) × (r.class ≡ c) × (r.constructed ≡ k) × IsCapped n r.tag × (r.contents ≡ length v)
     × (r.header ≡ h)
 
 -- the entry's fields are those of the tree's octets
@@ -31,7 +31,7 @@ module _ (x : List ℕ) (b : Tree ℕ) (r : Entry) (y : List ℕ) (c : ASN1Class
     (e : IsEntryOf x b r)
     (s : IsEncodedIn x b y) (f : Encoding y c k n v h) where
   -- an entry of a tree has the fields of the tree's encoding
-  SameEncoding-entry : (octets : List ℕ) (at : EncodingAt x r.offset octets) (own : HasHeader octets r)
+  SameEncoding-entry : (octets : List ℕ) (at : EncodingAt x r.offset octets) (own : HasEntryHeader octets r)
       → SameEncoding octets y r.class c r.constructed k own.tag n own.contents v r.header h [] []
   SameEncoding-entry octets at own =
       let same = EncodingAt-unique x (tree_offset b) octets y (subst (λ o. EncodingAt x o octets) e.offset_is at)
@@ -47,7 +47,7 @@ module _ (x : List ℕ) (b : Tree ℕ) (r : Entry) (y : List ℕ) (c : ASN1Class
         e.offset_is,
         same.class,
         same.constructed,
-        subst (λ z. HasTag z r.tag) same.tag own.tag_field,
+        subst (λ z. IsCapped z r.tag) same.tag own.tag_field,
         own.contents_field ∙ ap length same.contents,
         same.header,
       )

@@ -28,7 +28,7 @@ use Rattle.asn1_blocks.specs.Tree.{Leaf, Tree, bit_string, boolean, explicit, ge
 use Rattle.asn1_blocks.specs.UnknownValues.{is_ascii_character, is_ascii_tag, tree_ascii_text, tree_enumerated}
 use Rattle.asn1_blocks.specs.View.{tree_offset}
 use Rattle.asn1_blocks.proofs.Slices.{EncodingAt-unique}
-use Rattle.asn1_outline.specs.Entries.{AreEntries, HasTag, no_entry}
+use Rattle.asn1_outline.specs.Entries.{AreEntries, IsCapped, no_entry}
 use Rattle.asn1_outline.specs.Shapes.{contents_octets, encoding_octets}
 use Rattle.asn1_outline.specs.Structure.{HasContents, IsEncodedIn, IsStructure, Nodes, node_at, node_items, nodes_depths, nodes_in_order, tree_at}
 use Rattle.asn1_outline.specs.Values.{EachIsOfItsTree, IsEntryOf, IsNoLeafWith, IsNoPrimitive, IsPrimitive}
@@ -45,7 +45,7 @@ pub record EntryContents (x : List ℕ) (b : Tree ℕ) (r : Entry) : Type 0 wher
   pub stands : IsEncodedIn x b octets
   pub encoded : Encodes (tree_offset b) octets b
   pub whole : slice_range x r.offset (r.offset + r.header + r.contents) ≡ octets
-  pub number : HasTag tag r.tag
+  pub number : IsCapped tag r.tag
   pub within : r.offset + r.header + r.contents ≤ length x
   pub are : slice_range x (r.offset + r.header) (r.offset + r.header + r.contents) ≡ contents
 
@@ -116,8 +116,8 @@ pub SameEncoding-octets : (y : List ℕ) (c d : ASN1Class) (j k : Bool) (m n : �
 SameEncoding-octets y c d j k m n v w g h p q = Encoding-unique y y c d j k m n v w g h [] [] p q refl
 
 -- a tag field below 64 is the tag number
-pub HasTag-small : (n field m : ℕ) → HasTag n field → field ≡ m → m < 64 → n ≡ m
-HasTag-small n field m (low, high) e s = elim (cases_lt n (2 ^ 64)) [
+pub IsCapped-small : (n field m : ℕ) → IsCapped n field → field ≡ m → m < 64 → n ≡ m
+IsCapped-small n field m (low, high) e s = elim (cases_lt n (2 ^ 64)) [
   | inl lt ↦ sym (low lt) ∙ e
   | inr ge ↦ absurd (omega (arith, high ge, e, s))
 ]
@@ -160,7 +160,7 @@ IsLeafOf-entry x b r n e class tag small t =
     let c = EntryContents-entry x b r e in
     let own = subst (λ z. Encoding c.octets z r.constructed c.tag c.contents r.header) class c.encoding in
     let two = subst (λ z. Encoding c.octets Universal r.constructed z c.contents r.header)
-    (HasTag-small c.tag r.tag n c.number tag small) own in
+    (IsCapped-small c.tag r.tag n c.number tag small) own in
     subst (λ z. IsLeafOf (tree_offset b) n z b) (sym c.are)
     (IsLeafOf-encoding (tree_offset b) c.octets b r.constructed n c.contents r.header t c.encoded two)
 
@@ -355,7 +355,7 @@ IsPrimitive-entry x b r e class constructed small t =
     let own = subst (λ z. Encoding c.octets z r.constructed c.tag c.contents r.header) class c.encoding in
     let two = subst (λ z. Encoding c.octets Universal z c.tag c.contents r.header) constructed own in
     let three = subst (λ z. Encoding c.octets Universal false z c.contents r.header)
-    (HasTag-small c.tag r.tag r.tag c.number refl small) two in
+    (IsCapped-small c.tag r.tag r.tag c.number refl small) two in
     subst (λ z. IsPrimitive r.tag z b) (sym c.are)
     (IsPrimitive-encoding (tree_offset b) c.octets b r.tag c.contents r.header t c.encoded three)
 
