@@ -5,13 +5,13 @@ use crate::entry::Entry;
 
 /// A block of an outline in place: its entry, with the octets of its document. [`Outline::block`] makes it.
 ///
-/// The outline has checked contents octets, so a value is `None` only of a block of another type. Memory is the only
-/// error.
+/// The outline has checked contents octets as `from_der` checks them, so its calls have no error but memory. A value is
+/// `None` where the block is of another type; `enumerated` and `ascii_text` say when else.
 ///
 /// ```rust
 /// use simple_asn1::{BlockRef, Outline};
 ///
-/// // The value of a component of a SEQUENCE: the block at index 2 of `30 06 0C 01 61 02 01 05`.
+/// // The second item of the first block: the INTEGER of `30 06 0C 01 61 02 01 05`.
 /// fn second_item<'a>(outline: &Outline<'a>) -> Option<BlockRef<'a>> {
 ///     let (index, _) = outline.items(0).nth(1)?;
 ///     outline.block(index)
