@@ -4,7 +4,7 @@ use Rattle.std.specs.List.{slice_range}
 use Rattle.asn1_blocks.specs.Places.{HeaderFound}
 use Rattle.asn1_blocks.specs.declared.parsed.PlacedHeader.{PlacedHeader}
 use Rattle.asn1_blocks.proofs.ReadSteps.{length-slice_range}
-use Rattle.asn1_outline.specs.Entries.{HasHeaderAt, HasTag}
+use Rattle.asn1_outline.specs.Entries.{HasHeaderAt, IsCapped}
 use Rattle.asn1_outline.specs.Listing.{IsBegun}
 use Rattle.asn1_outline.specs.Shapes.{shape_entry}
 use Rattle.std.proofs.lemmas.List.Folds.{drop_split}
@@ -12,7 +12,7 @@ use Rattle.std.proofs.lemmas.List.Folds.{drop_split}
 -- the entry of a header that was found says which header stands at its offset
 HasHeaderAt-found :
     (x : List ℕ) (offset limit : ℕ) (h : PlacedHeader) (tag items next depth : ℕ) → HeaderFound x offset limit h →
-    limit ≤ length x → HasTag h.tag tag →
+    limit ≤ length x → IsCapped h.tag tag →
     HasHeaderAt x (record {
       class = h.class;
       constructed = h.constructed;

@@ -8,13 +8,13 @@ use Rattle.asn1_blocks.specs.Tree.{Tree}
 use Rattle.asn1_blocks.specs.View.{tree_offset, view}
 use Rattle.asn1_outline.specs.Building.{IsBuiltNext, IsTaken, built_trees, items_of, roots}
 use Rattle.asn1_outline.specs.Entries.{IsOutline, no_entry}
-use Rattle.asn1_outline.specs.Structure.{Holds, IsNode, IsStructure, Node, Nodes, no_node, node, node_at, node_count, node_in_order, node_items, node_tree, nodes_in_order, nodes_trees}
+use Rattle.asn1_outline.specs.Structure.{IsStructure, Node, Nodes, no_node, node, node_at, node_count, node_in_order, node_items, node_tree, nodes_in_order}
 use Rattle.asn1_outline.specs.declared.entry.Entry.{Entry}
 use Rattle.asn1_outline.proofs.Built.{map-reverse}
 use Rattle.asn1_outline.proofs.Iterating.{IsInOrderFrom-nodes}
 use Rattle.asn1_outline.proofs.Lent.{IsEntryOf-implies, items-node_count, length-nodes_in_order}
 use Rattle.asn1_outline.proofs.Roots.{length-listed, drop-listed, RootsAt-node}
-use Rattle.asn1_outline.proofs.Standing.{IsStanding-structure}
+use Rattle.asn1_outline.proofs.Standing.{Holds-node_items, IsStanding-structure}
 use Rattle.asn1_headers.proofs.Prefixes.{append-injective}
 
 -- the trees that are built, after one block more is pushed
@@ -63,10 +63,6 @@ map-view_taken_items n old taken new count rest t c begins =
     let cut : drop (node_count (node_items n)) (built_trees old) ≡ rest =
     ap (drop (node_count (node_items n))) begins ∙ drop-listed (node_items n) rest in
     (own, left ∙ sym cut)
-
--- a node's tree holds the trees of the node's items
-Holds-node_items : (x : List ℕ) (n : Node) → IsNode x n → Holds x (node_tree n) (nodes_trees (node_items n))
-Holds-node_items x (node b ns) is = is.0
 
 module _ (octets : List ℕ) (es : List Entry) (ns : Nodes) (lent : ∥ IsOutline octets es ∥₁) (d : IsStructure octets ns)
     (k : ℕ) (h : k < length es) where

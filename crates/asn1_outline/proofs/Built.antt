@@ -18,7 +18,7 @@ use Rattle.asn1_blocks.specs.Inner.EqualityLaws.{group_tag-injective}
 use Rattle.asn1_blocks.proofs.Leaves.{leaf_tag-not_group_tag}
 use Rattle.asn1_blocks.proofs.OneReading.{Encodes-unique, IsBlock-encodes, Encodes-single}
 use Rattle.asn1_blocks.proofs.Slices.{EncodingAt-unique}
-use Rattle.asn1_outline.specs.Building.{IsNodeAt, items_of, listed}
+use Rattle.asn1_outline.specs.Building.{IsNodeAt, items_of, tree_list}
 use Rattle.asn1_outline.specs.Structure.{Holds, IsEncodedIn, Node, node_items, node_tree, nodes_trees}
 use Rattle.asn1_outline.proofs.Roots.{trees_of-listed}
 use Rattle.asn1_outline.proofs.Standing.{EncodingAt-encoded}
@@ -170,7 +170,7 @@ module _ (x : List ℕ) (o : ℕ) (n : Node) (g : PlacedHeader) (found : HeaderF
           let bs = nodes_trees (node_items n) in
           Encodes-as_it_came x o (slice_range x o g.end) g.tag (slice_range x g.start g.end)
           (g.start - o) bs g.class other Encoding-constructed
-          (node_tree n) Encodes-node_tree at.holds (λ t only. many (ap (λ z. length (listed z)) only))
+          (node_tree n) Encodes-node_tree at.holds (λ t only. many (ap (λ z. length (tree_list z)) only))
 
 -- the values of a function over a reversed list are the reversed values over the list
 pub map-reverse : {A B : Type 0} (f : A → B) (xs : List A) → map f (reverse xs) ≡ reverse (map f xs)

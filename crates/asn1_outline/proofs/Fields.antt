@@ -1,5 +1,5 @@
 -- An entry has the fields of its tree's encoding and says whether the tree is explicit, for
--- `outline::Outline::contents` and `outline::Outline::is_explicit`.
+-- `outline::Outline::block` and `block_ref::BlockRef::is_explicit`.
 use Rattle.std.proofs.Common.{◌≡◌, ◌≢◌, ◌↔◌, ℕ, suc, ◌++◌, Bool, true, List, [], inl, inr, length, refl, sym, ap, ◌∙◌, subst, arith}
 use Rattle.std.proofs.lemmas.Bool.{false≢true}
 use Rattle.std.specs.Bool.{one_answer}
@@ -9,23 +9,29 @@ use Rattle.asn1_headers.specs.declared.header.ASN1Class.TheVariants.{Universal}
 use Rattle.asn1_headers.proofs.Prefixes.{SameEncoding, Encoding-unique}
 use Rattle.asn1_blocks.specs.Grammar.{EncodesAll}
 use Rattle.asn1_blocks.specs.Places.{EncodingAt}
-use Rattle.asn1_outline.specs.Entries.{HasHeader}
+use Rattle.asn1_outline.specs.Entries.{HasEntryHeader, IsCapped}
 use Rattle.asn1_blocks.specs.Tree.{Tree, explicit, group, leaf, more_trees, no_trees, unknown}
 use Rattle.asn1_blocks.specs.View.{tree_offset}
 use Rattle.asn1_blocks.proofs.OneReading.{IsBlock-encodes, Encodes-single}
 use Rattle.asn1_blocks.proofs.Slices.{EncodingAt-unique}
-use Rattle.asn1_outline.specs.Structure.{Holds, IsEncodedIn, IsNode, Node, Nodes, is_explicit, more_nodes, no_nodes, node, node_count, node_items, node_tree, nodes_trees}
+use Rattle.asn1_outline.specs.Structure.{Holds, IsEncodedIn, Nodes, is_explicit, more_nodes, no_nodes, node_count, node_tree, nodes_trees}
 use Rattle.asn1_outline.specs.Values.{IsEntryOf}
 use Rattle.asn1_outline.specs.declared.entry.Entry.{Entry}
 use Rattle.asn1_outline.proofs.Standing.{EncodingAt-encoded}
 use Rattle.asn1_outline.proofs.Values.{EntryContents-entry, SameEncoding-octets}
+
+-- the entry has these fields
+abbrev pub HasItsFields : Tree ℕ → Entry → ASN1Class → Bool → ℕ → List ℕ → ℕ → Type 0
+HasItsFields b r c k n v h =
+    (r.offset ≡ tree_offset b) × (r.class ≡ c) × (r.constructed ≡ k) × IsCapped n r.tag × (r.contents ≡ length v)
+    × (r.header ≡ h)
 
 -- the entry's fields are those of the tree's octets
 module _ (x : List ℕ) (b : Tree ℕ) (r : Entry) (y : List ℕ) (c : ASN1Class) (k : Bool) (n : ℕ) (v : List ℕ) (h : ℕ)
     (e : IsEntryOf x b r)
     (s : IsEncodedIn x b y) (f : Encoding y c k n v h) where
   -- an entry of a tree has the fields of the tree's encoding
-  SameEncoding-entry : (octets : List ℕ) (at : EncodingAt x r.offset octets) (own : HasHeader octets r)
+  SameEncoding-entry : (octets : List ℕ) (at : EncodingAt x r.offset octets) (own : HasEntryHeader octets r)
       → SameEncoding octets y r.class c r.constructed k own.tag n own.contents v r.header h [] []
   SameEncoding-entry octets at own =
       let same = EncodingAt-unique x (tree_offset b) octets y (subst (λ o. EncodingAt x o octets) e.offset_is at)
@@ -33,14 +39,18 @@ module _ (x : List ℕ) (b : Tree ℕ) (r : Entry) (y : List ℕ) (c : ASN1Class
       Encoding-unique octets y r.class c r.constructed k own.tag n own.contents v r.header h [] [] own.encoding f
       (ap (λ z. z ++ []) same)
 
-  -- an entry of a tree has the size of the header of the tree's encoding
-  pub header-of_encoding : r.header ≡ h
-  header-of_encoding = let (octets, at, own) = e.header in (SameEncoding-entry octets at own).header
-
-  -- an entry of a tree has the number of contents octets of the tree's encoding
-  pub contents-of_encoding : r.contents ≡ length v
-  contents-of_encoding =
-      let (octets, at, own) = e.header in own.contents_field ∙ ap length (SameEncoding-entry octets at own).contents
+  -- an entry of a tree has the fields of the tree's encoding, one by one
+  pub HasItsFields-entry : HasItsFields b r c k n v h
+  HasItsFields-entry =
+      let (octets, at, own) = e.header in
+      let same = SameEncoding-entry octets at own in (
+        e.offset_is,
+        same.class,
+        same.constructed,
+        subst (λ z. IsCapped z r.tag) same.tag own.tag_field,
+        own.contents_field ∙ ap length same.contents,
+        same.header,
+      )
 
 -- nodes without trees are no nodes
 node_count-no_trees : (ns : Nodes) → nodes_trees ns ≡ no_trees → node_count ns ≡ 0
@@ -116,11 +126,10 @@ module _ (x : List ℕ) (r : Entry) where
   one_item-is_explicit (unknown class k p m v) ns holds e count is = absurd (false≢true is)
 
   -- a test of class and number of items tells whether a block is explicit
-  pub is_explicit-tested : (n : Node) (tested : Bool) → IsNode x n → IsEntryOf x (node_tree n) r →
-      r.items ≡ node_count (node_items n)
-      → (tested ≡ true ↔ ((r.class ≢ Universal) × (r.items ≡ 1))) → tested ≡ is_explicit (node_tree n)
-  is_explicit-tested (node b ns) tested is e count (to, from) =
+  pub is_explicit-tested : (b : Tree ℕ) (tested : Bool) → IsEntryOf x b r →
+      (tested ≡ true ↔ ((r.class ≢ Universal) × (r.items ≡ 1))) → tested ≡ is_explicit b
+  is_explicit-tested b tested e (to, from) =
       one_answer tested (is_explicit b) (
-        λ y. is_explicit-one_item b ns is.0 e count (to y),
-        λ y. from (one_item-is_explicit b ns is.0 e count y),
+        λ y. is_explicit-one_item b e.inside e.holds e e.items_are (to y),
+        λ y. from (one_item-is_explicit b e.inside e.holds e e.items_are y),
       ) (λ y. y, λ y. y)

@@ -1,13 +1,12 @@
 -- What holds of an outline's document holds of the entry at an index, for the methods of `Outline` and `Headers`.
-use Rattle.std.proofs.Common.{◌≡◌, ℕ, suc, ◌+◌, ◌<◌, ◌≤◌, ◌++◌, List, Option, Some, None, length, get_or, refl, ap, sym, subst, ◌∙◌, arith, length-append}
+use Rattle.std.proofs.Common.{◌≡◌, ℕ, suc, ◌+◌, ◌<◌, ◌≤◌, ◌++◌, List, length, get_or, refl, ap, sym, subst, ◌∙◌, arith, length-append}
 use Rattle.std.proofs.Props.{props}
 use Rattle.std.proofs.lemmas.List.{get_or_past, length-drop}
-use Rattle.std.specs.Prelude.{MatchOption}
 use mathlib.Core.Logic.{∥∥₁_elim}
 use Rattle.asn1_blocks.specs.Grammar.{IsDocument}
-use Rattle.asn1_blocks.specs.Tree.{Tree, Trees}
+use Rattle.asn1_blocks.specs.Tree.{Trees}
 use Rattle.asn1_outline.specs.Entries.{AreEntries, AreEntriesOf, IsOutline, no_entry}
-use Rattle.asn1_outline.specs.Structure.{IsStructure, Nodes, more_nodes, no_node, no_nodes, no_tree, node, node_at, node_count, node_in_order, node_items, node_tree, nodes_depths, nodes_in_order, nodes_trees, tree_at}
+use Rattle.asn1_outline.specs.Structure.{IsStructure, Nodes, more_nodes, no_node, no_nodes, node, node_at, node_count, node_in_order, node_items, nodes_depths, nodes_in_order, nodes_trees, tree_at}
 use Rattle.asn1_outline.specs.Values.{IsEntryOf}
 use Rattle.asn1_outline.specs.declared.entry.Entry.{Entry}
 use Rattle.asn1_outline.proofs.Entries.{length-entries, IsEntry-get_or}
@@ -89,47 +88,6 @@ module _ (octets : List ℕ) (es : List Entry) (ns : Nodes) (k : ℕ) (lent : �
   -- past the last entry stands no node
   pub node_at-past : length es ≤ k → node_at ns k ≡ no_node
   node_at-past h = get_or_past (nodes_in_order ns) k no_node (nodes-past h)
-
-  -- past the last entry stands no tree
-  pub tree_at-past : length es ≤ k → tree_at ns k ≡ no_tree
-  tree_at-past h = ap node_tree (node_at-past h)
-
-  -- what was looked up at an index is the entry of the tree there
-  pub IsEntryOf-looked_up : (items : List Entry) (entry : Entry) → items ≡ es →
-      (k < length items) × ((r : Entry) → entry ≡ get_or items k r)
-      → (Q : Type 0) → IsProp Q → (IsEntryOf octets (tree_at ns k) entry → Q) → Q
-  IsEntryOf-looked_up items entry same (h, is) Q prop f =
-      IsEntryOf-implies Q prop (subst (λ z. k < length z) same h)
-      (λ e. f (subst (IsEntryOf octets (tree_at ns k)) (sym (is no_entry ∙ ap (λ z. get_or z k no_entry) same)) e))
-
-  -- an entry that was looked up has as many items as its node
-  pub items-looked_up : (items : List Entry) (entry : Entry) → items ≡ es →
-      (k < length items) × ((r : Entry) → entry ≡ get_or items k r)
-      → entry.items ≡ node_count (node_items (node_at ns k))
-  items-looked_up items entry same (h, is) =
-      ap (λ (z : Entry). z.items) (is no_entry ∙ ap (λ z. get_or z k no_entry) same)
-      ∙ items-node_count (subst (λ z. k < length z) same h)
-
-  -- no tree stands past the last entry
-  pub tree_at-none : (items : List Entry) → items ≡ es → length items ≤ k → tree_at ns k ≡ no_tree
-  tree_at-none items same h = tree_at-past (subst (λ z. length z ≤ k) same h)
-
--- an equation for each case of an option is a proposition
-pub MatchOption-is_prop : {A B : Type 0} (o : Option A) (x : Option B) (f : A → B) → IsSet (Option B)
-    → IsProp (MatchOption o (x ≡ None) (λ a. x ≡ Some (f a)))
-MatchOption-is_prop None x f set = set x None
-MatchOption-is_prop (Some a) x f set = set x (Some (f a))
-
--- the value at an index is that of the tree there, where what was found is right for each tree of the entry
-pub value-looked_up : {A B : Type 0} (f : A → B) (value : Tree ℕ → Option B) → IsSet (Option B) → (found : Option A)
-    (octets : List ℕ) (es : List Entry) (ns : Nodes) (k : ℕ) → ∥ IsOutline octets es ∥₁ → IsStructure octets ns
-    → (items : List Entry) (entry : Entry) → items ≡ es → (k < length items) × ((r : Entry) → entry ≡ get_or items k r)
-    → ((t : Tree ℕ) → IsEntryOf octets t entry → MatchOption found (value t ≡ None) (λ x. value t ≡ Some (f x)))
-    → MatchOption found (value (tree_at ns k) ≡ None) (λ x. value (tree_at ns k) ≡ Some (f x))
-value-looked_up f value set found octets es ns k lent d items entry same at is =
-    IsEntryOf-looked_up octets es ns k lent d items entry same at
-    (MatchOption found (value (tree_at ns k) ≡ None) (λ x. value (tree_at ns k) ≡ Some (f x)))
-    (MatchOption-is_prop found (value (tree_at ns k)) f set) (is (tree_at ns k))
 
 -- what was looked up is the entry at the index
 pub get_or-looked_up : (es items : List Entry) (k : ℕ) (entry : Entry) → items ≡ es →

@@ -8,6 +8,7 @@ mod Answered
 pub mod Values
 mod Fields
 mod Lent
+mod BlockRefs
 mod Inside
 mod Roots
 mod Built

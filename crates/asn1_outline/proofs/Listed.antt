@@ -23,7 +23,7 @@ use Rattle.asn1_blocks.specs.View.{tree_offset}
 use Rattle.asn1_blocks.proofs.HeldFronts.{HoldAround, HoldFront-inside}
 use Rattle.asn1_blocks.proofs.Slices.{tree_offset-encodes}
 use Rattle.asn1_outline.specs.Entries.{AreEntries, AreEntriesOf, no_entry}
-use Rattle.asn1_outline.specs.Listing.{AllHold, AreOfTrees, IsBegun, IsFront, all_hold, entries_hold, with_items_at, with_items}
+use Rattle.asn1_outline.specs.Listing.{AllList, AreOfTrees, IsBegun, KeepsOf, all_list, entries_hold, with_items_at, with_items}
 use Rattle.asn1_outline.specs.Structure.{Holds, IsNode, IsTaggedAt, Node, no_nodes, node, node_depths, node_in_order, node_tree, nodes_depths, nodes_in_order, nodes_of, nodes_trees}
 use Rattle.asn1_outline.specs.declared.entry.Entry.{Entry}
 use Rattle.asn1_outline.specs.declared.entry_builder.EntryBuilder.{EntryBuilder}
@@ -49,19 +49,19 @@ AreOfTrees-append x i j d ts n rs ss at is a e = record {
 }
 
 -- a frame that gets one block more holds the entries of this block as well
-AllHold-add :
+AllList-add :
     (x : List ℕ) (rs ss : List Entry) (e : Extent) (i : EntryItems) (gs : List (OpenFrame EntryItems))
     (ts : List (Tree ℕ)) (rest : List (List (Tree ℕ)))
     (n : Node) → IsNode x n → AreEntries x (length rs) (node_in_order n) (node_depths (length gs) n) ss →
-    AllHold x rs (in_frame e i) gs ts rest →
-    AllHold x (rs ++ ss) (in_frame e (with_one_more i)) gs (ts ++ node_tree n ∷ []) rest
-AllHold-add x rs ss e i [] ts [] n is w a = (
+    AllList x rs (in_frame e i) gs ts rest →
+    AllList x (rs ++ ss) (in_frame e (with_one_more i)) gs (ts ++ node_tree n ∷ []) rest
+AllList-add x rs ss e i [] ts [] n is w a = (
   omega (arith, a.0, length-append ts (node_tree n ∷ [])),
   AreOfTrees-append x 0 (length rs) 0 ts n rs ss (omega arith) is a.1 w,
 )
-AllHold-add x rs ss e i [] ts (us ∷ rest) n is w a = absurd a
-AllHold-add x rs ss e i (h ∷ gs) ts [] n is w a = absurd a
-AllHold-add x rs ss e i (h ∷ gs) ts (us ∷ rest) n is w a =
+AllList-add x rs ss e i [] ts (us ∷ rest) n is w a = absurd a
+AllList-add x rs ss e i (h ∷ gs) ts [] n is w a = absurd a
+AllList-add x rs ss e i (h ∷ gs) ts (us ∷ rest) n is w a =
     let size : length rs ≡ suc i.entry + length a.own =
     omega (arith, ap length a.whole, length-append a.front (a.head ∷ a.own), a.entry) in
     record {
@@ -77,14 +77,14 @@ AllHold-add x rs ss e i (h ∷ gs) ts (us ∷ rest) n is w a =
     }
 
 -- a new frame inside those that are open has its own entry and holds none yet
-all_hold-open :
+all_list-open :
     (x : List ℕ) (rs : List Entry) (r : Entry) (f g : OpenFrame EntryItems) (gs : List (OpenFrame EntryItems))
     (trees : List (List (Tree ℕ))) →
     IsBegun x f.extent.offset f.items.entry (length gs) r → f.items.entry ≡ length rs → f.items.count ≡ 0 →
-    all_hold x rs (g ∷ gs) trees →
-    all_hold x (rs ++ r ∷ []) (f ∷ g ∷ gs) ([] ∷ trees)
-all_hold-open x rs r f g gs [] b at none a = absurd a
-all_hold-open x rs r f g gs (us ∷ rest) b at none a = record {
+    all_list x rs (g ∷ gs) trees →
+    all_list x (rs ++ r ∷ []) (f ∷ g ∷ gs) ([] ∷ trees)
+all_list-open x rs r f g gs [] b at none a = absurd a
+all_list-open x rs r f g gs (us ∷ rest) b at none a = record {
   front = rs;
   head = r;
   own = [];
@@ -100,13 +100,13 @@ all_hold-open x rs r f g gs (us ∷ rest) b at none a = record {
 pub HasOpened-entry_builder :
     (x : List ℕ) (h : PlacedHeader) (offset depth : ℕ) (a b : EntryBuilder) (i : EntryItems) (r : Entry) →
     IsBegun x offset i.entry depth r →
-    ((all : List Entry) → IsFront a all → i.entry ≡ length all) → i.count ≡ 0 →
-    ((all : List Entry) → IsFront a all → IsFront b (all ++ r ∷ [])) → HasOpened entries_hold x h offset depth a i b
+    ((all : List Entry) → KeepsOf a all → i.entry ≡ length all) → i.count ≡ 0 →
+    ((all : List Entry) → KeepsOf a all → KeepsOf b (all ++ r ∷ [])) → HasOpened entries_hold x h offset depth a i b
 HasOpened-entry_builder x h offset depth a b i r begun at none is = record {
   holds = λ kind f fs trees d k (all, front, w).
       let e = opened_at offset kind h in
       let deep = subst (λ z. IsBegun x offset i.entry z r) d begun in
-      (all ++ r ∷ [], is all front, all_hold-open x all r (in_frame e i) f fs trees deep (at all front) none w);
+      (all ++ r ∷ [], is all front, all_list-open x all r (in_frame e i) f fs trees deep (at all front) none w);
 }
 
 -- a leaf, or an encoding that is not read inside, holds no trees
@@ -127,8 +127,8 @@ pub HasLeaf-entry_builder :
     (x : List ℕ) (h : PlacedHeader) (offset limit depth : ℕ) (a b : EntryBuilder) (i : EntryItems) (r : Entry) (n : ℕ) →
     HeaderFound x offset limit h →
     (IsReadInside h.class h.constructed h.tag → ⊥) → IsSingleAt offset (slice_range x offset h.end) →
-    IsBegun x offset n depth r → ((all : List Entry) → IsFront a all → n ≡ length all) →
-    ((all : List Entry) → IsFront a all → IsFront b (all ++ r ∷ [])) →
+    IsBegun x offset n depth r → ((all : List Entry) → KeepsOf a all → n ≡ length all) →
+    ((all : List Entry) → KeepsOf a all → KeepsOf b (all ++ r ∷ [])) →
     HasLeaf entries_hold x offset h.end depth a i b (with_one_more i)
 HasLeaf-entry_builder x h offset limit depth a b i r n found shut (t, none, encoded) begun at is =
     let o = tree_offset-encodes offset (slice_range x offset h.end) t encoded in
@@ -143,7 +143,7 @@ HasLeaf-entry_builder x h offset limit depth a b i r n found shut (t, none, enco
             let own = AreEntries-without_items x offset (length all) (length fs) t r o deep in (
               all ++ r ∷ [],
               is all front,
-              AllHold-add x all (r ∷ []) e i fs ts rest (node t no_nodes) (holds, tt) own w,
+              AllList-add x all (r ∷ []) e i fs ts rest (node t no_nodes) (holds, tt) own w,
             );
       };
     }
@@ -217,7 +217,7 @@ Holds-ended x e ts t bs same w = go e.kind refl
 
 -- an entry whose items are set is that of the tree that ended
 pub HasEndedIn-entry_builder : (x : List ℕ) (a b : EntryBuilder) (f : OpenFrame EntryItems) (i : EntryItems) (depth : ℕ)
-    → ((all : List Entry) → IsFront a all → IsFront b (with_items_at all f.items.entry f.items.count)) →
+    → ((all : List Entry) → KeepsOf a all → KeepsOf b (with_items_at all f.items.entry f.items.count)) →
     HasEndedIn entries_hold x f depth a i b (with_one_more i)
 HasEndedIn-entry_builder x a b f i depth is = record {
   holds = λ e fs ts us rest t d ends (rs, kept, w).
@@ -245,23 +245,23 @@ HasEndedIn-entry_builder x a b f i depth is = record {
       ∙ ap (λ z. w.front ++ with_items f.items.count (length z) w.head ∷ w.own) (sym w.whole) in (
         with_items_at rs f.items.entry f.items.count,
         is rs kept,
-        subst (λ z. AllHold x z (in_frame e (with_one_more i)) fs (us ++ t ∷ []) rest) (sym made)
-            (AllHold-add x w.front new e i fs us rest n (holds, blocks.structure) entries w.around),
+        subst (λ z. AllList x z (in_frame e (with_one_more i)) fs (us ++ t ∷ []) rest) (sym made)
+            (AllList-add x w.front new e i fs us rest n (holds, blocks.structure) entries w.around),
       );
 }
 
 -- the frames around a frame hold the entries before its own
-all_hold-around : (x : List ℕ) → HoldAround (all_hold x)
-all_hold-around x rs k f gs l ts rest held =
+all_list-around : (x : List ℕ) → HoldAround (all_list x)
+all_list-around x rs k f gs l ts rest held =
     record { front = held.front; more = held.head ∷ held.own; whole = held.whole; holds = held.around }
 
 -- an attempt that a fault ended has its own entry alone
 pub HasKept-entry_builder : (x : List ℕ) (a b : EntryBuilder) (f : OpenFrame EntryItems) (i : EntryItems) (depth : ℕ)
-    → ((all : List Entry) → IsFront a all → IsFront b (take (suc f.items.entry) all)) →
+    → ((all : List Entry) → KeepsOf a all → KeepsOf b (take (suc f.items.entry) all)) →
     HasKept entries_hold x f depth a i b (with_one_more i)
 HasKept-entry_builder x a b f i depth is = record {
   holds = λ inside lost e fs ts us rest k d m here tried none (rs, kept, held).
-      let left = HoldFront-inside (all_hold x) (all_hold-around x) rs inside f (in_frame e i ∷ fs) lost ts (us ∷ rest)
+      let left = HoldFront-inside (all_list x) (all_list-around x) rs inside f (in_frame e i ∷ fs) lost ts (us ∷ rest)
       m held in
       let w = left.holds in
       let t = as_it_came x k f.extent.start f.extent.end in
@@ -276,8 +276,8 @@ HasKept-entry_builder x a b f i depth is = record {
       let own = AreEntries-without_items x k.offset (length w.front) (length fs) t w.head refl at in (
         take (suc f.items.entry) rs,
         is rs kept,
-        subst (λ z. AllHold x z (in_frame e (with_one_more i)) fs (us ++ t ∷ []) rest) (sym made)
-            (AllHold-add x w.front (w.head ∷ []) e i fs us rest (node t no_nodes)
+        subst (λ z. AllList x z (in_frame e (with_one_more i)) fs (us ++ t ∷ []) rest) (sym made)
+            (AllList-add x w.front (w.head ∷ []) e i fs us rest (node t no_nodes)
             (inr (refl, λ (other, bit, are). none are), tt) own w.around),
       );
 }

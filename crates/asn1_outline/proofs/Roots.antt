@@ -2,22 +2,22 @@
 -- `outline::Outline::to_block`.
 use Rattle.std.proofs.Common.{◌≡◌, ℕ, suc, ◌+◌, ◌<◌, ◌++◌, List, [], ◌∷◌, drop, get_or, length, refl, sym, ap, ◌∙◌, append_assoc, append-nil}
 use Rattle.asn1_blocks.specs.Tree.{Tree, Trees, more_trees, no_trees, trees_of}
-use Rattle.asn1_outline.specs.Building.{items_of, listed, roots}
+use Rattle.asn1_outline.specs.Building.{items_of, tree_list, roots}
 use Rattle.asn1_outline.specs.Structure.{Node, Nodes, more_nodes, no_node, no_nodes, node, node_count, node_in_order, node_items, node_tree, nodes_in_order, nodes_trees}
 use Rattle.asn1_outline.proofs.Iterating.{IsInOrderFrom-node, drop-next, node_in_order-items}
 
 -- trees that are made a list, and trees of it again, are as they were
-pub trees_of-listed : (bs : Trees ℕ) → trees_of (listed bs) ≡ bs
+pub trees_of-listed : (bs : Trees ℕ) → trees_of (tree_list bs) ≡ bs
 trees_of-listed no_trees = refl
 trees_of-listed (more_trees b bs) = ap (more_trees b) (trees_of-listed bs)
 
 -- the list of the trees of nodes has as many trees as there are nodes
-pub length-listed : (ns : Nodes) → length (listed (nodes_trees ns)) ≡ node_count ns
+pub length-listed : (ns : Nodes) → length (tree_list (nodes_trees ns)) ≡ node_count ns
 length-listed no_nodes = refl
 length-listed (more_nodes n ns) = ap suc (length-listed ns)
 
 -- as many trees as there are nodes, dropped from a list that begins with the nodes' trees, leave what follows them
-pub drop-listed : (ns : Nodes) (s : List (Tree ℕ)) → drop (node_count ns) (listed (nodes_trees ns) ++ s) ≡ s
+pub drop-listed : (ns : Nodes) (s : List (Tree ℕ)) → drop (node_count ns) (tree_list (nodes_trees ns) ++ s) ≡ s
 drop-listed no_nodes s = refl
 drop-listed (more_nodes n ns) s = drop-listed ns s
 
@@ -29,7 +29,7 @@ mutual
 
   -- of nodes in order and more behind them, the trees of the nodes come first among the trees inside no other
   roots-nodes_in_order : (ns : Nodes) (s : List Node) →
-      roots (nodes_in_order ns ++ s) ≡ listed (nodes_trees ns) ++ roots s
+      roots (nodes_in_order ns ++ s) ≡ tree_list (nodes_trees ns) ++ roots s
   roots-nodes_in_order no_nodes s = refl
   roots-nodes_in_order (more_nodes n ns) s =
       ap roots (append_assoc (node_in_order n) (nodes_in_order ns) s) ∙ roots-node_in_order n (nodes_in_order ns ++ s)

@@ -1,18 +1,12 @@
 -- The encodings of entries by headers lie in the octets, for `headers::Headers::contents` and
 -- `headers::Headers::encoding`.
-use Rattle.std.proofs.Common.{◌≡◌, ℕ, Bor, None, Option, Some, zero, suc, ◌+◌, ◌-◌, ◌<◌, ◌≤◌, ◌++◌, List, [], ◌∷◌, get_or, length, ◌∙◌, subst, sym, ap, arith}
+use Rattle.std.proofs.Common.{◌≡◌, ℕ, zero, suc, ◌+◌, ◌-◌, ◌<◌, ◌≤◌, ◌++◌, List, [], ◌∷◌, get_or, length, ◌∙◌, subst, sym, arith}
 use Rattle.std.proofs.Props.{props}
-use Rattle.std.specs.Prelude.{IsSomeAnd, MatchOption}
 use mathlib.Core.Logic.{∥∥₁_elim}
 use Rattle.asn1_blocks.specs.declared.parsed.PlacedHeader.{PlacedHeader}
 use Rattle.asn1_outline.specs.Entries.{no_entry}
-use Rattle.asn1_outline.specs.Shapes.{AreEntriesOfShapes, AreShapes, HasItems, Shapes, as_it_came, entries_of, no_more, not_read, one_more, read_inside}
+use Rattle.asn1_outline.specs.Shapes.{AreEntriesOfShapes, AreShapes, HasItems, IsWithin, Shapes, as_it_came, entries_of, no_more, not_read, one_more, read_inside}
 use Rattle.asn1_outline.specs.declared.entry.Entry.{Entry}
-use Rattle.asn1_outline.proofs.Lent.{get_or-looked_up}
-
--- the encoding of the entry lies in the octets
-abbrev pub IsWithin : List ℕ → Entry → Type 0
-IsWithin x r = r.offset + r.header + r.contents ≤ length x
 
 -- the encodings of all entries lie in the octets
 abbrev pub AreWithin : List ℕ → List Entry → Type 0
@@ -54,7 +48,7 @@ mutual
   AreWithin-items x h all i d within (not_read shut) = tt
 
 -- an entry that was looked up lies within the octets
-IsWithin-looked_up : (x : List ℕ) (es items : List Entry) (k : ℕ) (entry : Entry) → ∥ AreEntriesOfShapes x es ∥₁ →
+pub IsWithin-looked_up : (x : List ℕ) (es items : List Entry) (k : ℕ) (entry : Entry) → ∥ AreEntriesOfShapes x es ∥₁ →
     items ≡ es
     → (k < length items) × ((r : Entry) → entry ≡ get_or items k r) → IsWithin x entry
 IsWithin-looked_up x es items k entry walked same (h, is) =
@@ -65,23 +59,3 @@ IsWithin-looked_up x es items k entry walked same (h, is) =
     let there : AreWithin x items =
     subst (AreWithin x) (sym (same ∙ are)) (AreWithin-shapes x 0 (length x) shapes 0 0 (omega arith) has.shapes) in
     subst (IsWithin x) (sym (is no_entry)) (IsWithin-get_or x items there k h))
-
--- a slice that can't lie past the end is found
-IsSomeAnd-never_past : (found : Option (Bor (List ℕ))) (v w : List ℕ) (Past : Type 0) →
-    MatchOption found Past (λ slice. slice.now ≡ v) → (Past → ⊥) → v ≡ w
-    → IsSomeAnd found (λ slice. slice.now ≡ w)
-IsSomeAnd-never_past None v w Past is lies same = absurd (lies is)
-IsSomeAnd-never_past (Some slice) v w Past is lies same = is ∙ same
-
--- octets that were found for an entry that was looked up are those of the entry at the index
-pub IsSomeAnd-looked_up : (octets_of : Entry → List ℕ) (x : List ℕ) (es items : List Entry) (k : ℕ) (entry : Entry)
-    (found : Option (Bor (List ℕ))) → ∥ AreEntriesOfShapes x es ∥₁ → items ≡ es
-    → (k < length items) × ((r : Entry) → entry ≡ get_or items k r)
-    → MatchOption found (length x < entry.offset + entry.header + entry.contents)
-    (λ slice. slice.now ≡ octets_of entry)
-    → IsSomeAnd found (λ slice. slice.now ≡ octets_of (get_or es k no_entry))
-IsSomeAnd-looked_up octets_of x es items k entry found walked same at is =
-    let within = IsWithin-looked_up x es items k entry walked same at in
-    let (_, equal) = get_or-looked_up es items k entry same at in
-    IsSomeAnd-never_past found _ _ (length x < entry.offset + entry.header + entry.contents) is
-    (λ past. omega (arith, past, within)) (ap octets_of equal)

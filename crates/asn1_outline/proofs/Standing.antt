@@ -13,7 +13,7 @@ use Rattle.asn1_blocks.specs.Places.{EncodingAt}
 use Rattle.asn1_blocks.proofs.Faults.{IsEncoding-block}
 use Rattle.asn1_blocks.proofs.OneReading.{IsBlock-encodes, EncodesAll-single}
 use Rattle.asn1_blocks.proofs.Slices.{tree_offset-encodes}
-use Rattle.asn1_outline.specs.Structure.{AreNodes, Holds, IsEncodedIn, IsNode, IsStructure, Node, Nodes, more_nodes, no_node, no_nodes, node, node_at, node_in_order, node_tree, nodes_in_order, nodes_trees}
+use Rattle.asn1_outline.specs.Structure.{AreNodes, Holds, IsEncodedIn, IsNode, IsStructure, Node, Nodes, more_nodes, no_node, no_nodes, node, node_at, node_in_order, node_items, node_tree, nodes_in_order, nodes_trees}
 
 -- length octets are one octet or more
 IsLength-not_empty : (s : List ℕ) (n : ℕ) → IsLength s n → 0 < length s
@@ -110,6 +110,10 @@ drop-rest x place v first after rest s e =
     let two : drop size (drop place x) ≡ drop (place + size) x =
     drop-drop size place x ∙ ap (λ z. drop z x) (omega arith) in
     sym two ∙ ap (drop size) (drop-first x place v first after rest s e) ∙ drop_at first (after ++ rest) size refl
+
+-- a node's tree holds the trees of the node's items
+pub Holds-node_items : (x : List ℕ) (n : Node) → IsNode x n → Holds x (node_tree n) (nodes_trees (node_items n))
+Holds-node_items x (node b ns) is = is.0
 
 -- some octets encode a node's tree
 abbrev pub IsStanding : List ℕ → Node → Type 0

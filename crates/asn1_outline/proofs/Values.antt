@@ -1,8 +1,7 @@
--- An entry's contents octets mean the value of its tree, for the methods of `Entry` and `Outline`, and for
--- `simple_asn1_c`.
-use Rattle.std.proofs.Common.{◌≡◌, ℕ, ◌+◌, ◌<◌, ◌≤◌, ◌^◌, ◌++◌, Bool, true, false, ◌-◌, List, [], Some, None, inl, inr, drop, get_or, length, take, refl, sym, ap, subst, ◌∙◌, arith, append_assoc, length-append}
+-- An entry's contents octets mean the value of its tree, for the methods of `BlockRef`, and for `asn1_records`.
+use Rattle.std.proofs.Common.{◌≡◌, ℕ, ◌+◌, ◌<◌, ◌≤◌, ◌^◌, ◌⊎◌, ◌++◌, Bool, true, false, ◌-◌, List, [], Some, None, inl, inr, drop, get_or, length, take, refl, sym, ap, subst, ◌∙◌, arith, append_assoc, length-append}
 use Rattle.std.specs.List.{list_all, slice_range}
-use Rattle.std.specs.Prelude.{pos, ◌==◌, ◌&&◌, if◌then◌else◌, Option, MatchOption}
+use Rattle.std.specs.Prelude.{◌==◌, ◌&&◌, if◌then◌else◌, Option, MatchOption}
 use Rattle.std.proofs.lemmas.Bool.{cases_Bool, cases_lt, false≢true, or_cases}
 use Rattle.std.proofs.lemmas.Bool.Decides.{nat_tests}
 use Rattle.std.proofs.lemmas.List.{length-drop, take-append-drop, take_at}
@@ -12,26 +11,29 @@ use Rattle.asn1_headers.specs.declared.header.ASN1Class.{ASN1Class}
 use Rattle.asn1_headers.specs.declared.header.ASN1Class.TheVariants.{Application, ContextSpecific, Private, Universal}
 use Rattle.asn1_headers.proofs.Prefixes.{SameEncoding, Encoding-unique, Encoding-not_empty, IsIdentifier-unique}
 use Rattle.asn1_leaves.specs.StringKind.{StringKind}
-use Rattle.asn1_blocks.specs.BlockParts.{leaf_integer, tree_bits, tree_boolean, tree_integer, tree_moment, tree_octets, tree_oid, tree_tag, tree_text}
-use Rattle.asn1_blocks.specs.Contents.{LeafContents, LeafFault, group_tag, is_known_tag, is_leaf_tag, leaf_tag, of_text, string_tag}
+use Rattle.asn1_blocks.specs.BlockParts.{tree_bits, tree_boolean, tree_integer, tree_moment, tree_octets, tree_oid, tree_tag, tree_text}
+use Rattle.asn1_blocks.specs.Contents.{LeafContents, LeafFault, group_tag, is_known_tag, is_leaf_tag, leaf_tag, of_generalized_time, of_text, of_utc_time, string_tag}
 use Rattle.asn1_blocks.specs.Inner.LeafBlocks.{IsLeafOf}
 use Rattle.asn1_blocks.proofs.Leaves.{is_known_tag-group_tag, LeafContents-unique, is_known_tag-leaf_tag, LeafContents-no_fault, is_leaf_tag-leaf_tag, is_known_tag-is_leaf_tag, is_leaf_tag-not_group_tag, string_tag-lt, is_known_tag-unknown}
 use Rattle.asn1_headers.specs.Fault.{DecodeFault}
-use Rattle.asn1_headers.specs.declared.tags.TheConstants.{ENUMERATED, GENERAL_STRING, INTEGER, NUMERIC_STRING, VISIBLE_STRING, GENERALIZED_TIME, SEQUENCE, SET, UTC_TIME}
+use Rattle.asn1_headers.specs.declared.tags.TheConstants.{ENUMERATED, GENERAL_STRING, NUMERIC_STRING, VISIBLE_STRING, GENERALIZED_TIME, UTC_TIME}
+use Rattle.asn1_leaves.specs.Contents.GeneralizedTime.{GeneralizedTimeContents, GeneralizedTimeFault}
+use Rattle.asn1_leaves.specs.Contents.Moment.{Moment}
+use Rattle.asn1_leaves.specs.Contents.UtcTime.{UtcTimeContents, UtcTimeFault}
 use Rattle.asn1_leaves.specs.Contents.Integer.{is_shortest_integer}
 use Rattle.asn1_leaves.specs.Contents.Text.{TextContents, TextFault, text_form}
-use Rattle.asn1_blocks.specs.declared.block.GroupKind.TheVariants.{Sequence, Set}
 use Rattle.asn1_blocks.specs.Grammar.{Encodes, IsDocument}
 use Rattle.asn1_blocks.specs.Places.{EncodingAt}
 use Rattle.asn1_blocks.specs.Tree.{Leaf, Tree, bit_string, boolean, explicit, generalized_time, group, integer, leaf, object_identifier, octet_string, text, unknown, utc_time}
 use Rattle.asn1_blocks.specs.UnknownValues.{is_ascii_character, is_ascii_tag, tree_ascii_text, tree_enumerated}
 use Rattle.asn1_blocks.specs.View.{tree_offset}
 use Rattle.asn1_blocks.proofs.Slices.{EncodingAt-unique}
-use Rattle.asn1_outline.specs.Entries.{AreEntries, HasTag, no_entry}
-use Rattle.asn1_outline.specs.Structure.{IsStructure, Nodes, nodes_depths, nodes_in_order, tree_at}
+use Rattle.asn1_outline.specs.Entries.{AreEntries, IsCapped, no_entry}
+use Rattle.asn1_outline.specs.Shapes.{contents_octets, encoding_octets}
+use Rattle.asn1_outline.specs.Structure.{HasContents, IsEncodedIn, IsStructure, Nodes, node_at, node_items, nodes_depths, nodes_in_order, tree_at}
 use Rattle.asn1_outline.specs.Values.{EachIsOfItsTree, IsEntryOf, IsNoLeafWith, IsNoPrimitive, IsPrimitive}
 use Rattle.asn1_outline.proofs.Entries.{length-entries, IsEntry-get_or}
-use Rattle.asn1_outline.proofs.Standing.{drop-contents, EncodingAt-encoded, IsStanding-structure}
+use Rattle.asn1_outline.proofs.Standing.{drop-contents, EncodingAt-encoded, Holds-node_items, IsStanding-structure}
 use Rattle.asn1_outline.specs.declared.entry.Entry.{Entry}
 
 -- the tree's octets, and the contents octets where the entry has them
@@ -40,8 +42,10 @@ pub record EntryContents (x : List ℕ) (b : Tree ℕ) (r : Entry) : Type 0 wher
   pub tag : ℕ
   pub contents : List ℕ
   pub encoding : Encoding octets r.class r.constructed tag contents r.header
+  pub stands : IsEncodedIn x b octets
   pub encoded : Encodes (tree_offset b) octets b
-  pub number : HasTag tag r.tag
+  pub whole : slice_range x r.offset (r.offset + r.header + r.contents) ≡ octets
+  pub number : IsCapped tag r.tag
   pub within : r.offset + r.header + r.contents ≤ length x
   pub are : slice_range x (r.offset + r.header) (r.offset + r.header + r.contents) ≡ contents
 
@@ -74,12 +78,35 @@ EntryContents-entry x b r e =
       tag = h.tag;
       contents = h.contents;
       encoding = h.encoding;
+      stands = subst (IsEncodedIn x b) (sym same) own;
       encoded = subst (λ z. Encodes (tree_offset b) z b) (sym same) own.encoded;
+      whole = slice_range-at_offset x y at.rest r.offset (r.offset + r.header + r.contents) stands
+          (omega (arith, size));
       number = h.tag_field;
       within = omega (arith, size, some, ap length stands, length-append y at.rest, length-drop r.offset x);
       are = slice_range-at_offset x h.contents at.rest (r.offset + r.header) (r.offset + r.header + r.contents) after
           (omega (arith, h.contents_field));
     }
+
+-- the octets of an entry encode its tree
+pub IsEncodedIn-entry : (x : List ℕ) (b : Tree ℕ) (r : Entry) → IsEntryOf x b r → IsEncodedIn x b (encoding_octets x r)
+IsEncodedIn-entry x b r e =
+    let c = EntryContents-entry x b r e in
+    subst (IsEncodedIn x b) (sym c.whole) c.stands
+
+-- the contents octets of an entry are those of its tree
+pub HasContents-entry : (x : List ℕ) (b : Tree ℕ) (r : Entry) → IsEntryOf x b r → HasContents x b (contents_octets x r)
+HasContents-entry x b r e =
+    let c = EntryContents-entry x b r e in
+    subst (HasContents x b) (sym c.are) (record {
+      octets = c.octets;
+      encoded = c.stands;
+      class = r.class;
+      constructed = r.constructed;
+      tag = c.tag;
+      header = r.header;
+      encoding = c.encoding;
+    })
 
 -- octets are an encoding in one way
 pub SameEncoding-octets : (y : List ℕ) (c d : ASN1Class) (j k : Bool) (m n : ℕ) (v w : List ℕ) (g h : ℕ) →
@@ -89,73 +116,11 @@ pub SameEncoding-octets : (y : List ℕ) (c d : ASN1Class) (j k : Bool) (m n : �
 SameEncoding-octets y c d j k m n v w g h p q = Encoding-unique y y c d j k m n v w g h [] [] p q refl
 
 -- a tag field below 64 is the tag number
-pub HasTag-small : (n field m : ℕ) → HasTag n field → field ≡ m → m < 64 → n ≡ m
-HasTag-small n field m (low, high) e s = elim (cases_lt n (2 ^ 64)) [
+pub IsCapped-small : (n field m : ℕ) → IsCapped n field → field ≡ m → m < 64 → n ≡ m
+IsCapped-small n field m (low, high) e s = elim (cases_lt n (2 ^ 64)) [
   | inl lt ↦ sym (low lt) ∙ e
   | inr ge ↦ absurd (omega (arith, high ge, e, s))
 ]
-
--- the contents octets of an INTEGER are its number
-leaf_integer-signed_number : (l : Leaf) (v w : List ℕ) → leaf_tag l ≡ 2 → v ≡ w → LeafContents l v →
-    leaf_integer l ≡ Some (signed_number w)
-leaf_integer-signed_number l v w t e m =
-    ap leaf_integer (LeafContents-unique l (integer (signed_number w)) v t m (ap signed_number (sym e)))
-
--- the tree of an encoding of an INTEGER has the number of its contents octets
-tree_integer-encoding : (o : ℕ) (y : List ℕ) (b : Tree ℕ) (k : Bool) (w : List ℕ) (h : ℕ) → Encodes o y b →
-    Encoding y Universal k 2 w h
-    → tree_integer b ≡ Some (signed_number w)
-tree_integer-encoding o y (leaf p l) k w h (_, bit, contents, header, F, means) e =
-    let z = SameEncoding-octets y Universal Universal bit k (leaf_tag l) 2 contents w header h F e in
-    leaf_integer-signed_number l contents w z.tag z.contents means
-tree_integer-encoding o y (group p Sequence bs) k w h (_, bit, contents, header, F, _) e =
-    let z = SameEncoding-octets y Universal Universal bit k SEQUENCE 2 contents w header h F e in
-    absurd (omega (arith, z.tag))
-tree_integer-encoding o y (group p Set bs) k w h (_, bit, contents, header, F, _) e =
-    let z = SameEncoding-octets y Universal Universal bit k SET 2 contents w header h F e in
-    absurd (omega (arith, z.tag))
-tree_integer-encoding o y (explicit c p n b) k w h (_, other, contents, header, F, _) e =
-    let z = SameEncoding-octets y c Universal true k n 2 contents w header h F e in
-    absurd (other z.class)
-tree_integer-encoding o y (unknown c j p n v) k w h (_, header, F, stays) e =
-    let z = SameEncoding-octets y c Universal j k n 2 v w header h F e in
-    elim stays [
-      | inl (_, (no_leaf, _)) ↦ absurd (no_leaf (integer (pos 0)) z.tag)
-      | inr other ↦ absurd (other.0 z.class)
-    ]
-
--- the tree of an entry of class Universal with the tag number 2 is its INTEGER
-pub tree_integer-entry : (x : List ℕ) (b : Tree ℕ) (r : Entry) → IsEntryOf x b r → r.class ≡ Universal → r.tag ≡ INTEGER
-    → tree_integer b ≡ Some (signed_number (slice_range x (r.offset + r.header) (r.offset + r.header + r.contents)))
-tree_integer-entry x b r e class tag =
-    let c = EntryContents-entry x b r e in
-    let t = HasTag-small c.tag r.tag 2 c.number tag (omega arith) in
-    let own = subst (λ z. Encoding c.octets z r.constructed c.tag c.contents r.header) class c.encoding in
-    let two = subst (λ z. Encoding c.octets Universal r.constructed z c.contents r.header) t own in
-    tree_integer-encoding (tree_offset b) c.octets b r.constructed c.contents r.header c.encoded two
-    ∙ ap (λ z. Some (signed_number z)) (sym c.are)
-
--- a tree whose encoding has another class or tag number than an INTEGER is no INTEGER
-tree_integer-not_integer_encoding : (o : ℕ) (y : List ℕ) (b : Tree ℕ) (c : ASN1Class) (k : Bool) (n : ℕ) (w : List ℕ)
-    (h : ℕ) →
-    Encodes o y b → Encoding y c k n w h
-    → ((c ≡ Universal) × (n ≡ 2) → ⊥) → tree_integer b ≡ None
-tree_integer-not_integer_encoding o y (leaf p (integer m)) c k n w h (_, bit, contents, header, F, _) e other =
-    let z = SameEncoding-octets y Universal c bit k 2 n contents w header h F e in
-    absurd (other (sym z.class, sym z.tag))
-tree_integer-not_integer_encoding o y (leaf p l) c k n w h s e other = refl
-tree_integer-not_integer_encoding o y (group p g bs) c k n w h s e other = refl
-tree_integer-not_integer_encoding o y (explicit d p m b) c k n w h s e other = refl
-tree_integer-not_integer_encoding o y (unknown d j p m v) c k n w h s e other = refl
-
--- the tree of an entry with another class or tag number is no INTEGER
-pub tree_integer-not_integer : (x : List ℕ) (b : Tree ℕ) (r : Entry) → IsEntryOf x b r →
-    ((r.class ≡ Universal) × (r.tag ≡ INTEGER) → ⊥) → tree_integer b ≡ None
-tree_integer-not_integer x b r e other =
-    let c = EntryContents-entry x b r e in
-    tree_integer-not_integer_encoding (tree_offset b)
-    c.octets b r.class r.constructed c.tag c.contents r.header c.encoded c.encoding
-    (λ (d, t). other (d, c.number.0 (omega (arith, t)) ∙ t))
 
 -- an entry of a document lies within its octets
 pub IsEntryOf-within : (x : List ℕ) (b : Tree ℕ) (r : Entry) → IsEntryOf x b r →
@@ -195,7 +160,7 @@ IsLeafOf-entry x b r n e class tag small t =
     let c = EntryContents-entry x b r e in
     let own = subst (λ z. Encoding c.octets z r.constructed c.tag c.contents r.header) class c.encoding in
     let two = subst (λ z. Encoding c.octets Universal r.constructed z c.contents r.header)
-    (HasTag-small c.tag r.tag n c.number tag small) own in
+    (IsCapped-small c.tag r.tag n c.number tag small) own in
     subst (λ z. IsLeafOf (tree_offset b) n z b) (sym c.are)
     (IsLeafOf-encoding (tree_offset b) c.octets b r.constructed n c.contents r.header t c.encoded two)
 
@@ -275,7 +240,15 @@ pub IsEntryOf-node : (x : List ℕ) (ns : Nodes) (rs : List Entry) → IsStructu
 IsEntryOf-node x ns rs d are k h =
     let w = IsEntry-get_or x 0 (nodes_in_order ns) (nodes_depths 0 ns) rs are k h in
     let (y, s, is) = IsStanding-structure x ns d k h in
-    record { octets = y; encoded = s; offset_is = w.offset; header = w.header }
+    record {
+      octets = y;
+      encoded = s;
+      offset_is = w.offset;
+      header = w.header;
+      inside = node_items (node_at ns k);
+      holds = Holds-node_items x (node_at ns k) is;
+      items_are = w.items;
+    }
 
 -- each entry of an outline is that of the tree of its node
 pub EachIsOfItsTree-structure : EachIsOfItsTree
@@ -307,6 +280,14 @@ tree_boolean-none (leaf o l) other = refl
 tree_boolean-none (group o g bs) other = refl
 tree_boolean-none (explicit c o n b) other = refl
 tree_boolean-none (unknown c k o n v) other = refl
+
+-- a tree that is no leaf with the tag number of INTEGER is no INTEGER
+pub tree_integer-none : (b : Tree ℕ) → IsNoLeafWith 2 b → tree_integer b ≡ None
+tree_integer-none (leaf o (integer n)) other = absurd (other o (integer n) refl refl)
+tree_integer-none (leaf o l) other = refl
+tree_integer-none (group o g bs) other = refl
+tree_integer-none (explicit c o n b) other = refl
+tree_integer-none (unknown c k o n v) other = refl
 
 -- a tree that is no leaf with the tag number of BIT STRING has no bits of one
 pub tree_bits-none : (b : Tree ℕ) → IsNoLeafWith 3 b → tree_bits b ≡ None
@@ -374,20 +355,9 @@ IsPrimitive-entry x b r e class constructed small t =
     let own = subst (λ z. Encoding c.octets z r.constructed c.tag c.contents r.header) class c.encoding in
     let two = subst (λ z. Encoding c.octets Universal z c.tag c.contents r.header) constructed own in
     let three = subst (λ z. Encoding c.octets Universal false z c.contents r.header)
-    (HasTag-small c.tag r.tag r.tag c.number refl small) two in
+    (IsCapped-small c.tag r.tag r.tag c.number refl small) two in
     subst (λ z. IsPrimitive r.tag z b) (sym c.are)
     (IsPrimitive-encoding (tree_offset b) c.octets b r.tag c.contents r.header t c.encoded three)
-
--- the slice that was found has the contents octets of a primitive tree
-pub IsPrimitive-found : {A : Type 0} (now : A → List ℕ) (found : Option A) (x : List ℕ) (b : Tree ℕ) (r : Entry) →
-    IsEntryOf x b r
-    → r.class ≡ Universal → r.constructed ≡ false → r.tag < 64 → is_known_tag r.tag ≡ false
-    → MatchOption found (length x < r.offset + r.header + r.contents)
-    (λ v. now v ≡ slice_range x (r.offset + r.header) (r.offset + r.header + r.contents))
-    → MatchOption found (IsNoPrimitive b) (λ v. IsPrimitive r.tag (now v) b)
-IsPrimitive-found now None x b r e class constructed small t h = absurd (omega (arith, h, IsEntryOf-within x b r e))
-IsPrimitive-found now (Some v) x b r e class constructed small t h =
-    subst (λ z. IsPrimitive r.tag z b) (sym h) (IsPrimitive-entry x b r e class constructed small t)
 
 -- the entry of a primitive encoding of class Universal that stays as it came has its class, bit and tag number
 pub IsPrimitive-fields : (x : List ℕ) (b : Tree ℕ) (r : Entry) (n : ℕ) (v : List ℕ) → IsEntryOf x b r →
@@ -478,6 +448,52 @@ tree_moment-none (leaf o l) other more = refl
 tree_moment-none (group o g bs) other more = refl
 tree_moment-none (explicit c o n b) other more = refl
 tree_moment-none (unknown c k o n v) other more = refl
+
+-- the tree of an entry of no UTCTime or GeneralizedTime has no moment
+pub tree_moment-no_time : (x : List ℕ) (b : Tree ℕ) (r : Entry) → IsEntryOf x b r →
+    ((r.class ≡ Universal) × ((r.tag ≡ UTC_TIME) ⊎ (r.tag ≡ GENERALIZED_TIME)) → ⊥) → tree_moment b ≡ None
+tree_moment-no_time x b r e other =
+    tree_moment-none b
+    (IsNoLeafWith-entry x b r UTC_TIME e (omega arith) (λ (class, tag). other (class, inl tag)))
+    (IsNoLeafWith-entry x b r GENERALIZED_TIME e (omega arith) (λ (class, tag). other (class, inr tag)))
+
+-- what was found as the moment of an entry is that of its tree
+pub tree_moment-found : {A : Type 0} (moment : A → Moment) (found : Option A) (x : List ℕ) (b : Tree ℕ) (r : Entry)
+    (v : List ℕ) → IsEntryOf x b r → r.class ≡ Universal → v ≡ contents_octets x r
+    → MatchOption found ((r.tag ≡ UTC_TIME) ⊎ (r.tag ≡ GENERALIZED_TIME) → ⊥)
+    (λ a. ((r.tag ≡ UTC_TIME) × UtcTimeContents (moment a) v)
+    ⊎ ((r.tag ≡ GENERALIZED_TIME) × GeneralizedTimeContents (moment a) v))
+    → MatchOption found (tree_moment b ≡ None) (λ a. tree_moment b ≡ Some (moment a))
+tree_moment-found moment None x b r v e class same none =
+    tree_moment-no_time x b r e (λ (universal, time). none time)
+tree_moment-found moment (Some a) x b r v e class same is = elim is [
+  | inl (tag, means) ↦
+      let (p, tree) = IsLeafOf-leaf (tree_offset b) UTC_TIME (contents_octets x r) b (utc_time (moment a))
+      (IsLeafOf-entry x b r UTC_TIME e class tag (omega arith) refl) refl
+      (subst (UtcTimeContents (moment a)) same means) in
+      ap tree_moment tree
+  | inr (tag, means) ↦
+      let (p, tree) =
+      IsLeafOf-leaf (tree_offset b) GENERALIZED_TIME (contents_octets x r) b (generalized_time (moment a))
+      (IsLeafOf-entry x b r GENERALIZED_TIME e class tag (omega arith) refl) refl
+      (subst (GeneralizedTimeContents (moment a)) same means) in
+      ap tree_moment tree
+]
+
+-- the contents octets of an entry of a UTCTime or GeneralizedTime have no fault
+pub IsEntryOf-no_time_fault : (x : List ℕ) (b : Tree ℕ) (r : Entry) (v : List ℕ) (fault : DecodeFault) →
+    IsEntryOf x b r → r.class ≡ Universal → v ≡ contents_octets x r
+    → ((r.tag ≡ UTC_TIME) × UtcTimeFault v fault) ⊎ ((r.tag ≡ GENERALIZED_TIME) × GeneralizedTimeFault v fault) → ⊥
+IsEntryOf-no_time_fault x b r v fault e class same f = elim f [
+  | inl (tag, own) ↦
+      IsLeafOf-no_fault (tree_offset b) UTC_TIME (contents_octets x r) b fault
+      (IsLeafOf-entry x b r UTC_TIME e class tag (omega arith) refl)
+      (of_utc_time refl (subst (λ z. UtcTimeFault z fault) same own))
+  | inr (tag, own) ↦
+      IsLeafOf-no_fault (tree_offset b) GENERALIZED_TIME (contents_octets x r) b fault
+      (IsLeafOf-entry x b r GENERALIZED_TIME e class tag (omega arith) refl)
+      (of_generalized_time refl (subst (λ z. GeneralizedTimeFault z fault) same own))
+]
 
 -- a tree has the tag number of its octets
 tree_tag-encoding : (o : ℕ) (y : List ℕ) (b : Tree ℕ) (c : ASN1Class) (k : Bool) (n : ℕ) (w : List ℕ) (h : ℕ) →

@@ -7,13 +7,13 @@ use Rattle.asn1_outline.specs.Structure.{Holds, IsEncodedIn, Node, node_count, n
 use Rattle.asn1_outline.specs.declared.entry.Entry.{Entry}
 
 -- the trees, as a list
-abbrev pub listed : Trees ℕ → List (Tree ℕ)
-listed no_trees = []
-listed (more_trees b bs) = b ∷ listed bs
+abbrev pub tree_list : Trees ℕ → List (Tree ℕ)
+tree_list no_trees = []
+tree_list (more_trees b bs) = b ∷ tree_list bs
 
 -- the trees of the blocks that a node has
 abbrev pub items_of : Node → List (Tree ℕ)
-items_of n = listed (nodes_trees (node_items n))
+items_of n = tree_list (nodes_trees (node_items n))
 
 -- of nodes in order, each followed by those inside it, the trees of those that are inside no other
 abbrev pub roots : List Node → List (Tree ℕ)

@@ -10,20 +10,20 @@ use Rattle.asn1_outline.specs.Structure.{AreNodes, Node, Nodes, node_count, node
 use Rattle.asn1_outline.specs.declared.entry.Entry.{Entry}
 
 -- the field is the tag number; from 2^64 on it is the greatest that the field can be
-abbrev pub HasTag : ℕ → ℕ → Type 0
-HasTag n field = (n < 2 ^ 64 → field ≡ n) × (2 ^ 64 ≤ n → field ≡ 2 ^ 64 - 1)
+abbrev pub IsCapped : ℕ → ℕ → Type 0
+IsCapped n field = (n < 2 ^ 64 → field ≡ n) × (2 ^ 64 ≤ n → field ≡ 2 ^ 64 - 1)
 
 -- the octets are an encoding with the entry's header
-pub record HasHeader (octets : List ℕ) (r : Entry) : Type 0 where
+pub record HasEntryHeader (octets : List ℕ) (r : Entry) : Type 0 where
   pub tag : ℕ
   pub contents : List ℕ
   pub encoding : Encoding octets r.class r.constructed tag contents r.header
-  pub tag_field : HasTag tag r.tag
+  pub tag_field : IsCapped tag r.tag
   pub contents_field : r.contents ≡ length contents
 
 -- at the entry's offset stands an encoding with its header
 abbrev pub HasHeaderAt : List ℕ → Entry → Type 0
-HasHeaderAt document r = (octets : List ℕ) × EncodingAt document r.offset octets × HasHeader octets r
+HasHeaderAt document r = (octets : List ℕ) × EncodingAt document r.offset octets × HasEntryHeader octets r
 
 -- the entry is of the node, which has this index and stands inside so many blocks
 pub record IsEntry (document : List ℕ) (n : Node) (index deep : ℕ) (r : Entry) : Type 0 where

@@ -39,21 +39,21 @@ pub record IsHeld (document : List ℕ) (f : OpenFrame EntryItems) (deep : ℕ) 
   pub around : Around front
 
 -- the entries are those of the blocks that the frames have, the innermost first
-abbrev pub AllHold : List ℕ → List Entry → OpenFrame EntryItems → List (OpenFrame EntryItems)
+abbrev pub AllList : List ℕ → List Entry → OpenFrame EntryItems → List (OpenFrame EntryItems)
     → List (Tree ℕ) → List (List (Tree ℕ)) → Type 0
-AllHold document rs f [] ts [] = (f.items.count ≡ length ts) × AreOfTrees document 0 0 ts rs
-AllHold document rs f [] ts (us ∷ rest) = ⊥
-AllHold document rs f (g ∷ gs) ts [] = ⊥
-AllHold document rs f (g ∷ gs) ts (us ∷ rest) =
-    IsHeld document f (length gs) ts rs (λ front. AllHold document front g gs us rest)
+AllList document rs f [] ts [] = (f.items.count ≡ length ts) × AreOfTrees document 0 0 ts rs
+AllList document rs f [] ts (us ∷ rest) = ⊥
+AllList document rs f (g ∷ gs) ts [] = ⊥
+AllList document rs f (g ∷ gs) ts (us ∷ rest) =
+    IsHeld document f (length gs) ts rs (λ front. AllList document front g gs us rest)
 
-abbrev pub all_hold : List ℕ → List Entry → List (OpenFrame EntryItems) → List (List (Tree ℕ)) → Type 0
-all_hold document rs [] trees = ⊥
-all_hold document rs (f ∷ gs) [] = ⊥
-all_hold document rs (f ∷ gs) (ts ∷ rest) = AllHold document rs f gs ts rest
+abbrev pub all_list : List ℕ → List Entry → List (OpenFrame EntryItems) → List (List (Tree ℕ)) → Type 0
+all_list document rs [] trees = ⊥
+all_list document rs (f ∷ gs) [] = ⊥
+all_list document rs (f ∷ gs) (ts ∷ rest) = AllList document rs f gs ts rest
 
 -- the builder keeps the first of the entries, and the number of the others
-pub record IsFront (b : EntryBuilder) (all : List Entry) : Type 0 where
+pub record KeepsOf (b : EntryBuilder) (all : List Entry) : Type 0 where
   pub others : List Entry
   pub whole : all ≡ b.kept.items ++ others
   pub count : length others ≡ b.beyond
@@ -61,12 +61,12 @@ pub record IsFront (b : EntryBuilder) (all : List Entry) : Type 0 where
 -- the entries, of which the builder keeps the first, are those of the blocks that the frames have
 abbrev pub entries_hold :
     List ℕ → EntryBuilder → List (OpenFrame EntryItems) → List (List (Tree ℕ)) → Type 0
-entries_hold document b fs trees = (all : List Entry) × IsFront b all × all_hold document all fs trees
+entries_hold document b fs trees = (all : List Entry) × KeepsOf b all × all_list document all fs trees
 
 -- all entries were found; or their number, for which there is no room
-abbrev pub IsFound : ℕ → List Entry → Found → Type 0
-IsFound room all (Entries entries) = entries.items ≡ all
-IsFound room all (Count count) = (count ≡ length all) × (room < count)
+abbrev pub AreFound : ℕ → List Entry → Found → Type 0
+AreFound room all (Entries entries) = entries.items ≡ all
+AreFound room all (Count count) = (count ≡ length all) × (room < count)
 
 -- the entry with so many items, and with the index after it and all that it holds
 abbrev pub with_items : ℕ → ℕ → Entry → Entry

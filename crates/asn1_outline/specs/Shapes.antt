@@ -1,6 +1,6 @@
 -- Encodings by their headers alone (X.690 8.1.1). Contents octets of a SEQUENCE or SET are encodings (8.9 to 8.12);
 -- contents octets of a constructed encoding of another class are (8.14), or stay as they came. No others are read.
-use Rattle.std.specs.Prelude.{◌≡◌, ◌≢◌, ℕ, suc, ◌+◌, ◌-◌, ◌<◌, ◌^◌, ◌⊎◌, ◌++◌, true, List, [], ◌∷◌, length, min, slice_range}
+use Rattle.std.specs.Prelude.{◌≡◌, ◌≢◌, ℕ, suc, ◌+◌, ◌-◌, ◌<◌, ◌≤◌, ◌^◌, ◌⊎◌, ◌++◌, true, List, [], ◌∷◌, length, min, slice_range}
 use Rattle.asn1_headers.specs.Fault.{DecodeFault, empty_buffer}
 use Rattle.asn1_headers.specs.HeaderFault.{HeaderFault}
 use Rattle.asn1_headers.specs.declared.header.ASN1Class.TheVariants.{Universal}
@@ -92,6 +92,10 @@ entries_of index depth (more_shapes offset header items rest) =
 -- the entries are those of the octets
 abbrev pub AreEntriesOfShapes : List ℕ → List Entry → Type 0
 AreEntriesOfShapes octets rs = (all : Shapes) × HasShapes octets all × (rs ≡ entries_of 0 0 all)
+
+-- the encoding of the entry lies in the document
+abbrev pub IsWithin : List ℕ → Entry → Type 0
+IsWithin document r = r.offset + r.header + r.contents ≤ length document
 
 -- the octets of an encoding by its entry, and its contents octets
 abbrev pub encoding_octets : List ℕ → Entry → List ℕ

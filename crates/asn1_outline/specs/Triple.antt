@@ -4,7 +4,6 @@ use Rattle.asn1_headers.specs.declared.tags.TheConstants.{BIT_STRING, OBJECT_IDE
 use Rattle.asn1_headers.specs.declared.header.ASN1Class.TheVariants.{Universal}
 use Rattle.asn1_outline.specs.Entries.{no_entry}
 use Rattle.asn1_outline.specs.declared.entry.Entry.{Entry}
-use Rattle.asn1_outline.specs.declared.triple.TripleEntries.{TripleEntries}
 
 abbrev pub entry_at : List Entry → ℕ → Entry
 entry_at entries index = get_or entries index no_entry
@@ -22,9 +21,3 @@ pub record BeginWithTriple (entries : List Entry) : Type 0 where
   pub some : 0 < (entry_at entries (entry_at entries 1).next).items
   pub identifier : IsUniversal OBJECT_IDENTIFIER (entry_at entries ((entry_at entries 1).next + 1))
   pub signature : IsUniversal BIT_STRING (entry_at entries (entry_at entries (entry_at entries 1).next).next)
-
--- the parts of a triple are these entries
-pub record AreParts (entries : List Entry) (parts : TripleEntries) : Type 0 where
-  pub content : parts.content.now ≡ entry_at entries 1
-  pub identifier : parts.identifier.now ≡ entry_at entries ((entry_at entries 1).next + 1)
-  pub signature : parts.signature.now ≡ entry_at entries (entry_at entries (entry_at entries 1).next).next

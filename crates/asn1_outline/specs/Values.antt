@@ -6,15 +6,22 @@ use Rattle.asn1_blocks.specs.Grammar.{IsDocument}
 use Rattle.asn1_blocks.specs.Tree.{Leaf, Tree, Trees, leaf, unknown}
 use Rattle.asn1_blocks.specs.View.{tree_offset}
 use Rattle.asn1_outline.specs.Entries.{AreEntriesOf, HasHeaderAt, no_entry}
-use Rattle.asn1_outline.specs.Structure.{IsEncodedIn, tree_at}
+use Rattle.asn1_outline.specs.Structure.{Holds, IsEncodedIn, Nodes, node_count, nodes_trees, tree_at}
 use Rattle.asn1_outline.specs.declared.entry.Entry.{Entry}
 
--- the entry is of the header of octets of the document that encode the tree
+-- the entry is of octets of the document that encode the tree, and tells how many blocks the tree holds
 pub record IsEntryOf (document : List ℕ) (b : Tree ℕ) (r : Entry) : Type 0 where
   pub octets : List ℕ
   pub encoded : IsEncodedIn document b octets
   pub offset_is : r.offset ≡ tree_offset b
   pub header : HasHeaderAt document r
+  pub inside : Nodes
+  pub holds : Holds document b (nodes_trees inside)
+  pub items_are : r.items ≡ node_count inside
+
+-- the entry is of octets of the document that encode some tree
+abbrev pub IsOfSomeTree : List ℕ → Entry → Type 0
+IsOfSomeTree document r = (b : Tree ℕ) × IsEntryOf document b r
 
 -- the tree is no leaf with this tag number
 abbrev pub IsNoLeafWith : ℕ → Tree ℕ → Type 0

@@ -12,7 +12,7 @@ use Rattle.asn1_blocks.specs.declared.read_loop.OpenFrame.{OpenFrame}
 use Rattle.asn1_blocks.specs.declared.read_loop.Reader.{Reader}
 use Rattle.asn1_outline.specs.declared.header_walk.Turn.{Turn}
 use Rattle.asn1_outline.specs.declared.header_walk.Turn.TheVariants.{More, End, Stop}
-use Rattle.asn1_outline.specs.Listing.{IsFront}
+use Rattle.asn1_outline.specs.Listing.{KeepsOf}
 use Rattle.asn1_outline.specs.Shapes.{AreShapes, HeadersFaultAt, Shapes, entries_of, shape_count, shape_entry}
 use Rattle.asn1_outline.specs.declared.entry.Entry.{Entry}
 use Rattle.asn1_outline.specs.declared.entry_builder.EntryBuilder.{EntryBuilder}
@@ -20,7 +20,7 @@ use Rattle.asn1_outline.specs.declared.listing.EntryItems.{EntryItems}
 
 -- contents octets from the start to the end are read up to the offset reached: as many encodings as the count, with
 -- these entries, the first at the index. Whatever encodings or fault the rest has, the whole has behind what was read
-pub record IsReadTo (document : List ℕ) (start end reached index depth count : ℕ) (own : List Entry) : Type 0 where
+pub record WalksTo (document : List ℕ) (start end reached index depth count : ℕ) (own : List Entry) : Type 0 where
   pub from : start ≤ reached
   pub to : reached ≤ end
   pub within : end ≤ length document
@@ -33,15 +33,15 @@ pub record IsReadTo (document : List ℕ) (start end reached index depth count :
   pub counted : (rest : Shapes) → shape_count (and_then rest) ≡ count + shape_count rest
 
 -- the outermost frame is that of the document
-pub record IsWhole (document : List ℕ) (f : OpenFrame EntryItems) (reached : ℕ) (rs : List Entry)
+pub record IsOuter (document : List ℕ) (f : OpenFrame EntryItems) (reached : ℕ) (rs : List Entry)
     : Type 0 where
   pub start : f.extent.start ≡ 0
   pub end : f.extent.end ≡ length document
-  pub read : IsReadTo document f.extent.start f.extent.end reached 0 0 f.items.count rs
+  pub read : WalksTo document f.extent.start f.extent.end reached 0 0 f.items.count rs
 
 -- a frame is read up to the offset reached inside another one. The entries are those around it, its own, and those
 -- inside it
-pub record IsInside (document : List ℕ) (f g : OpenFrame EntryItems) (depth : ℕ)
+pub record WalksIn (document : List ℕ) (f g : OpenFrame EntryItems) (depth : ℕ)
     (Around : ℕ → List Entry → Type 0) (reached : ℕ) (rs : List Entry) : Type 0 where
   pub offset : ℕ
   pub header : PlacedHeader
@@ -54,23 +54,23 @@ pub record IsInside (document : List ℕ) (f g : OpenFrame EntryItems) (depth : 
   pub start : f.extent.start ≡ header.start
   pub end : f.extent.end ≡ header.end
   pub kind : IsKindOf f.extent.kind header
-  pub read : IsReadTo document f.extent.start f.extent.end reached (suc f.items.entry) (suc depth) f.items.count own
+  pub read : WalksTo document f.extent.start f.extent.end reached (suc f.items.entry) (suc depth) f.items.count own
   pub around : Around offset front
 
 -- the frames lie in one another, the innermost first, and all is read up to the offset reached
-abbrev pub AreOpen : List ℕ → OpenFrame EntryItems → List (OpenFrame EntryItems) → ℕ → List Entry → Type 0
-AreOpen document f [] reached rs = IsWhole document f reached rs
-AreOpen document f (g ∷ gs) reached rs =
-    IsInside document f g (length gs) (λ offset front. AreOpen document g gs offset front) reached rs
+abbrev pub AllOpen : List ℕ → OpenFrame EntryItems → List (OpenFrame EntryItems) → ℕ → List Entry → Type 0
+AllOpen document f [] reached rs = IsOuter document f reached rs
+AllOpen document f (g ∷ gs) reached rs =
+    WalksIn document f g (length gs) (λ offset front. AllOpen document g gs offset front) reached rs
 
 -- the frames of the reader are open up to the offset that it reached, with entries of which the builder keeps the first
-abbrev pub IsReading : List ℕ → Reader EntryBuilder EntryItems → Type 0
-IsReading document w = (all : List Entry) × IsFront w.builder all
-    × AreOpen document w.inner (reverse w.outer.items) w.index all
+abbrev pub IsWalking : List ℕ → Reader EntryBuilder EntryItems → Type 0
+IsWalking document w = (all : List Entry) × KeepsOf w.builder all
+    × AllOpen document w.inner (reverse w.outer.items) w.index all
 
 -- reading goes on, with less left to do
 pub record HasWalkedOn (document : List ℕ) (w : Reader EntryBuilder EntryItems) (most : ℕ) : Type 0 where
-  pub reading : IsReading document w
+  pub reading : IsWalking document w
   pub nearer : work_left (length document) w.index w.outer.items < most
 
 -- the octets have this fault, or memory ran out
@@ -79,14 +79,14 @@ HasStopped document w =
     OutOfMemoryOr (λ fault. HeadersFaultAt document 0 0 (length document) fault w.index) w.fault
 
 -- the document has shapes, and the builder keeps the first of the entries of the shapes
-abbrev pub HasEnded : List ℕ → Reader EntryBuilder EntryItems → Type 0
-HasEnded document w = (all : Shapes) × AreShapes document 0 (length document) all
-    × IsFront w.builder (entries_of 0 0 all)
+abbrev pub WalksAll : List ℕ → Reader EntryBuilder EntryItems → Type 0
+WalksAll document w = (all : Shapes) × AreShapes document 0 (length document) all
+    × KeepsOf w.builder (entries_of 0 0 all)
 
 -- where a turn leads: reading goes on, has ended, or has stopped
 abbrev pub HasWalked : List ℕ → Turn → Reader EntryBuilder EntryItems → ℕ → Type 0
 HasWalked document More w most = HasWalkedOn document w most
-HasWalked document End w most = HasEnded document w
+HasWalked document End w most = WalksAll document w
 HasWalked document Stop w most = HasStopped document w
 
 -- where a step leads that only memory can end
@@ -96,12 +96,12 @@ Leads (Ok u) a t b = (t ≡ More) × (b ≡ a)
 Leads (Err e) a t b = (t ≡ Stop) × (b.fault ≡ OutOfMemory)
 
 -- the innermost frame is read up to some offset, and there is the fault. Entries of frames that were dropped may follow
-pub record IsFaulty (document : List ℕ) (w : Reader EntryBuilder EntryItems) (fault : DecodeFault) (offset most : ℕ)
-    : Type 0 where
+pub record IsAtFault (document : List ℕ) (w : Reader EntryBuilder EntryItems) (fault : DecodeFault)
+    (offset most : ℕ) : Type 0 where
   pub reached : ℕ
   pub front : List Entry
   pub more : List Entry
-  pub whole : IsFront w.builder (front ++ more)
-  pub opened : AreOpen document w.inner (reverse w.outer.items) reached front
+  pub whole : KeepsOf w.builder (front ++ more)
+  pub opened : AllOpen document w.inner (reverse w.outer.items) reached front
   pub stops : HeadersFaultAt document w.inner.extent.start reached w.inner.extent.end fault offset
   pub nearer : work_left (length document) w.inner.extent.end w.outer.items ≤ most

@@ -1,6 +1,6 @@
 // A quick look at whether a document is canonical, over its entries: at each header, and at the contents octets of each
 // leaf.
-ghost use Rattle.std.specs.Prelude.{◌≡◌, ◌⊎◌, ℕ, ◌+◌, IsTrue, slice_range};
+ghost use Rattle.std.specs.Prelude.{◌≡◌, ◌⊎◌, ℕ, IsTrue};
 ghost use Rattle.asn1_blocks.specs.Grammar.{IsDocument};
 ghost use Rattle.asn1_blocks.specs.Tree.{Trees};
 ghost use Rattle.asn1_outline.specs.Entries.{HasHeaderAt, IsOutline};
@@ -71,7 +71,7 @@ fn is_canonical_universal(octets: &[u8], entry: &Entry) -> bool
     if entry.constructed {
         return false;
     }
-    are_leaf_contents_canonical(entry.tag, contents_in(octets, entry))
+    are_leaf_contents_canonical(entry.tag, entry.contents_in(octets))
 }
 
 // Whether the tag number is that of a SEQUENCE or SET.
@@ -99,15 +99,4 @@ fn is_shortest(octets: &[u8], entry: &Entry) -> bool
     } else {
         entry.header == 1 + length_size(entry.contents)
     }
-}
-
-// The contents octets of the entry.
-#[inline(always)]
-fn contents_in<'a>(octets: &'a [u8], entry: &Entry) -> &'a [u8]
-    requires { HasHeaderAt octets.now entry.now }
-    ensures { result.now ≡ slice_range octets.now (entry.now.offset + entry.now.header)
-        (entry.now.offset + entry.now.header + entry.now.contents) }
-{
-    let start = entry.offset + entry.header;
-    &octets[start..start + entry.contents]
 }

@@ -50,7 +50,7 @@ impl<'a> Headers<'a> {
         let Some(entry) = self.entries.get(index) else {
             return None;
         };
-        entry.encoding_in(self.octets)
+        Some(entry.encoding_in(self.octets))
     }
 
     /// The contents octets of the encoding at the index; `None` past the end.
@@ -63,7 +63,7 @@ impl<'a> Headers<'a> {
         let Some(entry) = self.entries.get(index) else {
             return None;
         };
-        entry.contents_in(self.octets)
+        Some(entry.contents_in(self.octets))
     }
 
     /// The octets of the document.

@@ -4,9 +4,9 @@ ghost use Rattle.asn1_headers.specs.Fault.{OutOfMemoryOr, fault_of};
 ghost use Rattle.asn1_headers.specs.Reading.{OutOfMemoryOrAt};
 ghost use Rattle.asn1_blocks.specs.Inner.ReaderSteps.{work_left};
 ghost use Rattle.asn1_blocks.specs.Places.{HeaderFound};
-ghost use Rattle.asn1_outline.specs.Listing.{IsFound, IsFront};
+ghost use Rattle.asn1_outline.specs.Listing.{AreFound, KeepsOf};
 ghost use Rattle.asn1_outline.specs.Shapes.{AreEntriesOfShapes, FirstHeaderFaultAt, HasShapes, Shapes, entries_of};
-ghost use Rattle.asn1_outline.specs.Walking.{AreOpen, HasWalkedOn, HasWalked, IsFaulty, IsReading, Leads};
+ghost use Rattle.asn1_outline.specs.Walking.{AllOpen, HasWalkedOn, HasWalked, IsAtFault, IsWalking, Leads};
 ghost use Rattle.asn1_outline.specs.declared.entry.Entry.{Entry};
 
 use crate::entry::Entry;
@@ -62,7 +62,7 @@ pub fn list_headers(alloc: Global, octets: &[u8]) -> Result<Vec<Entry>, LocatedE
 // The entries of octets by their headers, where there is room for them.
 pub fn list_headers_within(alloc: Global, octets: &[u8], room: usize) -> Result<Found, LocatedErr>
     ensures walked { IfOk result (λ found. (all : Shapes) × HasShapes octets.now all
-        × IsFound room (entries_of 0 0 all) found) }
+        × AreFound room (entries_of 0 0 all) found) }
     ensures refused { IfErr result (OutOfMemoryOrAt (FirstHeaderFaultAt octets.now)) }
 {
     if octets.is_empty() {
@@ -108,7 +108,7 @@ pub fn list_headers_within(alloc: Global, octets: &[u8], room: usize) -> Result<
 
 // Reads one header, or closes a frame at its end.
 fn take_turn(alloc: Global, octets: &[u8], reader: &mut Reader<EntryBuilder, EntryItems>) -> Turn
-    requires reading { IsReading octets.now reader.old }
+    requires reading { IsWalking octets.now reader.old }
     ensures { HasWalked octets.now result reader.new
         (work_left (length octets.now) reader.old.index reader.old.outer.items) }
 {
@@ -138,7 +138,7 @@ fn take(
     reader: &mut Reader<EntryBuilder, EntryItems>,
     header: PlacedHeader,
 ) -> Result<(), AllocError>
-    requires reading { IsReading octets.now reader.old }
+    requires reading { IsWalking octets.now reader.old }
     requires found { HeaderFound octets.now reader.old.index reader.old.inner.extent.end header }
     ensures { OnOk result (HasWalkedOn octets.now reader.new
         (work_left (length octets.now) reader.old.index reader.old.outer.items)) }
@@ -170,8 +170,8 @@ fn close(
     parent: OpenFrame<EntryItems>,
 ) -> Result<(), AllocError>
     requires ended { reader.old.index ≡ reader.old.inner.extent.end }
-    requires opened { (all : List Entry) × IsFront reader.old.builder all
-        × AreOpen _octets.now reader.old.inner (parent ∷ reverse reader.old.outer.items) reader.old.index all }
+    requires opened { (all : List Entry) × KeepsOf reader.old.builder all
+        × AllOpen _octets.now reader.old.inner (parent ∷ reverse reader.old.outer.items) reader.old.index all }
     ensures { OnOk result (HasWalkedOn _octets.now reader.new
         (work_left (length _octets.now) reader.old.index (parent ∷ reader.old.outer.items))) }
 {
@@ -185,7 +185,7 @@ fn close(
 #[cold]
 #[inline(never)]
 fn fail(octets: &[u8], reader: &mut Reader<EntryBuilder, EntryItems>, error: ASN1DecodeErr) -> Turn
-    requires failed { OutOfMemoryOr (λ fault. IsFaulty octets.now reader.old fault reader.old.index
+    requires failed { OutOfMemoryOr (λ fault. IsAtFault octets.now reader.old fault reader.old.index
         (work_left (length octets.now) reader.old.index reader.old.outer.items)) error }
     ensures { HasWalked octets.now result reader.new
         (work_left (length octets.now) reader.old.index reader.old.outer.items) }
@@ -204,7 +204,7 @@ fn refuse(
     reader: &mut Reader<EntryBuilder, EntryItems>,
     error: ASN1DecodeErr,
 ) -> Turn
-    requires faulty { IsFaulty _octets.now reader.old (fault_of error) reader.old.index
+    requires faulty { IsAtFault _octets.now reader.old (fault_of error) reader.old.index
         (work_left (length _octets.now) reader.old.index reader.old.outer.items) }
     ensures { HasWalked _octets.now result reader.new
         (work_left (length _octets.now) reader.old.index reader.old.outer.items) }

@@ -1,23 +1,23 @@
 //! Documents as flat lists of entries, one for each block, without building a block: a layer of `simple_asn1`, which is
 //! the crate for users.
 //!
-//! `simple_asn1` hands on `Outline`, `Headers`, `Entry`, `Entries` and `law_entries`. All else is public for the crates
-//! above alone, and may change with them.
+//! `simple_asn1` hands on `Outline`, `BlockRef`, `Headers`, `Entry`, `Entries` and `law_entries`. All else is public
+//! for the crates above alone, and may change with them.
 #![tactic(auto)]
 
+pub mod block_ref;
 mod building;
 mod canonical;
 pub mod entry;
 pub mod entry_builder;
+mod entry_reading;
 mod header_reading;
 pub mod header_walk;
 pub mod headers;
-mod indexed;
 pub mod iter;
 pub mod listing;
 pub mod outline;
 mod outline_reading;
 pub mod signed;
 pub mod strict;
-pub mod triple;
 pub mod value;

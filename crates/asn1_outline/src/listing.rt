@@ -7,8 +7,8 @@ ghost use Rattle.asn1_blocks.specs.Grammar.{FirstFaultAt, IsDocument};
 ghost use Rattle.asn1_blocks.specs.HeadersBegun.{HeadersBegun};
 ghost use Rattle.asn1_blocks.specs.Places.{HeaderFound};
 ghost use Rattle.asn1_blocks.specs.Tree.{Trees};
-ghost use Rattle.asn1_outline.specs.Entries.{AreEntriesOf, HasTag};
-ghost use Rattle.asn1_outline.specs.Listing.{IsBegun, IsFound, IsFront, entries_hold, with_items_at};
+ghost use Rattle.asn1_outline.specs.Entries.{AreEntriesOf, IsCapped};
+ghost use Rattle.asn1_outline.specs.Listing.{IsBegun, AreFound, KeepsOf, entries_hold, with_items_at};
 ghost use Rattle.asn1_outline.specs.Shapes.{shape_entry};
 ghost use Rattle.asn1_outline.specs.declared.entry.Entry.{Entry};
 
@@ -57,7 +57,7 @@ pub fn list_within(
 ) -> Result<Found, LocatedErr>
     requires room { count.old + length octets.now < 2 ^ 64 }
     ensures document { IfOk result (λ found. (bs : Trees ℕ) × (all : List Entry) × IsDocument octets.now bs
-        × AreEntriesOf octets.now bs all × IsFound room all found) }
+        × AreEntriesOf octets.now bs all × AreFound room all found) }
     ensures refused { IfErr result (OutOfMemoryOrAt (FirstFaultAt octets.now)) }
     ensures counted { MatchResult result
         (λ _. (n : ℕ) × HeadersBegun octets.now n × (count.new ≡ count.old + n))
@@ -78,7 +78,7 @@ pub fn list_within(
 
 // What was found by reading to the end: all entries, or how many there are.
 pub fn found_of(builder: EntryBuilder, room: usize) -> Result<Found, LocatedErr>
-    ensures found { IfOk result (λ found. (all : List Entry) → IsFront builder all → IsFound room all found) }
+    ensures found { IfOk result (λ found. (all : List Entry) → KeepsOf builder all → AreFound room all found) }
     ensures refused { IfErr result (λ e. e.error ≡ OutOfMemory) }
 {
     let count = builder.count();
@@ -183,7 +183,7 @@ impl Builder for EntryBuilder {
 impl EntryBuilder {
     // No entries of a document of this size, of which so many may be kept.
     pub fn with_room(alloc: Global, size: usize, room: usize) -> Result<EntryBuilder, AllocError>
-        ensures { IfOk result (λ builder. IsFront builder []) }
+        ensures { IfOk result (λ builder. KeepsOf builder []) }
     {
         let guess = size.min(RESERVED) / 8;
         let kept = Vec::with_capacity(alloc, guess.min(room))?;
@@ -198,7 +198,7 @@ impl EntryBuilder {
     #[inline(always)]
     pub fn count(&self) -> usize
         ensures sum { result ≡ vec_len self.now.kept + self.now.beyond }
-        ensures count { (all : List Entry) → IsFront self.now all → result ≡ length all }
+        ensures count { (all : List Entry) → KeepsOf self.now all → result ≡ length all }
         ensures small { result < 2 ^ 63 }
     {
         self.kept.len() + self.beyond
@@ -207,7 +207,7 @@ impl EntryBuilder {
     // Adds an entry of a document of this size.
     #[inline(always)]
     pub fn add(&mut self, block: Entry, size: usize) -> Result<(), AllocError>
-        ensures { (all : List Entry) → IsFront self.old all → OnOk result (IsFront self.new (all ++ block ∷ [])) }
+        ensures { (all : List Entry) → KeepsOf self.old all → OnOk result (KeepsOf self.new (all ++ block ∷ [])) }
     {
         if !self.has_room(block.offset, size)? {
             return self.add_beyond();
@@ -276,8 +276,8 @@ impl EntryBuilder {
     // The entry of a frame, if it is kept, holds the frame's blocks, which are all those after it.
     #[inline(always)]
     pub fn set_items(&mut self, items: EntryItems)
-        ensures { (all : List Entry) → IsFront self.old all
-            → IsFront self.new (with_items_at all items.entry items.count) }
+        ensures { (all : List Entry) → KeepsOf self.old all
+            → KeepsOf self.new (with_items_at all items.entry items.count) }
     {
         let next = self.count();
         if items.entry >= self.kept.len() {
@@ -290,7 +290,7 @@ impl EntryBuilder {
 
     // There are no blocks after the one with this entry.
     pub fn cut(&mut self, entry: usize)
-        ensures { (all : List Entry) → IsFront self.old all → IsFront self.new (take (suc entry) all) }
+        ensures { (all : List Entry) → KeepsOf self.old all → KeepsOf self.new (take (suc entry) all) }
     {
         let kept = self.kept.len();
         if entry < kept {
@@ -342,7 +342,7 @@ pub fn header_entry(header: &PlacedHeader, offset: usize, entry: usize, depth: u
 
 // The number, or the greatest u64.
 pub fn capped(tag: &BigUint) -> u64
-    ensures { HasTag tag.now result }
+    ensures { IsCapped tag.now result }
 {
     match tag.to_u64() {
         Some(n) => n,

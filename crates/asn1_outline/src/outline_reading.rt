@@ -1,11 +1,13 @@
 // How an outline is read, and what it lends.
-ghost use Rattle.std.specs.Prelude.{◌≡◌, ◌<◌, ℕ, length, IfErr, IfOk};
+ghost use Rattle.std.specs.Prelude.{◌≡◌, ◌<◌, ℕ, length, option_map, slice_get, IfErr, IfOk, IfSome};
 ghost use Rattle.asn1_headers.specs.Reading.{OutOfMemoryOrAt, ReadsEachLocated, RejectsAt};
 ghost use Rattle.asn1_blocks.specs.Grammar.{FirstFaultAt, IsDocument};
 ghost use Rattle.asn1_blocks.specs.Tree.{Trees};
 ghost use Rattle.asn1_outline.specs.Entries.{AreEntriesOf};
-ghost use Rattle.asn1_outline.specs.Outlines.{entries_in, octets_in};
+ghost use Rattle.asn1_outline.specs.Outlines.{IsBlockOf, entries_in, entry_in, lent_to, octets_in};
+ghost use Rattle.asn1_outline.specs.Structure.{IsStructure, Nodes, tree_at};
 
+use crate::block_ref::BlockRef;
 use crate::entry::Entry;
 use crate::listing::list;
 use crate::outline::Outline;
@@ -42,6 +44,23 @@ impl<'a> Outline<'a> {
         ensures not_empty { 0 < length result.now }
     {
         self.entries.as_slice()
+    }
+
+    /// The block at the index, in place; `None` past the end.
+    #[inline(always)]
+    pub fn block(&self, index: usize) -> Option<BlockRef<'a>>
+        ensures entry { option_map entry_in result ≡ slice_get (entries_in self.now) index }
+        ensures lent { IfSome result (λ block. lent_to block ≡ octets_in self.now) }
+        ensures tree { (ns : Nodes) → IsStructure (octets_in self.now) ns
+            → IfSome result (IsBlockOf (tree_at ns index)) }
+    {
+        let Some(entry) = self.entries.get(index) else {
+            return None;
+        };
+        Some(BlockRef {
+            entry: *entry,
+            octets: self.octets,
+        })
     }
 
     /// The octets of the document.

@@ -13,16 +13,16 @@ use Rattle.asn1_outline.proofs.Standing.{EncodingAt-encoded, IsStanding-structur
 use Rattle.asn1_outline.specs.Entries.{AreEntries, AreEntriesOf, HasHeaderAt, IsOutline, no_entry}
 use Rattle.asn1_outline.specs.declared.entry.Entry.{Entry}
 use Rattle.asn1_records.specs.Answers.{IsCanonicalStructure}
-use Rattle.asn1_records.specs.Records.{AreRecords, HasHeader, IsRecordAt, block_of, no_record}
+use Rattle.asn1_records.specs.Records.{AreRecords, HasRecordHeader, IsRecordAt, block_of, no_record}
 
 -- the octets of a tree have the header that stands at its entry
-pub HasHeader-block_of : (x : List ℕ) (b : Tree ℕ) (e : Entry) (octets : List ℕ) → HasHeaderAt x e →
+pub HasRecordHeader-block_of : (x : List ℕ) (b : Tree ℕ) (e : Entry) (octets : List ℕ) → HasHeaderAt x e →
     e.offset ≡ tree_offset b → IsEncodedIn x b octets
-    → HasHeader octets (block_of e)
-HasHeader-block_of x b e octets (y, at, h) o s =
+    → HasRecordHeader octets (block_of e)
+HasRecordHeader-block_of x b e octets (y, at, h) o s =
     let there = EncodingAt-encoded x b octets s in
     let here = subst (λ n. EncodingAt x n y) o at in
-    let own : HasHeader y (block_of e) = record {
+    let own : HasRecordHeader y (block_of e) = record {
       class = e.class;
       constructed = e.constructed;
       tag = h.tag;
@@ -33,7 +33,7 @@ HasHeader-block_of x b e octets (y, at, h) o s =
       tag_field = h.tag_field;
       contents_field = h.contents_field;
     } in
-    subst (λ w. HasHeader w (block_of e)) (EncodingAt-unique x (tree_offset b) y octets here there) own
+    subst (λ w. HasRecordHeader w (block_of e)) (EncodingAt-unique x (tree_offset b) y octets here there) own
 
 -- the records of a document's entries are those of its blocks, in order
 AreRecords-block_of : (x : List ℕ) (ns : Nodes) (es : List Entry) → IsStructure x ns →
@@ -51,7 +51,7 @@ AreRecords-block_of x ns es d are =
           let own : IsRecordAt x ns k (block_of e) = record {
             octets = octets;
             encoded = s;
-            header = HasHeader-block_of x (tree_at ns k) e octets w.header w.offset s;
+            header = HasRecordHeader-block_of x (tree_at ns k) e octets w.header w.offset s;
             offset = w.offset;
             items = w.items;
             next = omega (arith, w.next);

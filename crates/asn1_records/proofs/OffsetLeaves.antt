@@ -6,7 +6,7 @@ use Rattle.asn1_headers.specs.declared.header.ASN1Class.TheVariants.{Universal}
 use Rattle.asn1_blocks.proofs.Leaves.{LeafContents-no_fault}
 use Rattle.asn1_blocks.proofs.OneReading.{IsBlock-not_empty, IsBlock-encodes, EncodesAll-single, Encodes-single}
 use Rattle.asn1_blocks.proofs.Slices.{EncodingAt-unique}
-use Rattle.asn1_outline.specs.Entries.{HasTag}
+use Rattle.asn1_outline.specs.Entries.{IsCapped}
 use Rattle.simple_asn1.specs.Contents.{LeafContents, LeafFault, leaf_tag}
 use Rattle.simple_asn1.specs.Fault.{DecodeFault}
 use Rattle.simple_asn1.specs.Grammar.{Encodes, FirstFault, in_contents, no_blocks}
@@ -79,7 +79,7 @@ module _ (octets : List ℕ) (offset : ℕ) where
     IsMissing-nothing status s (inr (m, none)) e = IsMissing-none s (λ n v t u. none n v u) (e ∙ m)
 
     -- where an encoding with another tag stands, a value of the kind is missing
-    pub IsMissing-not_tag : (s n field : ℕ) (v : List ℕ) → UniversalAt octets offset n v → HasTag n field →
+    pub IsMissing-not_tag : (s n field : ℕ) (v : List ℕ) → UniversalAt octets offset n v → IsCapped n field →
         ((m : ℕ) → IsTag m → m < 2 ^ 64)
         → (IsTag field → ⊥) → s ≡ no_such_value → IsMissing Value IsTag octets offset s
     IsMissing-not_tag s n field v u (exact, capped) small other e =

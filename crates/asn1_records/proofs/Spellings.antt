@@ -11,7 +11,7 @@ use Rattle.asn1_headers.specs.declared.header.ASN1Class.{ASN1Class}
 use Rattle.asn1_records.specs.declared.record.Block.{Block}
 use Rattle.asn1_records.specs.Inner.InRecords.{HoldsBlocks, IsCanonicalBlock}
 use Rattle.asn1_records.proofs.CanonicalRecords.{AreCanonicalBlocks-drop, AreCanonicalBlocks-take, IsCanonicalBlock-holding}
-use Rattle.asn1_records.specs.Spelled.{IsState, IsUnspellable, contents_of, greatest_tag, has_too_many, spells_contents, spells_items, starts_of}
+use Rattle.asn1_records.specs.Spelled.{IsState, IsUnspellable, spelled_contents, greatest_tag, has_too_many, spells_contents, spells_items, starts_of}
 
 -- encodings have as many places as there are encodings
 pub length-starts_of : (xs : List (List ℕ)) → length (starts_of xs) ≡ length xs
@@ -80,14 +80,15 @@ module _ (octets : List ℕ) (r : Block) (class : ASN1Class) (is : class_number 
   -- a record with contents octets of its own is spelled before the others
   pub IsState-contents :
       r.tag < greatest_tag → r.items ≡ 0 → r.offset + r.header + r.contents ≤ length octets → (with_contents : List ℕ) →
-      with_contents ≡ contents_of octets r ++ spelled →
+      with_contents ≡ spelled_contents octets r ++ spelled →
       new_spelled ≡ shortest_identifier class (nat_lt 0 r.constructed) r.tag ++
-      (shortest_length (length (contents_of octets r)) ++ with_contents) →
+      (shortest_length (length (spelled_contents octets r)) ++ with_contents) →
       new_starts ≡ starts ++ length spelled ∷ [] → (IsTrue now → IsTrue was) →
-      (IsTrue now → IsCanonicalBlock (shortest_encoding class (nat_lt 0 r.constructed) r.tag (contents_of octets r))) →
+      (IsTrue now →
+      IsCanonicalBlock (shortest_encoding class (nat_lt 0 r.constructed) r.tag (spelled_contents octets r))) →
       IsState octets (r ∷ rs) new_spelled new_starts now
   IsState-contents low none within with_contents put headed started so_far this =
-      let v = contents_of octets r in
+      let v = spelled_contents octets r in
       let i = shortest_identifier class (nat_lt 0 r.constructed) r.tag in
       let l = shortest_length (length v) in
       let inner : with_contents ≡ v ++ concat xs = put ∙ ap (λ z. v ++ z) state.joined in

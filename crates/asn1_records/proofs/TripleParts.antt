@@ -10,7 +10,7 @@ use Rattle.asn1_headers.proofs.Prefixes.{Encoding-unique}
 use Rattle.asn1_blocks.specs.declared.block.GroupKind.TheVariants.{Sequence}
 use Rattle.asn1_blocks.proofs.OneReading.{IsBlock-encodes, IsBlock-not_empty}
 use Rattle.asn1_blocks.proofs.Slices.{EncodingAt-unique, tree_offset-encodes}
-use Rattle.asn1_outline.specs.Entries.{AreEntries, HasHeaderAt, HasTag, IsEntry, IsOutline}
+use Rattle.asn1_outline.specs.Entries.{AreEntries, HasHeaderAt, IsCapped, IsEntry, IsOutline}
 use Rattle.asn1_outline.specs.Triple.{BeginWithTriple, IsUniversal, entry_at}
 use Rattle.asn1_outline.specs.declared.entry.Entry.{Entry}
 use Rattle.asn1_outline.proofs.Entries.{IsEntry-get_or, length-entries}
@@ -24,7 +24,7 @@ use Rattle.simple_asn1.specs.View.{tree_offset}
 use Rattle.asn1_records.specs.Answers.{AreRecordsOfParts, identifier_tree}
 use Rattle.asn1_records.specs.Contents.{IsHeaderAt}
 use Rattle.asn1_records.specs.Inner.TripleRecords.{ArePartsBehind, IsOfEncoding, IsUniversalRecordAt, record_end, record_start}
-use Rattle.asn1_records.specs.Records.{HasHeader, IsRecord, block_of}
+use Rattle.asn1_records.specs.Records.{HasRecordHeader, IsRecord, block_of}
 use Rattle.asn1_records.specs.Status.{done}
 use Rattle.asn1_records.specs.declared.record.Block.{Block}
 use Rattle.asn1_records.specs.declared.record.SignedAnswer.{SignedAnswer}
@@ -63,8 +63,8 @@ pub IsOfEncoding-at : (x : List ℕ) (o : ℕ) (r : Block) → IsHeaderAt x o r 
 IsOfEncoding-at x o r (y, at, h, offset, _, _) = (y, subst (λ z. EncodingAt x z y) (sym offset) at, h)
 
 -- one tag number has one field
-HasTag-unique : (n m f g : ℕ) → n ≡ m → HasTag n f → HasTag m g → f ≡ g
-HasTag-unique n m f g same (low, high) (low', high') = elim (cases_lt n (2 ^ 64)) [
+IsCapped-unique : (n m f g : ℕ) → n ≡ m → IsCapped n f → IsCapped m g → f ≡ g
+IsCapped-unique n m f g same (low, high) (low', high') = elim (cases_lt n (2 ^ 64)) [
   | inl lt ↦ low lt ∙ same ∙ sym (low' (omega (arith, same, lt)))
   | inr ge ↦ high ge ∙ sym (high' (omega (arith, same, ge)))
 ]
@@ -97,7 +97,7 @@ IsHeaderAt-unique x o r s (y, at, h, offset, items, (next, depth)) (z, at', h', 
     let same : y ≡ z = EncodingAt-unique x o y z at at' in
     let u = Encoding-unique y z h.class h'.class h.constructed h'.constructed h.tag h'.tag h.contents h'.contents
     r.header s.header [] [] h.encoding h'.encoding (ap (λ w. w ++ []) same) in
-    let tag = HasTag-unique h.tag h'.tag r.tag s.tag u.tag h.tag_field h'.tag_field in
+    let tag = IsCapped-unique h.tag h'.tag r.tag s.tag u.tag h.tag_field h'.tag_field in
     let offsets : r.offset ≡ s.offset = offset ∙ sym offset' in
     let header : r.header ≡ s.header = u.header in
     let contents : r.contents ≡ s.contents = h.contents_field ∙ ap length u.contents ∙ sym h'.contents_field in
@@ -121,7 +121,7 @@ header_of e = record (block_of e) { items = 0; next = 0; depth = 0 }
 pub IsHeaderAt-entry : (x : List ℕ) (e : Entry) (o : ℕ) → HasHeaderAt x e → e.offset ≡ o →
     IsHeaderAt x o (header_of e)
 IsHeaderAt-entry x e o (y, at, h) is =
-    let own : HasHeader y (header_of e) = record {
+    let own : HasRecordHeader y (header_of e) = record {
       class = e.class;
       constructed = e.constructed;
       tag = h.tag;

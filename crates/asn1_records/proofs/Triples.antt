@@ -9,7 +9,7 @@ use Rattle.asn1_blocks.proofs.Leaves.{is_leaf_tag-leaf_tag, is_leaf_tag-not_grou
 use Rattle.asn1_blocks.proofs.Slices.{EncodingAt-unique}
 use Rattle.asn1_outline.proofs.Entries.{IsEntry-get_or}
 use Rattle.asn1_outline.proofs.Standing.{EncodingAt-encoded, IsStanding-structure}
-use Rattle.asn1_outline.proofs.Values.{HasTag-small, SameEncoding-octets}
+use Rattle.asn1_outline.proofs.Values.{IsCapped-small, SameEncoding-octets}
 use Rattle.asn1_outline.specs.Entries.{AreEntries, IsEntry}
 use Rattle.asn1_outline.specs.Triple.{BeginWithTriple, IsUniversal, entry_at}
 use Rattle.asn1_outline.specs.declared.entry.Entry.{Entry}
@@ -21,7 +21,7 @@ use Rattle.simple_asn1.specs.SignedTrees.{IsSigned, SignedParts, algorithm_tree,
 use Rattle.simple_asn1.specs.Structure.{Holds, IsEncodedIn, IsNode, IsStructure, Node, Nodes, more_nodes, no_node, no_nodes, node, node_at, node_count, node_in_order, node_items, node_tree, nodes_depths, nodes_in_order, nodes_trees}
 use Rattle.simple_asn1.specs.Tree.{Leaf, Tree, Trees, bit_string, boolean, explicit, generalized_time, group, integer, leaf, more_trees, no_trees, null, object_identifier, octet_string, text, unknown, utc_time}
 use Rattle.simple_asn1.specs.View.{tree_offset}
-use Rattle.asn1_records.proofs.Entries.{HasHeader-block_of}
+use Rattle.asn1_records.proofs.Entries.{HasRecordHeader-block_of}
 use Rattle.asn1_records.specs.Answers.{identifier_tree}
 use Rattle.asn1_records.specs.Records.{IsRecord, block_of}
 use Rattle.asn1_records.specs.declared.record.Block.{Block}
@@ -44,7 +44,7 @@ HasUniversalTag-entry x n i d tag e y is s small (class, number) =
     let (octets, at, h) = is.header in
     let same = EncodingAt-unique x (tree_offset b) octets y (subst (λ o. EncodingAt x o octets) is.offset at)
     (EncodingAt-encoded x b y s) in
-    let t = HasTag-small h.tag e.tag tag h.tag_field number small in
+    let t = IsCapped-small h.tag e.tag tag h.tag_field number small in
     let own = subst (λ c. Encoding octets c e.constructed h.tag h.contents e.header) class h.encoding in
     record {
       octets = octets;
@@ -213,7 +213,7 @@ module _ (x : List ℕ) (es : List Entry) (ns : Nodes) (d : IsStructure x ns)
   IsRecord-node k n b f e =
       let w = f.entry in
       let r = entry_at es k in
-      let h = HasHeader-block_of x (node_tree n) r f.octets w.header w.offset f.encoded in
+      let h = HasRecordHeader-block_of x (node_tree n) r f.octets w.header w.offset f.encoded in
       record {
         ns = ns;
         structure = d;

@@ -11,27 +11,27 @@ use Rattle.simple_asn1.specs.Structure.{AreNodes, IsStructure, Nodes, nodes_tree
 use Rattle.simple_asn1.specs.Tree.{Tree, Trees, leaf, object_identifier}
 use Rattle.asn1_records.specs.Room.{Answers, OrNoMemory}
 use Rattle.asn1_records.specs.Records.{AreRecords, HasNoLinks, IsRecord, block_of, no_record}
-use Rattle.asn1_records.specs.Spelled.{IsBadAt, IsSpelled}
+use Rattle.asn1_records.specs.Spelled.{IsBadAt, AreSpelled}
 use Rattle.asn1_records.specs.Status.{bad_record, done, is_not_canonical, not_signed, status_of}
 use Rattle.asn1_records.specs.declared.record.Block.{Block}
 use Rattle.asn1_records.specs.declared.record.Outcome.{Outcome}
 use Rattle.asn1_records.specs.declared.record.SignedAnswer.{SignedAnswer}
 
 -- the octets are refused for their first fault, which is at the offset
-abbrev pub IsRefused : List ℕ → ℕ → ℕ → Type 0
-IsRefused octets status offset =
+abbrev pub IsRefusal : List ℕ → ℕ → ℕ → Type 0
+IsRefusal octets status offset =
     (fault : DecodeFault) × FirstFaultAt octets fault offset × (status ≡ status_of fault)
 
 -- the octets are refused in strict reading: for their first fault, or, with none, for the first block that is not
 -- canonical, which has the offset
 abbrev pub IsRefusedStrict : List ℕ → ℕ → ℕ → Type 0
 IsRefusedStrict octets status offset =
-    IsRefused octets status offset ⊎ ((status ≡ is_not_canonical) × IsNotCanonicalAt octets offset)
+    IsRefusal octets status offset ⊎ ((status ≡ is_not_canonical) × IsNotCanonicalAt octets offset)
 
 -- reading into records: those of all blocks of a document; or the first fault and its place
 abbrev pub AnswersRead : List ℕ → List Block → List Block → Outcome → Type 0
 AnswersRead octets before after o =
-    Answers (λ records. (ns : Nodes) × IsStructure octets ns × AreRecords octets ns records) (IsRefused octets)
+    Answers (λ records. (ns : Nodes) × IsStructure octets ns × AreRecords octets ns records) (IsRefusal octets)
     before after o
 
 -- the octets are a document in canonical form with this structure
@@ -61,12 +61,12 @@ pub data AnswersCheck (octets : List ℕ) (o : Outcome) : Type 0 where
   is_document :
       o.status ≡ done → o.offset ≡ 0 → o.count ≡ 0 → (bs : Trees ℕ) → IsDocument octets bs →
       AnswersCheck octets o
-  is_no_document : OrNoMemory (IsRefused octets) o.status o.offset → o.count ≡ 0 → AnswersCheck octets o
+  is_no_document : OrNoMemory (IsRefusal octets) o.status o.offset → o.count ≡ 0 → AnswersCheck octets o
 
 -- rewriting: the canonical octets of a document; or the first fault and its place
 abbrev pub AnswersRewrite : List ℕ → List ℕ → List ℕ → Outcome → Type 0
 AnswersRewrite octets before after o =
-    Answers (λ written. (bs : Trees ℕ) × IsDocument octets bs × (written ≡ all_canonical bs)) (IsRefused octets)
+    Answers (λ written. (bs : Trees ℕ) × IsDocument octets bs × (written ≡ all_canonical bs)) (IsRefusal octets)
     before after o
 
 -- the block of the object identifier that names the algorithm
@@ -90,7 +90,7 @@ pub data AnswersSigned (octets : List ℕ) (s : SignedAnswer) : Type 0 where
   is_of_another_shape :
       s.status ≡ not_signed → IsOfAnotherShape octets → s.offset ≡ 0 → HasNoParts s → AnswersSigned octets s
   was_refused_signed :
-      OrNoMemory (IsRefused octets) s.status s.offset → HasNoParts s → AnswersSigned octets s
+      OrNoMemory (IsRefusal octets) s.status s.offset → HasNoParts s → AnswersSigned octets s
 
 -- the last of the records that can't be put has this index
 abbrev pub IsRefusedRecord : List ℕ → List Block → ℕ → ℕ → Type 0
@@ -100,12 +100,12 @@ IsRefusedRecord octets records status offset = (status ≡ bad_record) × IsBadA
 abbrev pub IsRefusedWriting : List ℕ → List Block → ℕ → ℕ → Type 0
 IsRefusedWriting octets records status offset =
     IsRefusedRecord octets records status offset
-    ⊎ ((spelled : List ℕ) × IsSpelled octets records spelled × IsRefused spelled status offset)
+    ⊎ ((spelled : List ℕ) × AreSpelled octets records spelled × IsRefusal spelled status offset)
 
 -- writing records: the canonical octets of the document that they spell; or why there are none
 abbrev pub AnswersWrite : List ℕ → List Block → List ℕ → List ℕ → Outcome → Type 0
 AnswersWrite octets records before after o =
     Answers
-    (λ written. (spelled : List ℕ) × IsSpelled octets records spelled × (bs : Trees ℕ) × IsDocument spelled bs
+    (λ written. (spelled : List ℕ) × AreSpelled octets records spelled × (bs : Trees ℕ) × IsDocument spelled bs
     × (written ≡ all_canonical bs))
     (IsRefusedWriting octets records) before after o

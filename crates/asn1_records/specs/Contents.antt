@@ -11,7 +11,7 @@ use Rattle.simple_asn1.specs.Header.{BeginsWithNo, Encoding}
 use Rattle.simple_asn1.specs.Places.{EncodingAt, HasNoEncodingAt}
 use Rattle.simple_asn1.specs.Tree.{Trees}
 use Rattle.asn1_records.specs.Puts.{ArePutIf, IsNotPut}
-use Rattle.asn1_records.specs.Records.{HasHeader, HasNoLinks}
+use Rattle.asn1_records.specs.Records.{HasRecordHeader, HasNoLinks}
 use Rattle.asn1_records.specs.Room.{ArePut, IsNoMemory}
 use Rattle.asn1_records.specs.Status.{done, no_memory, no_such_value, out_of_range, status_of, too_long}
 use Rattle.asn1_records.specs.Values.{most_in_decimal}
@@ -68,7 +68,7 @@ pub data AnswersComponent (contents : List ℕ) (index : ℕ) (o : Outcome) : Ty
 -- the record has the header of the encoding at the offset, and says nothing of what that holds
 abbrev pub IsHeaderAt : List ℕ → ℕ → Block → Type 0
 IsHeaderAt octets offset r =
-    (x : List ℕ) × EncodingAt octets offset x × HasHeader x r × (r.offset ≡ offset) × (r.items ≡ 0)
+    (x : List ℕ) × EncodingAt octets offset x × HasRecordHeader x r × (r.offset ≡ offset) × (r.items ≡ 0)
     × HasNoLinks r
 
 -- the record of an encoding by its header alone; no encoding stands at the offset; or memory ran out

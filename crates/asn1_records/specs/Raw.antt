@@ -19,7 +19,7 @@ use Rattle.simple_asn1.specs.Header.{class_number}
 use Rattle.asn1_records.specs.Answers.{IsRefusedRecord}
 use Rattle.asn1_records.specs.Puts.{ArePutIf, IsNotPut}
 use Rattle.asn1_records.specs.Room.{Answers, ArePut}
-use Rattle.asn1_records.specs.Spelled.{IsSpelled}
+use Rattle.asn1_records.specs.Spelled.{AreSpelled}
 use Rattle.asn1_records.specs.Status.{bad_record, no_memory, no_such_value, not_a_date, not_oid, not_utf8, out_of_range, too_long}
 use Rattle.asn1_records.specs.Values.{IsMomentTag, IsTextTag, most_digits}
 use Rattle.asn1_records.specs.declared.record.Block.{Block}
@@ -114,4 +114,4 @@ pub data AnswersEncoding (class constructed : ℕ) (numeral contents before afte
 -- the octets that records spell; or the last record that can't be put
 abbrev pub AnswersSpell : List ℕ → List Block → List ℕ → List ℕ → Outcome → Type 0
 AnswersSpell octets records before after o =
-    Answers (IsSpelled octets records) (IsRefusedRecord octets records) before after o
+    Answers (AreSpelled octets records) (IsRefusedRecord octets records) before after o

@@ -5,12 +5,12 @@ use Rattle.simple_asn1.specs.Structure.{IsEncodedIn, IsStructure, Nodes, node_at
 use Rattle.simple_asn1.specs.Tree.{Tree}
 use Rattle.simple_asn1.specs.View.{tree_offset}
 use Rattle.asn1_headers.specs.declared.header.ASN1Class.{ASN1Class}
-use Rattle.asn1_outline.specs.Entries.{HasTag}
+use Rattle.asn1_outline.specs.Entries.{IsCapped}
 use Rattle.asn1_outline.specs.declared.entry.Entry.{Entry}
 use Rattle.asn1_records.specs.declared.record.Block.{Block}
 
 -- the octets are an encoding with the header of the record
-pub record HasHeader (octets : List ℕ) (r : Block) : Type 0 where
+pub record HasRecordHeader (octets : List ℕ) (r : Block) : Type 0 where
   pub class : ASN1Class
   pub constructed : Bool
   pub tag : ℕ
@@ -18,7 +18,7 @@ pub record HasHeader (octets : List ℕ) (r : Block) : Type 0 where
   pub encoding : Encoding octets class constructed tag contents r.header
   pub class_field : r.tag_class ≡ class_number class
   pub constructed_field : r.constructed ≡ constructed_bit constructed
-  pub tag_field : HasTag tag r.tag
+  pub tag_field : IsCapped tag r.tag
   pub contents_field : r.contents ≡ length contents
 
 -- what is read of a place past the end
@@ -57,7 +57,7 @@ block_of e = record {
 pub record IsRecordAt (whole : List ℕ) (ns : Nodes) (k : ℕ) (r : Block) : Type 0 where
   pub octets : List ℕ
   pub encoded : IsEncodedIn whole (tree_at ns k) octets
-  pub header : HasHeader octets r
+  pub header : HasRecordHeader octets r
   pub offset : r.offset ≡ tree_offset (tree_at ns k)
   pub items : r.items ≡ node_count (node_items (node_at ns k))
   -- the index after the block and all that it holds
@@ -73,7 +73,7 @@ pub record IsRecord (whole : List ℕ) (b : Tree ℕ) (r : Block) : Type 0 where
   pub tree : tree_at ns place ≡ b
   pub octets : List ℕ
   pub encoded : IsEncodedIn whole b octets
-  pub header : HasHeader octets r
+  pub header : HasRecordHeader octets r
   pub offset : r.offset ≡ tree_offset b
   pub items : r.items ≡ node_count (node_items (node_at ns place))
 

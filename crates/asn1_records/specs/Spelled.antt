@@ -9,8 +9,8 @@ use Rattle.asn1_records.specs.Records.{no_record}
 use Rattle.asn1_records.specs.declared.record.Block.{Block}
 
 -- the contents octets that a record has among the octets
-abbrev pub contents_of : List ℕ → Block → List ℕ
-contents_of octets r = slice_range octets (r.offset + r.header) (r.offset + r.header + r.contents)
+abbrev pub spelled_contents : List ℕ → Block → List ℕ
+spelled_contents octets r = slice_range octets (r.offset + r.header) (r.offset + r.header + r.contents)
 
 -- what a record has for each tag number from this one on, so that it names no tag number
 abbrev pub greatest_tag : ℕ
@@ -24,7 +24,8 @@ pub data Spells (octets : List ℕ) : List Block → List (List ℕ) → Type 0 
       {rs : List Block} {xs : List (List ℕ)} (r : Block) (class : ASN1Class) →
       class_number class ≡ r.tag_class → r.tag < greatest_tag → r.items ≡ 0 →
       r.offset + r.header + r.contents ≤ length octets → Spells octets rs xs →
-      Spells octets (r ∷ rs) (shortest_encoding class (nat_lt 0 r.constructed) r.tag (contents_of octets r) ∷ xs)
+      Spells octets (r ∷ rs)
+      (shortest_encoding class (nat_lt 0 r.constructed) r.tag (spelled_contents octets r) ∷ xs)
   spells_items :
       {rs : List Block} {xs : List (List ℕ)} (r : Block) (class : ASN1Class) →
       class_number class ≡ r.tag_class → r.tag < greatest_tag → 0 < r.items → r.items ≤ length xs →
@@ -47,8 +48,8 @@ IsBadAt octets records place =
     × IsUnspellable octets xs (get_or records place no_record)
 
 -- the records spell these octets
-abbrev pub IsSpelled : List ℕ → List Block → List ℕ → Type 0
-IsSpelled octets records spelled = (xs : List (List ℕ)) × Spells octets records xs × (spelled ≡ concat xs)
+abbrev pub AreSpelled : List ℕ → List Block → List ℕ → Type 0
+AreSpelled octets records spelled = (xs : List (List ℕ)) × Spells octets records xs × (spelled ≡ concat xs)
 
 -- where each of the encodings ends, counted back from the end of all, the last of them first
 abbrev pub starts_of : List (List ℕ) → List ℕ

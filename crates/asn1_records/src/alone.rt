@@ -1,6 +1,6 @@
 // The encoding at an offset, by its header alone.
 ghost use Rattle.std.specs.Prelude.{◌≡◌, ◌⊎◌, ℕ, List, IfErr, IfOk, IfSome};
-ghost use Rattle.asn1_outline.specs.Entries.{HasTag};
+ghost use Rattle.asn1_outline.specs.Entries.{IsCapped};
 ghost use Rattle.asn1_records.specs.Status.{no_memory, no_such_value};
 ghost use Rattle.asn1_records.specs.Values.{UniversalAt};
 
@@ -18,7 +18,7 @@ pub fn universal_at<'a>(
     offset: usize,
 ) -> Result<(u64, &'a [u8]), u32>
     ensures found { IfOk result
-        (λ x. (tag : ℕ) × UniversalAt octets.now offset tag x.1.now × HasTag tag x.0) }
+        (λ x. (tag : ℕ) × UniversalAt octets.now offset tag x.1.now × IsCapped tag x.0) }
     ensures missing { IfErr result (λ status. (status ≡ no_memory) ⊎ ((status ≡ no_such_value)
         × ((tag : ℕ) (contents : List ℕ) → UniversalAt octets.now offset tag contents → ⊥))) }
 {
@@ -33,7 +33,7 @@ pub fn universal_at<'a>(
 #[inline(always)]
 fn short_universal_at<'a>(octets: &'a [u8], offset: usize) -> Option<(u64, &'a [u8])>
     ensures { IfSome result
-        (λ x. (tag : ℕ) × UniversalAt octets.now offset tag x.1.now × HasTag tag x.0) }
+        (λ x. (tag : ℕ) × UniversalAt octets.now offset tag x.1.now × IsCapped tag x.0) }
 {
     if offset > octets.len() {
         return None;
@@ -60,7 +60,7 @@ fn any_universal_at<'a>(
     offset: usize,
 ) -> Result<(u64, &'a [u8]), u32>
     ensures found { IfOk result
-        (λ x. (tag : ℕ) × UniversalAt octets.now offset tag x.1.now × HasTag tag x.0) }
+        (λ x. (tag : ℕ) × UniversalAt octets.now offset tag x.1.now × IsCapped tag x.0) }
     ensures missing { IfErr result (λ status. (status ≡ no_memory) ⊎ ((status ≡ no_such_value)
         × ((tag : ℕ) (contents : List ℕ) → UniversalAt octets.now offset tag contents → ⊥))) }
 {

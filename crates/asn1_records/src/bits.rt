@@ -6,8 +6,9 @@ ghost use Rattle.asn1_records.specs.Values.{AnswersBits};
 
 use crate::alone::universal_at;
 use crate::putting::{nothing_put, put_front};
+use crate::raw::put_raw_bits;
 use crate::record::{BitStringAnswer, Outcome};
-use crate::status::{DONE, NO_MEMORY, NO_SUCH_VALUE, OUT_OF_RANGE, status_of_fault};
+use crate::status::{DONE, NO_SUCH_VALUE, OUT_OF_RANGE, status_of_fault};
 use arrayvec::ArrayVec;
 use asn1_headers::tags::BIT_STRING;
 use asn1_leaves::contents::{bit_string, boolean};
@@ -76,12 +77,5 @@ pub fn put_bits(alloc: Global, octets: &[u8], bits: usize, room: &mut [u8]) -> O
     if bits.div_ceil(8) != octets.len() {
         return nothing_put(OUT_OF_RANGE, 0);
     }
-    let Ok(size) = bit_string::size(bits, octets) else {
-        unreachable!()
-    };
-    let Ok(mut contents) = Vec::with_capacity(alloc, size) else {
-        return nothing_put(NO_MEMORY, 0);
-    };
-    bit_string::push(bits, octets, &mut contents);
-    put_front(&contents, room)
+    put_raw_bits(alloc, octets, bits, room)
 }

@@ -1,5 +1,4 @@
 // The components of contents octets of an OBJECT IDENTIFIER, as numbers, in decimal and in the fewest octets.
-ghost use Rattle.std.specs.Prelude.{◌<◌, ◌≤◌, ℕ, IfNone, IfSome, length, slice_index};
 ghost use Rattle.asn1_records.specs.Contents.{AnswersComponent, AnswersComponents, AnswersDotted, AnswersShortest};
 
 use crate::dotted::{MOST_IN_DECIMAL, put_decimal};
@@ -8,6 +7,7 @@ use crate::record::Outcome;
 use crate::status::{
     INCOMPLETE, NO_MEMORY, NO_SUCH_VALUE, OUT_OF_RANGE, TOO_LONG, status_of_fault,
 };
+use asn1_headers::header::last_octet_at;
 use asn1_leaves::contents::object_identifier::are_shortest;
 use asn1_leaves::oid;
 use simple_asn1::ASN1DecodeErr;
@@ -39,15 +39,6 @@ pub fn put_dotted(alloc: Global, contents: &[u8], room: &mut [u8]) -> Outcome
         Ok(outcome) => outcome,
         Err(status) => nothing_put(status, 0),
     }
-}
-
-// The index of the first octet whose bit 8 is clear.
-fn last_octet_at(octets: &[u8]) -> Option<usize>
-    ensures found { IfSome result (λ i. (i < length octets.now) × (slice_index octets.now i < 128)) }
-    ensures before { IfSome result (λ i. (j : ℕ) → j < i → 128 ≤ slice_index octets.now j) }
-    ensures none { IfNone result ((j : ℕ) → j < length octets.now → 128 ≤ slice_index octets.now j) }
-{
-    octets.iter().position(|b| *b < 128)
 }
 
 // How many octets the component has that begins at the index.

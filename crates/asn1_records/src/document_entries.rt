@@ -7,9 +7,9 @@ ghost use Rattle.simple_asn1.specs.ReadBack.{CanonicalDocument};
 ghost use Rattle.simple_asn1.specs.Tree.{Trees};
 ghost use Rattle.asn1_outline.specs.Entries.{AreEntriesOf, IsOutline};
 ghost use Rattle.asn1_outline.specs.declared.entry.Entry.{Entry};
-ghost use Rattle.asn1_outline.specs.Listing.{IsFound, IsFront};
+ghost use Rattle.asn1_outline.specs.Listing.{AreFound, KeepsOf};
 ghost use Rattle.asn1_outline.specs.Shapes.{HasShapes, Shapes, entries_of};
-ghost use Rattle.asn1_records.specs.Answers.{IsRefused, IsRefusedByHeader, IsRefusedStrict};
+ghost use Rattle.asn1_records.specs.Answers.{IsRefusal, IsRefusedByHeader, IsRefusedStrict};
 ghost use Rattle.asn1_records.specs.Room.{IsNoMemory, OrNoMemory};
 ghost use Rattle.asn1_records.specs.Status.{status_of};
 ghost use Rattle.asn1_headers.specs.declared.error.ASN1DecodeErr.TheVariants.{OutOfMemory};
@@ -43,7 +43,7 @@ pub const OUT_OF_MEMORY: Fault = Fault {
 // Whether octets are a document.
 pub fn check(alloc: Global, octets: &[u8]) -> Result<(), Fault>
     ensures document { OnOk result ((bs : Trees ℕ) × IsDocument octets.now bs) }
-    ensures fault { IfErr result (λ f. OrNoMemory (IsRefused octets.now) f.status f.offset) }
+    ensures fault { IfErr result (λ f. OrNoMemory (IsRefusal octets.now) f.status f.offset) }
 {
     match check_document(alloc, octets) {
         Ok(()) => Ok(()),
@@ -59,7 +59,7 @@ const FEW_OCTETS: usize = 1 << 16;
 pub fn canonical_octets(alloc: Global, octets: &[u8]) -> Result<Option<Vec<u8>>, Fault>
     ensures document { IfOk result (λ written. (bs : Trees ℕ) × IsDocument octets.now bs
         × MatchOption written (octets.now ≡ all_canonical bs) (λ v. v.items ≡ all_canonical bs)) }
-    ensures fault { IfErr result (λ f. OrNoMemory (IsRefused octets.now) f.status f.offset) }
+    ensures fault { IfErr result (λ f. OrNoMemory (IsRefusal octets.now) f.status f.offset) }
 {
     if octets.len() > FEW_OCTETS
         && let Err(fault) = check(alloc, octets)
@@ -73,7 +73,7 @@ pub fn canonical_octets(alloc: Global, octets: &[u8]) -> Result<Option<Vec<u8>>,
 fn written_unless_canonical(alloc: Global, octets: &[u8]) -> Result<Option<Vec<u8>>, Fault>
     ensures document { IfOk result (λ written. (bs : Trees ℕ) × IsDocument octets.now bs
         × MatchOption written (octets.now ≡ all_canonical bs) (λ v. v.items ≡ all_canonical bs)) }
-    ensures fault { IfErr result (λ f. OrNoMemory (IsRefused octets.now) f.status f.offset) }
+    ensures fault { IfErr result (λ f. OrNoMemory (IsRefusal octets.now) f.status f.offset) }
 {
     match rewrite_unless_canonical(alloc, octets) {
         Ok(written) => Ok(written),
@@ -99,8 +99,8 @@ pub fn fault_at(located: &LocatedErr) -> Fault
 // The entries of a document, where there is room for so many, or else their number.
 pub fn find_records(alloc: Global, octets: &[u8], room: usize) -> Result<Found, Fault>
     ensures document { IfOk result (λ found. (bs : Trees ℕ) × (all : List Entry) × IsDocument octets.now bs
-        × AreEntriesOf octets.now bs all × IsFound room all found) }
-    ensures fault { IfErr result (λ f. OrNoMemory (IsRefused octets.now) f.status f.offset) }
+        × AreEntriesOf octets.now bs all × AreFound room all found) }
+    ensures fault { IfErr result (λ f. OrNoMemory (IsRefusal octets.now) f.status f.offset) }
 {
     let mut count = HeaderCount::new();
     match list_within(alloc, octets, room, &mut count) {
@@ -112,7 +112,7 @@ pub fn find_records(alloc: Global, octets: &[u8], room: usize) -> Result<Found, 
 // The entries of a document in canonical form, or their number.
 pub fn find_records_strict(alloc: Global, octets: &[u8], room: usize) -> Result<Found, Fault>
     ensures document { IfOk result (λ found. (bs : Trees ℕ) × (all : List Entry) × CanonicalDocument octets.now bs
-        × AreEntriesOf octets.now bs all × IsFound room all found) }
+        × AreEntriesOf octets.now bs all × AreFound room all found) }
     ensures fault { IfErr result (λ f. OrNoMemory (IsRefusedStrict octets.now) f.status f.offset) }
 {
     law_one_reading();
@@ -130,7 +130,7 @@ pub fn find_records_strict(alloc: Global, octets: &[u8], room: usize) -> Result<
 // Blocks are built only where a quick look does not find that it is canonical.
 fn check_strict(alloc: Global, octets: &[u8], found: &Found) -> Result<(), Fault>
     requires { (bs : Trees ℕ) × (all : List Entry) × IsDocument octets.now bs
-        × AreEntriesOf octets.now bs all × ((room : ℕ) × IsFound room all found.now) }
+        × AreEntriesOf octets.now bs all × ((room : ℕ) × AreFound room all found.now) }
     ensures document { OnOk result ((bs : Trees ℕ) × CanonicalDocument octets.now bs) }
     ensures fault { IfErr result (λ f. OrNoMemory (IsRefusedStrict octets.now) f.status f.offset) }
 {
@@ -163,8 +163,8 @@ fn check_blocks(alloc: Global, octets: &[u8]) -> Result<(), Fault>
 
 // A builder of the first entries of a document, of which it keeps so many.
 pub fn read_first(alloc: Global, octets: &[u8], room: usize) -> Result<EntryBuilder, Fault>
-    ensures document { IfOk result (λ builder. (all : List Entry) × IsOutline octets.now all × IsFront builder all) }
-    ensures fault { IfErr result (λ f. OrNoMemory (IsRefused octets.now) f.status f.offset) }
+    ensures document { IfOk result (λ builder. (all : List Entry) × IsOutline octets.now all × KeepsOf builder all) }
+    ensures fault { IfErr result (λ f. OrNoMemory (IsRefusal octets.now) f.status f.offset) }
 {
     let Ok(builder) = EntryBuilder::with_room(alloc, octets.len(), room) else {
         return Err(OUT_OF_MEMORY);
@@ -180,7 +180,7 @@ pub fn read_first(alloc: Global, octets: &[u8], room: usize) -> Result<EntryBuil
 // The entries of encodings by their headers alone, where there is room for so many, or else their number.
 pub fn find_headers(alloc: Global, octets: &[u8], room: usize) -> Result<Found, Fault>
     ensures document { IfOk result (λ found. (all : Shapes) × HasShapes octets.now all
-        × IsFound room (entries_of 0 0 all) found) }
+        × AreFound room (entries_of 0 0 all) found) }
     ensures fault { IfErr result (λ f. OrNoMemory (IsRefusedByHeader octets.now) f.status f.offset) }
 {
     match list_headers_within(alloc, octets, room) {

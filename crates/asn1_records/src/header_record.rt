@@ -2,7 +2,7 @@
 ghost use Rattle.std.specs.Prelude.{◌≡◌, IfOk};
 ghost use Rattle.simple_asn1.specs.Header.{class_number};
 ghost use Rattle.simple_asn1.specs.Places.{IsEncoding};
-ghost use Rattle.asn1_records.specs.Records.{HasHeader};
+ghost use Rattle.asn1_records.specs.Records.{HasRecordHeader};
 
 use crate::record::Block;
 use asn1_headers::whole_header::read_header;
@@ -13,7 +13,7 @@ use std::alloc::{AllocError, Global};
 // The record of an encoding by its header alone: as if it stood by itself and held no blocks.
 pub fn header_record(alloc: Global, encoding: &[u8]) -> Result<Block, AllocError>
     requires { IsEncoding encoding.now }
-    ensures { IfOk result (HasHeader encoding.now) }
+    ensures { IfOk result (HasRecordHeader encoding.now) }
 {
     let header = match read_header(alloc, encoding, &mut HeaderCount::new()) {
         Ok(header) => header,

@@ -5,7 +5,7 @@ ghost use Rattle.asn1_headers.specs.Fault.{DecodeFault};
 ghost use Rattle.asn1_headers.specs.declared.header.ASN1Class.TheVariants.{Universal};
 ghost use Rattle.asn1_blocks.specs.HeadersBegun.{IsReadInside};
 ghost use Rattle.asn1_outline.specs.Shapes.{AreShapes, HasItems, HeadersFaultAt, Shapes};
-ghost use Rattle.asn1_records.specs.Inner.Named.{IsFound, IsPlaced, shapes_from};
+ghost use Rattle.asn1_records.specs.Inner.Named.{IsNamedEncoding, IsPlacedIn, shapes_from};
 
 use asn1_blocks::parsed::{PlacedHeader, header_between};
 use asn1_blocks::read_loop::is_read_inside;
@@ -29,9 +29,9 @@ pub fn item_from(
 ) -> Result<Option<PlacedEncoding>, AllocError>
     requires order { start ≤ end }
     requires within { end ≤ length octets.now }
-    ensures placed { IfOk result (λ found. IfSome found (IsPlaced octets.now)) }
+    ensures placed { IfOk result (λ found. IfSome found (IsPlacedIn octets.now)) }
     ensures item { (all : Shapes) → AreShapes octets.now start end all
-        → IfOk result (IsFound octets.now (shapes_from step all)) }
+        → IfOk result (IsNamedEncoding octets.now (shapes_from step all)) }
 {
     let mut offset = start;
     for _ in 0..step {
@@ -52,7 +52,7 @@ pub fn items_of(
     octets: &[u8],
     encoding: &PlacedEncoding,
 ) -> Result<(usize, usize), AllocError>
-    requires { IsPlaced octets.now encoding.now }
+    requires { IsPlacedIn octets.now encoding.now }
     ensures order { IfOk result (λ bounds. bounds.0 ≤ bounds.1) }
     ensures within { IfOk result (λ bounds. bounds.1 ≤ length octets.now) }
     ensures items { (items : Shapes) → HasItems octets.now encoding.now.header items
@@ -67,7 +67,7 @@ pub fn items_of(
 
 // Whether the contents octets of an encoding are encodings, one after another.
 fn holds_items(alloc: Global, octets: &[u8], encoding: &PlacedEncoding) -> Result<bool, AllocError>
-    requires { IsPlaced octets.now encoding.now }
+    requires { IsPlacedIn octets.now encoding.now }
     ensures yes { (items : Shapes) → HasItems octets.now encoding.now.header items
         → IfOk result (λ yes. IsTrue yes
         → AreShapes octets.now encoding.now.header.start encoding.now.header.end items) }

@@ -2,7 +2,7 @@
 ghost use Rattle.std.specs.Prelude.{◌≡◌, ◌<◌, IfErr, IfOk, IfSome, MatchOption, length, map};
 ghost use Rattle.asn1_outline.specs.Shapes.{HasShapes, Shapes, contents_octets, entries_of};
 ghost use Rattle.asn1_records.specs.Answers.{IsRefusedByHeader};
-ghost use Rattle.asn1_records.specs.Inner.Named.{IsFound, IsPlaced, shapes_at};
+ghost use Rattle.asn1_records.specs.Inner.Named.{IsNamedEncoding, IsPlacedIn, shapes_at};
 ghost use Rattle.asn1_records.specs.Paths.{integer_in, no_value, path_in, value_of, value_with};
 ghost use Rattle.asn1_records.specs.Room.{OrNoMemory};
 
@@ -92,9 +92,9 @@ fn encoding_of(
     octets: &[u8],
     path: &[usize],
 ) -> Result<Option<PlacedEncoding>, AllocError>
-    ensures placed { IfOk result (λ found. IfSome found (IsPlaced octets.now)) }
+    ensures placed { IfOk result (λ found. IfSome found (IsPlacedIn octets.now)) }
     ensures named { (all : Shapes) → HasShapes octets.now all
-        → IfOk result (IsFound octets.now (shapes_at all path.now)) }
+        → IfOk result (IsNamedEncoding octets.now (shapes_at all path.now)) }
 {
     let Some((first, rest)) = path.split_first() else {
         return Ok(None);

@@ -1,7 +1,7 @@
 // Octets and records into room that the caller has.
 ghost use Rattle.std.specs.Prelude.{◌≡◌, ◌≤◌, ℕ, List, length, map};
 ghost use Rattle.asn1_outline.specs.declared.entry.Entry.{Entry};
-ghost use Rattle.asn1_outline.specs.Listing.{IsFound};
+ghost use Rattle.asn1_outline.specs.Listing.{AreFound};
 ghost use Rattle.asn1_records.specs.Records.{block_of};
 ghost use Rattle.asn1_records.specs.Room.{ArePut};
 ghost use Rattle.asn1_records.specs.Status.{done, no_room};
@@ -39,7 +39,7 @@ pub fn put_records(entries: &[Entry], room: &mut [Block]) -> Outcome
 
 // Puts the records of all entries that were found, where there was room for at least so many.
 pub fn put_found(found: &Found, room: &mut [Block]) -> Outcome
-    ensures { (limit : ℕ) (all : List Entry) → length room.old ≤ limit → IsFound limit all found.now
+    ensures { (limit : ℕ) (all : List Entry) → length room.old ≤ limit → AreFound limit all found.now
         → ArePut (map block_of all) room.old room.new result }
 {
     match found {

@@ -4,7 +4,7 @@ ghost use Rattle.std.specs.Int.Digits.{digits_of};
 ghost use Rattle.simple_asn1.specs.Canonical.{shortest_encoding};
 ghost use Rattle.simple_asn1.specs.ReadBack.{IsCanonicalDocument};
 ghost use Rattle.simple_asn1.specs.Header.{class_number, shortest_identifier, shortest_length};
-ghost use Rattle.asn1_records.specs.Spelled.{IsSpelled, IsState, IsUnspellable, contents_of, greatest_tag};
+ghost use Rattle.asn1_records.specs.Spelled.{AreSpelled, IsState, IsUnspellable, spelled_contents, greatest_tag};
 ghost use Rattle.asn1_records.specs.Answers.{IsRefusedRecord};
 ghost use Rattle.asn1_records.specs.Room.{IsNoMemory, OrNoMemory};
 ghost use Rattle.asn1_records.specs.Inner.InRecords.{HoldsBlocks, IsCanonicalBlock};
@@ -69,7 +69,7 @@ pub fn class_of(number: u8) -> Option<ASN1Class>
 fn contents_within<'a>(octets: &'a [u8], block: &Block) -> Option<&'a [u8]>
     ensures { MatchOption result
         (length octets.now < block.now.offset + block.now.header + block.now.contents)
-        (λ contents. (contents.now ≡ contents_of octets.now block.now)
+        (λ contents. (contents.now ≡ spelled_contents octets.now block.now)
         × (block.now.offset + block.now.header + block.now.contents ≤ length octets.now)) }
 {
     let Some(start) = block.offset.checked_add(block.header) else {
@@ -354,7 +354,7 @@ fn are_canonical_some(canonical: bool, count: usize) -> bool
 // What the records spell, or the fault and the place of the record that has it. They are looked at only where `look`
 // says so. What was read takes no more than the first room, if it was short.
 pub fn spell(alloc: Global, octets: &[u8], records: &[Block], look: bool) -> Result<Spelling, Fault>
-    ensures spelled { IfOk result (λ s. IsSpelled octets.now records.now s.octets.octets) }
+    ensures spelled { IfOk result (λ s. AreSpelled octets.now records.now s.octets.octets) }
     ensures canonical { IfOk result (λ s. IsTrue s.canonical → IsCanonicalDocument s.octets.octets) }
     ensures fault { IfErr result
         (λ f. OrNoMemory (IsRefusedRecord octets.now records.now) f.status f.offset) }

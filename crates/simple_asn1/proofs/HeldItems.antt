@@ -15,25 +15,25 @@ use Rattle.asn1_blocks.proofs.Faults.{tree_count-block}
 use Rattle.asn1_blocks.proofs.OneReading.{EncodesAll-unique}
 use Rattle.asn1_headers.specs.declared.error.ASN1EncodeErr.{ASN1EncodeErr}
 use Rattle.asn1_writing.specs.Canonical.{all_canonical, canonical, first_write_fault, shortest_encoding, write_fault}
-use Rattle.simple_asn1.specs.HeldBlocks.{Holds, HoldsNothing, items_trees}
+use Rattle.simple_asn1.specs.HeldBlocks.{HoldsBlocksOf, HoldsNothing, items_trees}
 use Rattle.simple_asn1.specs.declared.items.Items.{Items}
 use Rattle.asn1_writing.proofs.Placed.{EncodesAll-all_canonical, all_placed, shapes-all_placed}
 use Rattle.asn1_writing.proofs.WriteSteps.{first_of-none}
 
 -- a tree holds blocks in one way
-pub Holds-unique : (t : Tree ℕ) (xs ys : Trees ℕ) → Holds t xs → Holds t ys → xs ≡ ys
-Holds-unique (leaf o l) xs ys h k = absurd h
-Holds-unique (group o g items) xs ys h k = h ∙ sym k
-Holds-unique (explicit class o tag b) xs ys h k = h ∙ sym k
-Holds-unique (unknown class true o tag contents) xs ys h k = EncodesAll-unique 0 contents xs ys h k
-Holds-unique (unknown class false o tag contents) xs ys h k = absurd h
+pub HoldsBlocksOf-unique : (t : Tree ℕ) (xs ys : Trees ℕ) → HoldsBlocksOf t xs → HoldsBlocksOf t ys → xs ≡ ys
+HoldsBlocksOf-unique (leaf o l) xs ys h k = absurd h
+HoldsBlocksOf-unique (group o g items) xs ys h k = h ∙ sym k
+HoldsBlocksOf-unique (explicit class o tag b) xs ys h k = h ∙ sym k
+HoldsBlocksOf-unique (unknown class true o tag contents) xs ys h k = EncodesAll-unique 0 contents xs ys h k
+HoldsBlocksOf-unique (unknown class false o tag contents) xs ys h k = absurd h
 
 -- of a tree that holds blocks these blocks are found
 pub IsSomeAnd-held_items :
     (t : Tree ℕ) (r : Result (Option Items) AllocError) →
-    IfOk r (λ found. MatchOption found (HoldsNothing t) (λ items. Holds t (items_trees items))) →
-    (bs : Trees ℕ) → Holds t bs → IfOk r (λ found. IsSomeAnd found (λ items. items_trees items ≡ bs))
-IsSomeAnd-held_items t (Ok (Some items)) h bs k = Holds-unique t (items_trees items) bs h k
+    IfOk r (λ found. MatchOption found (HoldsNothing t) (λ items. HoldsBlocksOf t (items_trees items))) →
+    (bs : Trees ℕ) → HoldsBlocksOf t bs → IfOk r (λ found. IsSomeAnd found (λ items. items_trees items ≡ bs))
+IsSomeAnd-held_items t (Ok (Some items)) h bs k = HoldsBlocksOf-unique t (items_trees items) bs h k
 IsSomeAnd-held_items t (Ok None) h bs k = absurd (h bs k)
 IsSomeAnd-held_items t (Err e) h bs k = tt
 
@@ -48,7 +48,7 @@ tree_count-all_placed o (more_trees b bs) = ap suc (tree_count-all_placed (o + l
 pub record IsMadeOf (class : ASN1Class) (tag : ℕ) (items : Trees ℕ) (t : Tree ℕ) : Type 0 where
   pub encoded : canonical t ≡ shortest_encoding class true tag (all_canonical items)
   pub writable : write_fault t ≡ first_write_fault items
-  pub items_back : AreFaithful items → (bs : Trees ℕ) × Holds t bs × (shapes bs ≡ shapes items)
+  pub items_back : AreFaithful items → (bs : Trees ℕ) × HoldsBlocksOf t bs × (shapes bs ≡ shapes items)
   pub faithful : class ≢ Universal → AreFaithful items → IsFaithful t
 
 -- around one item an explicit block is made

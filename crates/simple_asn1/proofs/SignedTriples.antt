@@ -16,7 +16,7 @@ use Rattle.simple_asn1.specs.Laws.Unambiguous.{Unambiguous}
 use Rattle.simple_asn1.specs.Laws.Slices.{BlockAlone}
 use Rattle.asn1_numbers.specs.Octets.{FitInSlice}
 use Rattle.asn1_blocks.specs.Places.{HasOctets, rebased, in_first, in_later, in_group, itself}
-use Rattle.simple_asn1.specs.SignedTrees.{SignedParts, BeginWithSigned, HasFields, IsOfAnotherShape, IsSigned, ReadsSigned, algorithm_tree, signed_tree, signed_trees}
+use Rattle.simple_asn1.specs.SignedTrees.{SignedParts, BeginWithSigned, HasTriple, IsOfAnotherShape, IsSigned, ReadsSigned, algorithm_tree, signed_tree, signed_trees}
 use Rattle.simple_asn1.specs.Inner.Algorithm.{IsAlgorithm}
 use Rattle.asn1_blocks.specs.Tree.{Tree, Trees, leaf, group, bit_string, object_identifier, no_trees, more_trees}
 use Rattle.asn1_blocks.specs.View.{tree_offset, view, views}
@@ -117,10 +117,10 @@ BeginWithSigned-document law octets p rest bs d e =
     }
 
 -- trees begin with one triple: what has the fields of one has the fields of the other
-HasFields-same_trees : (octets : List ℕ) (t : SignedTriple) (p q : SignedParts) (xs ys : Trees ℕ) →
+HasTriple-same_trees : (octets : List ℕ) (t : SignedTriple) (p q : SignedParts) (xs ys : Trees ℕ) →
     signed_trees p xs ≡ signed_trees q ys →
-    HasFields octets q t → HasFields octets p t
-HasFields-same_trees octets t p q xs ys e h =
+    HasTriple octets q t → HasTriple octets p t
+HasTriple-same_trees octets t p q xs ys e h =
     let content : p.content ≡ q.content = cc in
     let end : p.algorithm_offset ≡ q.algorithm_offset = cc in
     let algorithm : p.algorithm ≡ q.algorithm = cc in
@@ -142,11 +142,11 @@ abbrev pub IsRefused : List ℕ → TripleErr → Type 0
 IsRefused octets e = DecodeFails (λ bs r. ReadsSigned bs octets r) (λ f e. e ≡ Codec f) octets e
 
 -- a triple that was read has the fields of the triple that the octets are
-HasFields-read : Unambiguous → (octets : List ℕ) (t : SignedTriple) → IsRead octets t → (p : SignedParts) →
-    IsSigned octets p → HasFields octets p t
-HasFields-read law octets t is p (xs, e) =
+HasTriple-read : Unambiguous → (octets : List ℕ) (t : SignedTriple) → IsRead octets t → (p : SignedParts) →
+    IsSigned octets p → HasTriple octets p t
+HasTriple-read law octets t is p (xs, e) =
     let (q, begin, fields) = is.is_read in
-    HasFields-same_trees octets t p q xs is.rest
+    HasTriple-same_trees octets t p q xs is.rest
     (law.one_document octets (signed_trees p xs) is.trees e is.document ∙ begin.trees) fields
 
 -- a triple is refused for want of memory alone
@@ -175,7 +175,7 @@ pub HasOctets-read_content : Unambiguous → (octets : List ℕ) (r : Result Sig
     IfOk r (λ t. (p : SignedParts) (rest : Trees ℕ) → IsDocument octets (signed_trees p rest) →
     HasOctets octets (signed_trees p rest) p.content t.content.items)
 HasOctets-read_content law octets (Ok t) is =
-    λ p rest d. HasOctets-content octets p rest t.content.items (HasFields-read law octets t is p (rest, d)).content
+    λ p rest d. HasOctets-content octets p rest t.content.items (HasTriple-read law octets t is p (rest, d)).content
 HasOctets-read_content law octets (Err e) is = tt
 
 -- what was signed is a document by itself
@@ -185,7 +185,7 @@ pub IsDocument-rebased_content : Unambiguous → BlockAlone → (octets : List �
     IsDocument t.content.items (more_trees (rebased p.content) no_trees))
 IsDocument-rebased_content law parts octets (Ok t) is = λ p s.
     parts.alone octets (signed_trees p s.0) p.content t.content.items s.1
-    (HasOctets-content octets p s.0 t.content.items (HasFields-read law octets t is p s).content)
+    (HasOctets-content octets p s.0 t.content.items (HasTriple-read law octets t is p s).content)
 IsDocument-rebased_content law parts octets (Err e) is = tt
 
 -- an error of shape says that the octets are a document of another shape
@@ -200,8 +200,8 @@ pub MatchResult-signed : Unambiguous → BlockAlone → (octets : List ℕ) → 
     (r : Result SignedTriple TripleErr) →
     IfOk r (IsRead octets) →
     IfErr r (IsRefused octets) → (p : SignedParts) → IsSigned octets p →
-    MatchResult r (HasFields octets p) (λ e. e ≡ Codec OutOfMemory)
-MatchResult-signed law parts octets small (Ok t) is _ p s = HasFields-read law octets t is p s
+    MatchResult r (HasTriple octets p) (λ e. e ≡ Codec OutOfMemory)
+MatchResult-signed law parts octets small (Ok t) is _ p s = HasTriple-read law octets t is p s
 MatchResult-signed law parts octets small (Err e) _ is p s = IsRefused-out_of_memory law parts octets small e is p s
 
 -- a document of another shape is refused for its shape

@@ -4,7 +4,7 @@ use Rattle.std.proofs.lemmas.Option.{none-some}
 use Rattle.asn1_headers.specs.declared.error.ASN1DecodeErr.{ASN1DecodeErr}
 use Rattle.asn1_headers.specs.declared.error.ASN1EncodeErr.{ASN1EncodeErr}
 use Rattle.asn1_writing.specs.Canonical.{canonical, all_canonical, first_write_fault}
-use Rattle.simple_asn1.specs.Conversions.{AreReadAgain, Decodes, DecodeFails, Encodes, EncodeFails, OwnDecodeFault, OwnEncodeFault}
+use Rattle.simple_asn1.specs.Conversions.{AreReadAgain, Decodes, DecodeFails, EncodesValue, EncodeFails, OwnDecodeFault, OwnEncodeFault}
 use Rattle.asn1_blocks.specs.Faithful.{AreFaithful}
 use Rattle.asn1_headers.specs.Fault.{fault_of}
 use Rattle.asn1_blocks.specs.Grammar.{IsDocument}
@@ -48,7 +48,7 @@ shapes-read ss bs f small d =
 module _ {E : Type 0} (writes : Result (Trees ℕ) E → Type 0) (ss : Trees (Unit {0}))
     (written : (bs : Trees ℕ) → writes (Ok bs) → shapes bs ≡ ss) where
   -- octets that are encoded are the canonical octets of the trees
-  pub all_canonical-encoded : (octets : List ℕ) → Encodes writes octets → octets ≡ all_canonical ss
+  pub all_canonical-encoded : (octets : List ℕ) → EncodesValue writes octets → octets ≡ all_canonical ss
   all_canonical-encoded octets e =
       e.canonical ∙ (sym (all_canonical-shapes e.trees) ∙ ap all_canonical (written e.trees e.are_written))
 

@@ -33,7 +33,7 @@ DecodeFails reads from octets e =
     ⊎ ((f : ASN1DecodeErr) × OutOfMemoryOr (FirstFault octets) f × from f e)
 
 -- the type writes some trees, and the octets are their canonical encodings, joined
-pub record Encodes {E : Type 0} (writes : Result (Trees ℕ) E → Type 0) (octets : List ℕ) : Type 0 where
+pub record EncodesValue {E : Type 0} (writes : Result (Trees ℕ) E → Type 0) (octets : List ℕ) : Type 0 where
   pub trees : Trees ℕ
   pub are_written : writes (Ok trees)
   pub canonical : octets ≡ all_canonical trees

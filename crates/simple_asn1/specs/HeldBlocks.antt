@@ -8,16 +8,16 @@ use Rattle.simple_asn1.specs.declared.items.Items.TheVariants.{Lent, Read}
 
 -- a SEQUENCE, a SET or explicit tagging holds its items; any other constructed encoding holds the blocks that its
 -- contents octets are, none or more, with offsets from the first of these octets
-abbrev pub Holds : Tree ℕ → Trees ℕ → Type 0
-Holds (leaf o l) bs = ⊥
-Holds (group o g items) bs = bs ≡ items
-Holds (explicit class o tag b) bs = bs ≡ more_trees b no_trees
-Holds (unknown class true o tag contents) bs = EncodesAll 0 contents bs
-Holds (unknown class false o tag contents) bs = ⊥
+abbrev pub HoldsBlocksOf : Tree ℕ → Trees ℕ → Type 0
+HoldsBlocksOf (leaf o l) bs = ⊥
+HoldsBlocksOf (group o g items) bs = bs ≡ items
+HoldsBlocksOf (explicit class o tag b) bs = bs ≡ more_trees b no_trees
+HoldsBlocksOf (unknown class true o tag contents) bs = EncodesAll 0 contents bs
+HoldsBlocksOf (unknown class false o tag contents) bs = ⊥
 
 -- the tree holds no list of blocks, not even an empty one
 abbrev pub HoldsNothing : Tree ℕ → Type 0
-HoldsNothing b = (bs : Trees ℕ) → Holds b bs → ⊥
+HoldsNothing b = (bs : Trees ℕ) → HoldsBlocksOf b bs → ⊥
 
 -- the trees of what `Items` lend
 abbrev pub items_trees : Items → Trees ℕ

@@ -44,7 +44,7 @@ abbrev pub signed_trees : SignedParts → Trees ℕ → Trees ℕ
 signed_trees p rest = more_trees (signed_tree p) rest
 
 -- the value has what the parts have; its content is the octets from the offset of the content to that of the algorithm
-pub record HasFields (octets : List ℕ) (p : SignedParts) (t : SignedTriple) : Type 0 where
+pub record HasTriple (octets : List ℕ) (p : SignedParts) (t : SignedTriple) : Type 0 where
   pub content : t.content.items ≡ slice_range octets (tree_offset p.content) p.algorithm_offset
   pub algorithm : t.algorithm ≡ p.algorithm
   pub bits : t.bits ≡ p.bits
@@ -60,7 +60,7 @@ pub record BeginWithSigned (bs : Trees ℕ) (octets : List ℕ) (p : SignedParts
 -- exactly where the trees begin with no signed triple, that the shape is another
 abbrev pub ReadsSigned : Trees ℕ → List ℕ → Result (SignedTriple × Trees ℕ) TripleErr → Type 0
 ReadsSigned bs octets (Ok x) =
-    (p : SignedParts) × BeginWithSigned bs octets p x.1 × HasFields octets p x.0
+    (p : SignedParts) × BeginWithSigned bs octets p x.1 × HasTriple octets p x.0
 ReadsSigned bs octets (Err e) =
     (e ≡ Codec OutOfMemory)
     ⊎ ((e ≡ Shape) × ((p : SignedParts) (rest : Trees ℕ) → BeginWithSigned bs octets p rest → ⊥))

@@ -15,7 +15,7 @@ ghost use Rattle.asn1_leaves.specs.StringKind.{ia5, printable, utf8};
 ghost use Rattle.asn1_numbers.specs.Octets.{FitInSlice};
 ghost use Rattle.asn1_numbers.specs.TwosComplement.{shortest_octets};
 ghost use Rattle.asn1_writing.specs.Canonical.{all_canonical, canonical, first_write_fault, shortest_encoding, write_fault};
-ghost use Rattle.simple_asn1.specs.HeldBlocks.{Holds};
+ghost use Rattle.simple_asn1.specs.HeldBlocks.{HoldsBlocksOf};
 
 use asn1_blocks::block::ASN1Block;
 use asn1_blocks::held::HeldBlocks;
@@ -338,7 +338,7 @@ pub fn implicit(
 
     // Faithful items are given back by `items_of`, but for their offsets, and the block comes back.
     ensures items { AreFaithful (views items.items) → IfOk result (λ b.
-        (bs : Trees ℕ) × Holds (view b) bs × (shapes bs ≡ shapes (views items.items))) }
+        (bs : Trees ℕ) × HoldsBlocksOf (view b) bs × (shapes bs ≡ shapes (views items.items))) }
     ensures faithful { class ≢ Universal → AreFaithful (views items.items)
         → IfOk result (λ b. IsFaithful (view b)) }
 {

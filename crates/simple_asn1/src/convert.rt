@@ -3,7 +3,7 @@
 // A type names what it reads and writes by ghost members, relations over the trees of blocks. The calls here are proved
 // once, for all types, by these relations alone.
 ghost use Rattle.std.specs.Prelude.{◌≡◌, ◌≢◌, ℕ, List, Result, Ok, Err, IfOk, IfErr, MatchOption, MatchResult};
-ghost use Rattle.simple_asn1.specs.Conversions.{AreReadAgain, Decodes, DecodeFails, Encodes, EncodeFails, OwnDecodeFault, OwnEncodeFault, TripFails};
+ghost use Rattle.simple_asn1.specs.Conversions.{AreReadAgain, Decodes, DecodeFails, EncodesValue, EncodeFails, OwnDecodeFault, OwnEncodeFault, TripFails};
 ghost use Rattle.asn1_writing.specs.Canonical.{all_canonical};
 ghost use Rattle.asn1_blocks.specs.Faithful.{AreFaithful};
 ghost use Rattle.asn1_blocks.specs.Tree.{Trees, group, no_trees, shape, shapes};
@@ -158,7 +158,7 @@ pub fn der_decode<T: FromASN1WithBody>(alloc: Global, v: &[u8]) -> Result<T, T::
 /// }
 /// ```
 pub fn der_encode<T: ToASN1>(alloc: Global, v: &T) -> Result<Vec<u8>, T::Error>
-    ensures encoded { IfOk result (λ octets. Encodes (T.writes v.now Universal) octets.items) }
+    ensures encoded { IfOk result (λ octets. EncodesValue (T.writes v.now Universal) octets.items) }
     ensures refused { IfErr result (EncodeFails (T.writes v.now Universal) T.Error.from_gives) }
 {
     let blocks = match v.to_asn1(alloc) {

@@ -3,7 +3,7 @@ ghost use Rattle.std.specs.Prelude.{◌≡◌, ℕ, IfOk, IsSomeAnd, MatchOption
 ghost use Rattle.asn1_blocks.specs.Grammar.{EncodesAll};
 ghost use Rattle.asn1_blocks.specs.Tree.{Trees};
 ghost use Rattle.asn1_blocks.specs.View.{view, views};
-ghost use Rattle.simple_asn1.specs.HeldBlocks.{Holds, HoldsNothing, items_trees};
+ghost use Rattle.simple_asn1.specs.HeldBlocks.{HoldsBlocksOf, HoldsNothing, items_trees};
 ghost use Rattle.simple_asn1.specs.Inner.Constructed.{AreNoBlocks, constructed_contents};
 
 use asn1_blocks::block::ASN1Block;
@@ -74,10 +74,10 @@ impl Items<'_> {
 pub fn items_of(alloc: Global, block: &ASN1Block) -> Result<Option<Items<'_>>, AllocError>
     ensures items { IfOk result (λ found. MatchOption found
         (HoldsNothing (view block.now))
-        (λ items. Holds (view block.now) (items_trees items))) }
+        (λ items. HoldsBlocksOf (view block.now) (items_trees items))) }
 
     // Memory aside, the items of each block that holds some are found.
-    ensures found { (bs : Trees ℕ) → Holds (view block.now) bs
+    ensures found { (bs : Trees ℕ) → HoldsBlocksOf (view block.now) bs
         → IfOk result (λ found. IsSomeAnd found (λ items. items_trees items ≡ bs)) }
 {
     held_items(alloc, block)
@@ -87,7 +87,7 @@ pub fn items_of(alloc: Global, block: &ASN1Block) -> Result<Option<Items<'_>>, A
 fn held_items(alloc: Global, block: &ASN1Block) -> Result<Option<Items<'_>>, AllocError>
     ensures { IfOk result (λ found. MatchOption found
         (HoldsNothing (view block.now))
-        (λ items. Holds (view block.now) (items_trees items))) }
+        (λ items. HoldsBlocksOf (view block.now) (items_trees items))) }
 {
     if let Some(items) = block.items() {
         return Ok(Some(Items::Lent(items)));

@@ -22,11 +22,11 @@ shapes_at all [] = no_shapes
 shapes_at all (step ∷ steps) = shapes_inside (shapes_from step all) steps
 
 -- the encoding stands in the document
-abbrev pub IsPlaced : List ℕ → PlacedEncoding → Type 0
-IsPlaced document p = (limit : ℕ) × HeaderFound document p.offset limit p.header × (limit ≤ length document)
+abbrev pub IsPlacedIn : List ℕ → PlacedEncoding → Type 0
+IsPlacedIn document p = (limit : ℕ) × HeaderFound document p.offset limit p.header × (limit ≤ length document)
 
 -- the encoding is the first of the shapes, if there is one
-abbrev pub IsFound : List ℕ → Shapes → Option PlacedEncoding → Type 0
-IsFound document all found =
+abbrev pub IsNamedEncoding : List ℕ → Shapes → Option PlacedEncoding → Type 0
+IsNamedEncoding document all found =
     MatchOption found (all ≡ no_shapes) (λ p. (items : Shapes) × (rest : Shapes)
     × (all ≡ more_shapes p.offset p.header items rest) × HasItems document p.header items)

@@ -3,12 +3,12 @@ use Rattle.std.specs.Prelude.{◌≡◌, ℕ, ◌+◌, ◌<◌, List}
 use Rattle.asn1_headers.specs.declared.tags.TheConstants.{BIT_STRING, OBJECT_IDENTIFIER, SEQUENCE}
 use Rattle.simple_asn1.specs.Places.{EncodingAt}
 use Rattle.asn1_records.specs.Contents.{IsHeaderAt}
-use Rattle.asn1_records.specs.Records.{HasHeader}
+use Rattle.asn1_records.specs.Records.{HasRecordHeader}
 use Rattle.asn1_records.specs.declared.record.Block.{Block}
 
 -- the record is of an encoding that stands at its offset, whatever it says of items and links
 abbrev pub IsOfEncoding : List ℕ → Block → Type 0
-IsOfEncoding octets r = (x : List ℕ) × EncodingAt octets r.offset x × HasHeader x r
+IsOfEncoding octets r = (x : List ℕ) × EncodingAt octets r.offset x × HasRecordHeader x r
 
 -- where the contents octets of an encoding begin, and where they end
 abbrev pub record_start : Block → ℕ

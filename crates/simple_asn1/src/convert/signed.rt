@@ -3,7 +3,7 @@ ghost use Rattle.std.specs.Prelude.{◌≡◌, ◌≢◌, ◌⊎◌, ℕ, List, 
 ghost use Rattle.asn1_headers.specs.Fault.{OutOfMemoryOr};
 ghost use Rattle.asn1_blocks.specs.Grammar.{IsDocument, FirstFault};
 ghost use Rattle.asn1_blocks.specs.Places.{HasOctets, rebased};
-ghost use Rattle.simple_asn1.specs.SignedTrees.{HasFields, IsOfAnotherShape, IsSigned, ReadsSigned, SignedParts, algorithm_tree, signed_tree, signed_trees};
+ghost use Rattle.simple_asn1.specs.SignedTrees.{HasTriple, IsOfAnotherShape, IsSigned, ReadsSigned, SignedParts, algorithm_tree, signed_tree, signed_trees};
 ghost use Rattle.simple_asn1.specs.Inner.Algorithm.{IsAlgorithm};
 ghost use Rattle.asn1_blocks.specs.Tree.{Trees, bit_string, leaf, more_trees, no_trees, object_identifier};
 ghost use Rattle.asn1_blocks.specs.View.{tree_offset, view};
@@ -179,7 +179,7 @@ impl FromASN1WithBody for SignedTriple {
 /// `Codec` with the first fault of an input that is not a document, or with `OutOfMemory`; `Shape` if the first block
 /// of a document is not a signed triple.
 pub fn read_signed(alloc: Global, v: &[u8]) -> Result<SignedTriple, TripleErr>
-    ensures fields { IfOk result (λ t. (p : SignedParts) × IsSigned v.now p × HasFields v.now p t) }
+    ensures fields { IfOk result (λ t. (p : SignedParts) × IsSigned v.now p × HasTriple v.now p t) }
     ensures content { IfOk result (λ t. (p : SignedParts) (rest : Trees ℕ) → IsDocument v.now (signed_trees p rest)
         → HasOctets v.now (signed_trees p rest) p.content t.content.items) }
     ensures content_alone { IfOk result (λ t. (p : SignedParts) → IsSigned v.now p
@@ -187,7 +187,7 @@ pub fn read_signed(alloc: Global, v: &[u8]) -> Result<SignedTriple, TripleErr>
     ensures codec { IfErr result (λ e. (f : ASN1DecodeErr) → e ≡ Codec f → OutOfMemoryOr (FirstFault v.now) f) }
     ensures shape { IfErr result (λ e. e ≡ Shape → IsOfAnotherShape v.now) }
     ensures accepts { (p : SignedParts) → IsSigned v.now p
-        → MatchResult result (HasFields v.now p) (λ e. e ≡ Codec OutOfMemory) }
+        → MatchResult result (HasTriple v.now p) (λ e. e ≡ Codec OutOfMemory) }
     ensures refuses { IsOfAnotherShape v.now → IsErrAnd result (λ e. (e ≡ Shape) ⊎ (e ≡ Codec OutOfMemory)) }
 {
     law_one_reading();

@@ -1,6 +1,6 @@
 -- For `simple_asn1_read`: what it returns is right (`answer`, `few`).
 use Rattle.std.proofs.Common.{map, arith}
-use Rattle.asn1_records.specs.Answers.{IsRefused}
+use Rattle.asn1_records.specs.Answers.{IsRefusal}
 use Rattle.asn1_records.specs.Records.{block_of}
 use Rattle.asn1_records.specs.Room.{was_found}
 use Rattle.asn1_records.proofs.Entries.{AreRecords-outline}
@@ -23,5 +23,5 @@ returns-in-Err-clause-few c ns d = length-structure_le c.args.octets.now ns d
 pub returns-in-Err-clause-answer : goal.returns-in-Err-clause-answer
 returns-in-Err-clause-answer c =
     let put = c.nothing_put.ensures in
-    Answers-refused _ (IsRefused c.args.octets.now) c.args.blocks.now _ _ _ put.status put.offset put.count
+    Answers-refused _ (IsRefusal c.args.octets.now) c.args.blocks.now _ _ _ put.status put.offset put.count
     c.in-Err.ensures.fault

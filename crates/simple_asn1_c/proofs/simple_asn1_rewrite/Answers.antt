@@ -1,7 +1,7 @@
 -- For `simple_asn1_rewrite`: what it returns is right.
 use Rattle.std.proofs.Common.{◌∙◌}
 use Rattle.std.proofs.lemmas.Option.{MatchOption-at_some, MatchOption-at_none}
-use Rattle.asn1_records.specs.Answers.{IsRefused}
+use Rattle.asn1_records.specs.Answers.{IsRefusal}
 use Rattle.asn1_records.specs.Room.{was_found}
 use Rattle.asn1_records.proofs.Outcomes.{Answers-refused}
 use Rattle.simple_asn1_c.proofs.simple_asn1_rewrite.Goals as goal
@@ -21,5 +21,5 @@ returns-in-Ok-None c =
 pub returns-in-Err : goal.returns-in-Err
 returns-in-Err c =
     let put = c.nothing_put.ensures in
-    Answers-refused _ (IsRefused c.args.octets.now) c.args.room.now _ _ _ put.status put.offset put.count
+    Answers-refused _ (IsRefusal c.args.octets.now) c.args.room.now _ _ _ put.status put.offset put.count
     c.in-Err.ensures.fault

@@ -4,8 +4,8 @@ use Rattle.std.proofs.lemmas.Grind.{common_steps}
 use Rattle.std.proofs.lemmas.Result.{IfOk-weaker}
 use Rattle.asn1_blocks.specs.Inner.ReaderSteps.{work_left}
 use Rattle.asn1_outline.specs.Shapes.{HasShapes, entries_of}
-use Rattle.asn1_outline.specs.Walking.{HasEnded, HasWalked}
-use Rattle.asn1_outline.proofs.Walks.{IsReadTo-start, AreOpen-equal}
+use Rattle.asn1_outline.specs.Walking.{WalksAll, HasWalked}
+use Rattle.asn1_outline.proofs.Walks.{WalksTo-start, AllOpen-equal}
 use Rattle.asn1_outline.proofs.header_walk.list_headers_within.Goals as goal
 
 pub turns-init : goal.turns-init
@@ -15,16 +15,16 @@ turns-init c =
       reading = (
         [],
         c.in-Ok.ensures,
-        AreOpen-equal x _ _ [] (reverse c.new.result.items) 0 0 [] [] refl
+        AllOpen-equal x _ _ [] (reverse c.new.result.items) 0 0 [] [] refl
             (ap reverse c.new.ensures.items) refl refl
-            (record { start = refl; end = refl; read = IsReadTo-start x 0 (length x) 0 0 (omega arith) (omega arith) }),
+            (record { start = refl; end = refl; read = WalksTo-start x 0 (length x) 0 0 (omega arith) (omega arith) }),
       );
     }
 
 pub returns-in-End-clause-walked : goal.returns-in-End-clause-walked
 returns-in-End-clause-walked c =
     let x = c.args.octets.now in
-    let ended : HasEnded x c.take_turn.new.reader =
+    let ended : WalksAll x c.take_turn.new.reader =
     subst (λ z. HasWalked x z c.take_turn.new.reader
     (work_left (length x) c.turns.reader.index c.turns.reader.outer.items)) c.in-End.is
     c.take_turn.ensures in

@@ -3,7 +3,7 @@ use Rattle.std.proofs.Common.{◌≡◌, [], true, inr, arith}
 use Rattle.std.proofs.lemmas.Grind.{common_steps}
 use Rattle.std.proofs.lemmas.Result.{on_ok_weaker}
 use Rattle.asn1_blocks.specs.Inner.OpenFrames.{is_attempt}
-use Rattle.asn1_outline.proofs.Walks.{HasWalkedOn-failed_attempt, IsFaulty-enclosing, HeadersFaultAt-faulty, HasWalked-stepped}
+use Rattle.asn1_outline.proofs.Walks.{HasWalkedOn-failed_attempt, IsAtFault-enclosing, HeadersFaultAt-faulty, HasWalked-stepped}
 use Rattle.asn1_outline.proofs.header_walk.refuse.Goals as goal
 
 pub returns-then-attempt : goal.returns-then-attempt
@@ -27,7 +27,7 @@ loop-parent-preserved c =
     let group : is_attempt w.inner.extent.kind ≡ true → ⊥ = grind (arith, common_steps) in
     record {
       faulty =
-          IsFaulty-enclosing x w g c.pop.new.self _ _ _ c.loop-parent.invariant.faulty c.in-Some.ensures.items group;
+          IsAtFault-enclosing x w g c.pop.new.self _ _ _ c.loop-parent.invariant.faulty c.in-Some.ensures.items group;
     }
 
 pub returns : goal.returns

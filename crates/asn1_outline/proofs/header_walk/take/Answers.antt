@@ -3,7 +3,7 @@ use Rattle.std.proofs.Common.{◌≡◌, ◌++◌, [], ◌∷◌, suc, length, a
 use Rattle.std.proofs.lemmas.Grind.{common_steps}
 use Rattle.std.proofs.lemmas.Result.{on_ok_weaker}
 use Rattle.asn1_blocks.specs.HeadersBegun.{IsReadInside}
-use Rattle.asn1_outline.specs.Listing.{IsFront}
+use Rattle.asn1_outline.specs.Listing.{KeepsOf}
 use Rattle.asn1_outline.specs.Shapes.{not_read, shape_entry}
 use Rattle.asn1_outline.specs.declared.entry.Entry.{Entry}
 use Rattle.asn1_outline.proofs.Walks.{HasWalkedOn-enter, HasWalkedOn-leaf}
@@ -20,7 +20,7 @@ returns-then-is_read_inside c =
     let block = c.header_entry-block.ensures
     ∙ ap (λ z. shape_entry w.index h 0 (suc z) c.len.result) n
     ∙ ap (λ z. shape_entry w.index h 0 (suc (length all)) z) d in
-    let added = subst (λ (z : Entry). IsFront c.add.new.self (all ++ z ∷ [])) block (c.in_ok-add.ensures all front) in
+    let added = subst (λ (z : Entry). KeepsOf c.add.new.self (all ++ z ∷ [])) block (c.in_ok-add.ensures all front) in
     on_ok_weaker c.enter.result
     (HasWalkedOn-enter c.args.octets.now w h c.add.new.self c.count-entry.result c.kind_of.result c.enter.new.reader all
     opened c.requires.found inside c.kind_of.ensures n added) c.enter.ensures
@@ -36,6 +36,6 @@ returns c =
     let block = c.header_entry-block.ensures
     ∙ ap (λ z. shape_entry w.index h 0 (suc z) c.len.result) n
     ∙ ap (λ z. shape_entry w.index h 0 (suc (length all)) z) d in
-    let added = subst (λ (z : Entry). IsFront c.add.new.self (all ++ z ∷ [])) block (c.in_ok-add.ensures all front) in
+    let added = subst (λ (z : Entry). KeepsOf c.add.new.self (all ++ z ∷ [])) block (c.in_ok-add.ensures all front) in
     HasWalkedOn-leaf c.args.octets.now w h c.add.new.self c.add-2.new.self all opened c.requires.found (not_read leaf)
     added c.in_ok-add-2.ensures

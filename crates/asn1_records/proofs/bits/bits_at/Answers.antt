@@ -10,7 +10,7 @@ use Rattle.asn1_records.proofs.HeldBits.{AreLast-held, EncodingAt-within, bits-h
 use Rattle.asn1_records.proofs.Headers.{drop-header}
 use Rattle.asn1_records.proofs.OffsetLeaves.{IsMissing-not_tag, IsMissing-fault, IsLeafAt-universal, IsMissing-nothing}
 use Rattle.asn1_records.proofs.bits.bits_at.Goals as goal
-use Rattle.asn1_outline.proofs.Values.{HasTag-small}
+use Rattle.asn1_outline.proofs.Values.{IsCapped-small}
 
 module _ (octets : List ℕ) (offset : ℕ) where
   -- a BIT STRING at an offset is a leaf there
@@ -65,7 +65,7 @@ returns-in-Ok-read c =
     let bits = c.in-Ok-read.bits in
     let (n, u, number) = c.in-Ok.ensures.found in
     let means = c.in-Ok-read.ensures.found in
-    let same : n ≡ BIT_STRING = HasTag-small n c.in-Ok.found.0 BIT_STRING number c.if-tag-ne-BIT_STRING.false
+    let same : n ≡ BIT_STRING = IsCapped-small n c.in-Ok.found.0 BIT_STRING number c.if-tag-ne-BIT_STRING.false
     (omega arith) in
     let is = IsLeafAt-universal octets offset (bit_string bits v) w
     (subst (λ z. UniversalAt octets offset z w) same u) means in
@@ -95,7 +95,7 @@ returns-in-Err-read c =
     let f = fault_of c.in-Err-read.e in
     let (n, u, number) = c.in-Ok.ensures.found in
     let none = c.no_bits-in-Err-read.ensures in
-    let same : n ≡ BIT_STRING = HasTag-small n c.in-Ok.found.0 BIT_STRING number c.if-tag-ne-BIT_STRING.false
+    let same : n ≡ BIT_STRING = IsCapped-small n c.in-Ok.found.0 BIT_STRING number c.if-tag-ne-BIT_STRING.false
     (omega arith) in
     let outcome = none.status ∙ c.status_of_fault.ensures in
     elim c.in-Err-read.ensures.refused [

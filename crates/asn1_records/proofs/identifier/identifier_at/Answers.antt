@@ -6,7 +6,7 @@ use Rattle.simple_asn1.specs.Tree.{Leaf, object_identifier}
 use Rattle.asn1_records.specs.Values.{IsIdentifierAt, IsIdentifierTag, IsLeafAt, UniversalAt, identifier_is_missing, identifier_is_too_long, identifier_was_found}
 use Rattle.asn1_records.proofs.OffsetLeaves.{IsMissing-not_tag, IsMissing-fault, IsLeafAt-universal, IsMissing-nothing}
 use Rattle.asn1_records.proofs.identifier.identifier_at.Goals as goal
-use Rattle.asn1_outline.proofs.Values.{HasTag-small}
+use Rattle.asn1_outline.proofs.Values.{IsCapped-small}
 
 -- an identifier at an offset is a leaf there
 IsLeafAt-identifier : (octets : List ℕ) (offset : ℕ) → (ns : List ℕ) × IsIdentifierAt octets offset ns
@@ -42,7 +42,7 @@ returns-then-contents-gt-MOST_IN_DECIMAL c =
     let v = c.in-Ok.found.1.now in
     let put = c.nothing_put-then-contents-gt-MOST_IN_DECIMAL.ensures in
     let (n, u, number) = c.in-Ok.ensures.found in
-    let same : n ≡ OBJECT_IDENTIFIER = HasTag-small n c.in-Ok.found.0 OBJECT_IDENTIFIER number
+    let same : n ≡ OBJECT_IDENTIFIER = IsCapped-small n c.in-Ok.found.0 OBJECT_IDENTIFIER number
     c.if-tag-ne-OBJECT_IDENTIFIER.false (omega arith) in
     identifier_is_too_long v (subst (λ z. UniversalAt c.args.octets.now c.args.offset z v) same u)
     (omega (arith, c.if-contents-gt-MOST_IN_DECIMAL.true)) put.status put.offset put.count refl
@@ -54,7 +54,7 @@ returns-in-Ok-put_decimal c =
     let v = c.in-Ok.found.1.now in
     let (n, u, number) = c.in-Ok.ensures.found in
     let (ns, meant, put) = c.in-Ok-put_decimal.ensures.put in
-    let same : n ≡ OBJECT_IDENTIFIER = HasTag-small n c.in-Ok.found.0 OBJECT_IDENTIFIER number
+    let same : n ≡ OBJECT_IDENTIFIER = IsCapped-small n c.in-Ok.found.0 OBJECT_IDENTIFIER number
     c.if-tag-ne-OBJECT_IDENTIFIER.false (omega arith) in
     let is =
     IsLeafAt-universal octets offset (object_identifier ns) v
@@ -69,7 +69,7 @@ returns-in-Err-put_decimal c =
     let v = c.in-Ok.found.1.now in
     let put = c.nothing_put-in-Err-put_decimal.ensures in
     let (n, u, number) = c.in-Ok.ensures.found in
-    let same : n ≡ OBJECT_IDENTIFIER = HasTag-small n c.in-Ok.found.0 OBJECT_IDENTIFIER number
+    let same : n ≡ OBJECT_IDENTIFIER = IsCapped-small n c.in-Ok.found.0 OBJECT_IDENTIFIER number
     c.if-tag-ne-OBJECT_IDENTIFIER.false (omega arith) in
     let (kept, why) = c.in-Err-put_decimal.ensures.refused in
     elim why [

@@ -8,7 +8,7 @@ use Rattle.asn1_records.specs.Values.{IsIntegerAt, IsIntegerTag, IsLeafAt, Unive
 use Rattle.asn1_records.proofs.OffsetLeaves.{IsMissing-not_tag, IsLeafAt-universal, IsMissing-nothing}
 use Rattle.asn1_records.proofs.PathSteps.{fitting-does_not_fit, fitting-found}
 use Rattle.asn1_records.proofs.integer.integer_at.Goals as goal
-use Rattle.asn1_outline.proofs.Values.{HasTag-small}
+use Rattle.asn1_outline.proofs.Values.{IsCapped-small}
 
 module _ (octets : List ℕ) (offset : ℕ) where
   -- an integer at an offset is a leaf there
@@ -46,7 +46,7 @@ returns-in-Some c =
     let offset = c.args.offset in
     let v = c.in-Ok.found.1.now in
     let (n, u, number) = c.in-Ok.ensures.found in
-    let same : n ≡ INTEGER = HasTag-small n c.in-Ok.found.0 INTEGER number c.if-tag-ne-INTEGER.false (omega arith) in
+    let same : n ≡ INTEGER = IsCapped-small n c.in-Ok.found.0 INTEGER number c.if-tag-ne-INTEGER.false (omega arith) in
     let is =
     IsLeafAt-universal octets offset (integer (signed_number v)) v
     (subst (λ z. UniversalAt octets offset z v) same u) refl in
@@ -60,7 +60,7 @@ returns-in-None c =
     let offset = c.args.offset in
     let v = c.in-Ok.found.1.now in
     let (n, u, number) = c.in-Ok.ensures.found in
-    let same : n ≡ INTEGER = HasTag-small n c.in-Ok.found.0 INTEGER number c.if-tag-ne-INTEGER.false (omega arith) in
+    let same : n ≡ INTEGER = IsCapped-small n c.in-Ok.found.0 INTEGER number c.if-tag-ne-INTEGER.false (omega arith) in
     let is =
     IsLeafAt-universal octets offset (integer (signed_number v)) v
     (subst (λ z. UniversalAt octets offset z v) same u) refl in

@@ -11,7 +11,7 @@ use Rattle.asn1_records.specs.Status.{status_of}
 use Rattle.asn1_records.specs.Values.{IsLeafAt, IsMomentAt, IsMomentTag, UniversalAt, moment_is_missing, moment_was_found}
 use Rattle.asn1_records.proofs.OffsetLeaves.{IsMissing-not_tag, IsMissing-fault, IsLeafAt-universal, IsMissing-nothing}
 use Rattle.asn1_records.proofs.moment.moment_at.Goals as goal
-use Rattle.asn1_outline.proofs.Values.{HasTag-small}
+use Rattle.asn1_outline.proofs.Values.{IsCapped-small}
 
 -- a moment at an offset is a leaf there
 IsLeafAt-moment : (octets : List ℕ) (offset : ℕ) → (m : Moment) × IsMomentAt octets offset m →
@@ -47,10 +47,11 @@ returns-in-Ok-Some c =
     rw c.in-Ok-Some.field-0-is at c.in-Ok-Some.ensures.found in
     let is : IsMomentAt octets offset m = elim means [
       | inl (tag, means) ↦
-          let same : n ≡ UTC_TIME = HasTag-small n c.in-Ok.found.0 UTC_TIME number tag (omega arith) in
+          let same : n ≡ UTC_TIME = IsCapped-small n c.in-Ok.found.0 UTC_TIME number tag (omega arith) in
           inl (IsLeafAt-universal octets offset (utc_time m) v (at 23 same) means)
       | inr (tag, means) ↦
-          let same : n ≡ GENERALIZED_TIME = HasTag-small n c.in-Ok.found.0 GENERALIZED_TIME number tag (omega arith) in
+          let same : n ≡ GENERALIZED_TIME =
+          IsCapped-small n c.in-Ok.found.0 GENERALIZED_TIME number tag (omega arith) in
           inr (IsLeafAt-universal octets offset (generalized_time m) v (at 24 same) means)
     ] in
     moment_was_found c.moment_answer.ensures.status m is c.moment_answer.ensures.moment
@@ -79,13 +80,14 @@ returns-in-Err-time_of c =
     elim c.in-Err-time_of.ensures.refused [
       | inl memory ↦ moment_is_missing (inl (outcome ∙ ap (λ z. status_of (fault_of z)) memory)) none.fields
       | inr (inl (tag, fault)) ↦
-          let same : n ≡ UTC_TIME = HasTag-small n c.in-Ok.found.0 UTC_TIME number tag (omega arith) in
+          let same : n ≡ UTC_TIME = IsCapped-small n c.in-Ok.found.0 UTC_TIME number tag (omega arith) in
           moment_is_missing
           (IsMissing-fault octets offset ((m : Moment) × IsMomentAt octets offset m) IsMomentTag
           (IsLeafAt-moment octets offset)
           c.no_moment-in-Err-time_of.result.status n v (inl same) u f (of_utc_time same fault) outcome) none.fields
       | inr (inr (tag, fault)) ↦
-          let same : n ≡ GENERALIZED_TIME = HasTag-small n c.in-Ok.found.0 GENERALIZED_TIME number tag (omega arith) in
+          let same : n ≡ GENERALIZED_TIME =
+          IsCapped-small n c.in-Ok.found.0 GENERALIZED_TIME number tag (omega arith) in
           moment_is_missing
           (IsMissing-fault octets offset ((m : Moment) × IsMomentAt octets offset m) IsMomentTag
           (IsLeafAt-moment octets offset)

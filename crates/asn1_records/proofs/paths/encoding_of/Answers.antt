@@ -4,7 +4,7 @@ use Rattle.std.specs.Prelude.{IfSome}
 use Rattle.std.proofs.lemmas.Grind.{common_steps}
 use Rattle.std.proofs.lemmas.Option.{MatchOption-at_none, MatchOption-at_some}
 use Rattle.asn1_outline.specs.Shapes.{more_shapes, no_shapes}
-use Rattle.asn1_records.specs.Inner.Named.{IsPlaced, shapes_at, shapes_from, shapes_inside}
+use Rattle.asn1_records.specs.Inner.Named.{IsPlacedIn, shapes_at, shapes_from, shapes_inside}
 use Rattle.asn1_records.proofs.NamedEntries.{shapes_inside-none, shapes_inside-step}
 use Rattle.asn1_records.proofs.paths.encoding_of.Goals as goal
 
@@ -37,7 +37,7 @@ loop-step-preserved c =
     let g = c.in-Some-3.inside in
     let below : k < length rest = grind (arith, common_steps) in
     record {
-      placed = subst (λ z. IfSome z (IsPlaced c.args.octets.now)) c.in-Some-3.is c.in_ok-inside.ensures.placed;
+      placed = subst (λ z. IfSome z (IsPlacedIn c.args.octets.now)) c.in-Some-3.is c.in_ok-inside.ensures.placed;
       named = λ all has.
           let (items, later, h, same) = c.loop-step.invariant.named all has in
           let (inner, behind, is, has_inner) =

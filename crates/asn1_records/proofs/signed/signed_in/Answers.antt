@@ -4,7 +4,7 @@ use Rattle.std.proofs.lemmas.Grind.{common_steps}
 use Rattle.std.proofs.lemmas.List.{get_or_append_left, get_or_default}
 use Rattle.asn1_outline.specs.Entries.{no_entry}
 use Rattle.asn1_outline.specs.Triple.{entry_at}
-use Rattle.asn1_records.specs.Answers.{IsRefused, is_of_another_shape, was_refused_signed}
+use Rattle.asn1_records.specs.Answers.{IsRefusal, is_of_another_shape, was_refused_signed}
 use Rattle.asn1_records.proofs.Outcomes.{OrNoMemory-at}
 use Rattle.asn1_records.proofs.TripleParts.{BeginWithTriple-two, IsOfAnotherShape-entries}
 use Rattle.asn1_records.proofs.signed.signed_in.Goals as goal
@@ -30,7 +30,7 @@ parts_in-requires c =
 pub returns-in-Err : goal.returns-in-Err
 returns-in-Err c =
     let (status, offset, none) = c.no_parts.ensures in
-    was_refused_signed (OrNoMemory-at (IsRefused c.args.octets.now) _ _ _ _ status offset c.in-Err.ensures.fault) none
+    was_refused_signed (OrNoMemory-at (IsRefusal c.args.octets.now) _ _ _ _ status offset c.in-Err.ensures.fault) none
 
 pub returns-then-first-gt0 : goal.returns-then-first-gt0
 returns-then-first-gt0 c =

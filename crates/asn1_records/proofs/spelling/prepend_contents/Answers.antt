@@ -4,7 +4,7 @@ use Rattle.std.specs.Prelude.{nat_lt}
 use Rattle.simple_asn1.specs.Canonical.{shortest_encoding}
 use Rattle.asn1_records.specs.Inner.InRecords.{IsCanonicalBlock}
 use Rattle.simple_asn1.specs.Header.{shortest_identifier, shortest_length}
-use Rattle.asn1_records.specs.Spelled.{contents_of}
+use Rattle.asn1_records.specs.Spelled.{spelled_contents}
 use Rattle.asn1_records.proofs.Spellings.{IsState-contents}
 use Rattle.asn1_records.proofs.spelling.prepend_contents.Goals as goal
 
@@ -15,7 +15,7 @@ returns-clause-put c rs state =
     let (is, within) = c.in-Some.ensures in
     let front = shortest_identifier c.args.class (nat_lt 0 r.constructed) r.tag in
     let put = c.prepend.ensures.octets ∙ ap (λ z. z ++ c.reserve.new.self.octets) is
-    ∙ ap (λ z. contents_of c.args.octets.now r ++ z) c.in_ok-reserve.ensures.kept in
+    ∙ ap (λ z. spelled_contents c.args.octets.now r ++ z) c.in_ok-reserve.ensures.kept in
     let headed = c.in_ok-prepend_header.ensures
     ∙ ap (λ z. front ++ (shortest_length (length z) ++ c.prepend.new.self.octets)) is in
     let started = c.in_ok-push_start.ensures ∙ ap (λ z. c.args.starts.now.items ++ z ∷ []) c.len.ensures in

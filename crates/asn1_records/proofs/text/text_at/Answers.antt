@@ -12,7 +12,7 @@ use Rattle.asn1_records.specs.Status.{status_of}
 use Rattle.asn1_records.specs.Values.{IsLeafAt, IsTextAt, IsTextTag, UniversalAt, text_is_missing, text_was_found}
 use Rattle.asn1_records.proofs.OffsetLeaves.{IsMissing-not_tag, IsMissing-fault, IsLeafAt-universal, IsMissing-nothing}
 use Rattle.asn1_records.proofs.text.text_at.Goals as goal
-use Rattle.asn1_outline.proofs.Values.{HasTag-small}
+use Rattle.asn1_outline.proofs.Values.{IsCapped-small}
 
 -- a text at an offset is a leaf there
 IsLeafAt-text : (octets : List ℕ) (offset : ℕ) → (utf8 : List ℕ) × IsTextAt octets offset utf8 →
@@ -53,7 +53,8 @@ returns-then-are_own_text c =
     let v = c.in-Ok.found.1.now in
     let (n, u, number) = c.in-Ok.ensures.found in
     let (kind, tag, form) = c.in-Some.ensures in
-    let same : n ≡ string_tag kind = HasTag-small n c.in-Ok.found.0 (string_tag kind) number tag (string_tag-lt kind) in
+    let same : n ≡ string_tag kind =
+    IsCapped-small n c.in-Ok.found.0 (string_tag kind) number tag (string_tag-lt kind) in
     let means = subst (λ z. TextContents z (chars v) v) form (c.if-are_own_text.ensures.meant refl) in
     let is =
     IsLeafAt-universal octets offset (text kind (chars v)) v
@@ -68,7 +69,8 @@ returns-in-Ok-read c =
     let s = string_bytes c.in-Ok-read.text in
     let (n, u, number) = c.in-Ok.ensures.found in
     let (kind, tag, form) = c.in-Some.ensures in
-    let same : n ≡ string_tag kind = HasTag-small n c.in-Ok.found.0 (string_tag kind) number tag (string_tag-lt kind) in
+    let same : n ≡ string_tag kind =
+    IsCapped-small n c.in-Ok.found.0 (string_tag kind) number tag (string_tag-lt kind) in
     let means = subst (λ z. TextContents z (chars s) v) form c.in-Ok-read.ensures.found in
     let is =
     IsLeafAt-universal octets offset (text kind (chars s)) v
@@ -87,7 +89,8 @@ returns-in-Err-read c =
     let put = c.nothing_put-in-Err-read.ensures in
     let (n, u, number) = c.in-Ok.ensures.found in
     let (kind, tag, form) = c.in-Some.ensures in
-    let same : n ≡ string_tag kind = HasTag-small n c.in-Ok.found.0 (string_tag kind) number tag (string_tag-lt kind) in
+    let same : n ≡ string_tag kind =
+    IsCapped-small n c.in-Ok.found.0 (string_tag kind) number tag (string_tag-lt kind) in
     let outcome = put.status ∙ c.status_of_fault.ensures in
     elim c.in-Err-read.ensures.refused [
       | inl memory ↦ text_is_missing (inl (outcome ∙ ap (λ z. status_of (fault_of z)) memory)) put.offset put.count refl

@@ -1,0 +1,29 @@
+-- For `block_ref::BlockRef::bits`: what it returns is right, and memory is the only error.
+use Rattle.std.proofs.Common.{inl, inr, ap, refl}
+use Rattle.asn1_headers.specs.Fault.{fault_of}
+use Rattle.asn1_blocks.specs.BlockParts.{tree_bits}
+use Rattle.asn1_blocks.specs.Contents.{of_bit_string}
+use Rattle.asn1_blocks.specs.Tree.{bit_string}
+use Rattle.asn1_blocks.specs.View.{tree_offset}
+use Rattle.asn1_outline.proofs.BlockRefs.{never-entry}
+use Rattle.asn1_outline.proofs.Values.{IsLeafOf-no_fault, IsLeafOf-leaf, tree_bits-none}
+use Rattle.asn1_outline.proofs.block_ref.BlockRef.bits.Goals as goal
+
+pub returns-in_default : goal.returns-in_default
+returns-in_default c b e = tree_bits-none b (c.in_default.ensures b e)
+
+pub returns-in-Ok : goal.returns-in-Ok
+returns-in-Ok c b e =
+    let (p, same) =
+    IsLeafOf-leaf (tree_offset b) 3 c.in-Some.contents.now b (bit_string c.in-Ok.bits.0 c.in-Ok.bits.1.items)
+    (c.in-Some.ensures b e) refl c.in-Ok.ensures.found in
+    ap tree_bits same
+
+pub out_of_memory-requires : goal.out_of_memory-requires
+out_of_memory-requires c = elim c.in-Err.ensures.refused [
+  | inl memory ↦ memory
+  | inr fault ↦
+      absurd (never-entry c.args.self.now.octets.now c.args.self.now.entry c.args.self.now.tree (λ b e.
+      IsLeafOf-no_fault (tree_offset b) 3 c.in-Some.contents.now b (fault_of c.in-Err.fault) (c.in-Some.ensures b e)
+      (of_bit_string refl fault)))
+]
