@@ -2,7 +2,7 @@
 //! offset; what it makes has offset 0. Text and bytes are copied, and items are moved. A maker that returns a `Result`
 //! takes memory, and its only error is that memory ran out; [`implicit`] has others too. A maker of a time returns
 //! `None` for what is no time.
-ghost use Rattle.std.specs.Prelude.{◌≡◌, ◌≢◌, ◌⊎◌, ◌<◌, ◌≤◌, ◌*◌, ◌∷◌, [], ℕ, false, true, IfErr, IfNone, IfOk, IfSome, None, Some, length, pos};
+ghost use Rattle.std.specs.Prelude.{◌≡◌, ◌≢◌, ◌⊎◌, ◌<◌, ◌≤◌, ◌*◌, ◌∷◌, [], ℕ, false, true, IfErr, IfNone, IfOk, IfSome, None, OnOk, Some, length, pos};
 ghost use Rattle.std.specs.Str.{chars};
 ghost use Rattle.asn1_blocks.specs.Faithful.{AreFaithful, IsFaithful};
 ghost use Rattle.asn1_blocks.specs.Tree.{Trees, bit_string, boolean, explicit, generalized_time, group, integer, leaf, null, object_identifier, octet_string, shapes, text, unknown, utc_time};
@@ -19,7 +19,9 @@ ghost use Rattle.asn1_numbers.specs.TwosComplement.{shortest_octets};
 ghost use Rattle.asn1_writing.specs.Canonical.{all_canonical, canonical, first_write_fault, shortest_encoding, write_fault};
 ghost use Rattle.simple_asn1.specs.HeldBlocks.{Holds};
 ghost use Rattle.simple_asn1.specs.Moments.{moment_with};
+ghost use Rattle.simple_asn1.specs.Sets.{IsSetBy, tag_key};
 
+use crate::sets::{by_encodings, by_tags};
 use asn1_blocks::block::ASN1Block;
 use asn1_blocks::held::HeldBlocks;
 use asn1_blocks::postponed::explicit_block;
@@ -353,18 +355,62 @@ pub fn sequence(items: Vec<ASN1Block>) -> ASN1Block
     ASN1Block::Sequence(0, items)
 }
 
-/// A SET of these items, or a SET OF them, in this order. DER wants them in ascending order (X.690 10.3, 11.6).
+/// A SET of these components in the order of their tags, as DER has it (X.690 10.3, X.680 8.6): those of class
+/// Universal, then those of Application, context-specific and private ones, and in each class by their numbers. A SET
+/// has no two components with one tag. To make a SET OF, use [`set_of`].
+///
+/// ```rust
+/// use simple_asn1::{ASN1Block, ASN1Class, build};
+/// use std::alloc::{AllocError, Global};
+///
+/// // Written as `31 06 02 01 05 80 01 2A`.
+/// fn pair(alloc: Global) -> Result<ASN1Block, AllocError> {
+///     let tagged = build::implicit_primitive(alloc, ASN1Class::ContextSpecific, 0, &[0x2A])?;
+///     build::set(vec![in alloc; tagged, build::integer(alloc, 5)?]?)
+/// }
+/// ```
+pub fn set(items: Vec<ASN1Block>) -> Result<ASN1Block, AllocError>
+    ensures { IfOk result (λ b. IsSetBy tag_key items.items (view b)) }
+{
+    Ok(ASN1Block::Set(0, by_tags(items)?))
+}
+
+/// A SET OF these items in the order of their encodings, as DER has it (X.690 11.6). Each item is written once, and its
+/// octets are held while the items are sorted.
+///
+/// # Errors
+/// The errors of [`to_der`](crate::to_der) for the first item that cannot be written; `OutOfMemory`.
+///
+/// ```rust
+/// use simple_asn1::{ASN1Block, ASN1EncodeErr, build};
+/// use std::alloc::Global;
+///
+/// // Written as `31 06 02 01 05 02 01 07`.
+/// fn numbers(alloc: Global) -> Result<ASN1Block, ASN1EncodeErr> {
+///     build::set_of(alloc, vec![in alloc; build::integer(alloc, 7)?, build::integer(alloc, 5)?]?)
+/// }
+/// ```
+pub fn set_of(alloc: Global, items: Vec<ASN1Block>) -> Result<ASN1Block, ASN1EncodeErr>
+    ensures sorted { IfOk result (λ b. IsSetBy canonical items.items (view b)) }
+    ensures writable { OnOk result (first_write_fault (views items.items) ≡ None) }
+    ensures refused { IfErr result
+        (λ e. (e ≡ no_memory) ⊎ (first_write_fault (views items.items) ≡ Some e)) }
+{
+    Ok(ASN1Block::Set(0, by_encodings(alloc, items)?))
+}
+
+/// A SET of these items, or a SET OF them, in the order in which they are given, which DER may not allow.
 ///
 /// ```rust
 /// use simple_asn1::{ASN1Block, build};
 /// use std::alloc::{AllocError, Global};
 ///
-/// // Written as `31 02 05 00`.
-/// fn set(alloc: Global) -> Result<ASN1Block, AllocError> {
-///     Ok(build::set(vec![in alloc; build::null()]?))
+/// // Written as `31 05 05 00 02 01 05`, which is not DER.
+/// fn pair(alloc: Global) -> Result<ASN1Block, AllocError> {
+///     Ok(build::set_as_given(vec![in alloc; build::null(), build::integer(alloc, 5)?]?))
 /// }
 /// ```
-pub fn set(items: Vec<ASN1Block>) -> ASN1Block
+pub fn set_as_given(items: Vec<ASN1Block>) -> ASN1Block
     ensures { view result ≡ group 0 Set (views items.items) }
 {
     ASN1Block::Set(0, items)
