@@ -2,3 +2,4 @@
 pub mod PointLaws
 pub mod Algorithm
 pub mod Constructed
+pub mod Encodings

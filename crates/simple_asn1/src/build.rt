@@ -1,7 +1,8 @@
 //! Makers of blocks for writing. A block that is written needs no offset, so a maker takes what the block holds and no
 //! offset; what it makes has offset 0. Text and bytes are copied, and items are moved. A maker that returns a `Result`
-//! takes memory, and its only error is that memory ran out; [`implicit`] has others too.
-ghost use Rattle.std.specs.Prelude.{◌≡◌, ◌≢◌, ◌⊎◌, ◌*◌, ◌∷◌, [], ℕ, false, true, IfErr, IfOk, None, Some, length};
+//! takes memory, and its only error is that memory ran out; [`implicit`] has others too. A maker of a time returns
+//! `None` for what is no time.
+ghost use Rattle.std.specs.Prelude.{◌≡◌, ◌≢◌, ◌⊎◌, ◌<◌, ◌≤◌, ◌*◌, ◌∷◌, [], ℕ, false, true, IfErr, IfNone, IfOk, IfSome, None, OnOk, Some, length, pos};
 ghost use Rattle.std.specs.Str.{chars};
 ghost use Rattle.asn1_blocks.specs.Faithful.{AreFaithful, IsFaithful};
 ghost use Rattle.asn1_blocks.specs.Tree.{Trees, bit_string, boolean, explicit, generalized_time, group, integer, leaf, null, object_identifier, octet_string, shapes, text, unknown, utc_time};
@@ -10,13 +11,17 @@ ghost use Rattle.asn1_blocks.specs.declared.block.ASN1Block.{ASN1Block};
 ghost use Rattle.asn1_blocks.specs.declared.block.GroupKind.TheVariants.{Sequence, Set};
 ghost use Rattle.asn1_headers.specs.declared.error.ASN1EncodeErr.TheVariants.{OutOfMemory as no_memory};
 ghost use Rattle.asn1_headers.specs.declared.header.ASN1Class.TheVariants.{Universal};
-ghost use Rattle.asn1_leaves.specs.Contents.Moment.{moment_of};
+ghost use Rattle.asn1_leaves.specs.Contents.Moment.{IsValid, moment_of};
+ghost use Rattle.asn1_leaves.specs.Contents.UtcTime.{IsFaithfulUtcTime};
 ghost use Rattle.asn1_leaves.specs.StringKind.{ia5, printable, utf8};
 ghost use Rattle.asn1_numbers.specs.Octets.{FitInSlice};
 ghost use Rattle.asn1_numbers.specs.TwosComplement.{shortest_octets};
 ghost use Rattle.asn1_writing.specs.Canonical.{all_canonical, canonical, first_write_fault, shortest_encoding, write_fault};
 ghost use Rattle.simple_asn1.specs.HeldBlocks.{HoldsBlocksOf};
+ghost use Rattle.simple_asn1.specs.Moments.{moment_with};
+ghost use Rattle.simple_asn1.specs.Sets.{IsSetBy, tag_key};
 
+use crate::sets::{by_encodings, by_tags};
 use asn1_blocks::block::ASN1Block;
 use asn1_blocks::held::HeldBlocks;
 use asn1_blocks::postponed::explicit_block;
@@ -204,8 +209,39 @@ pub fn ia5_string(alloc: Global, characters: &str) -> Result<ASN1Block, AllocErr
     Ok(ASN1Block::IA5String(0, String::from_str(alloc, characters)?))
 }
 
-/// A UTCTime, whose moment is one of UTC. It comes back only if it is a whole second of the years 1950 to 2049. From
-/// 2050 on X.509 uses GeneralizedTime.
+/// A UTCTime of a moment of UTC. `None` if there is no such moment, as on 30 February, at hour 24 or in second 60, or
+/// if a UTCTime has no such year: it has those from 1950 to 2049. From 2050 on X.509 uses GeneralizedTime.
+///
+/// ```rust
+/// use simple_asn1::{ASN1Block, build};
+///
+/// // Written as `17 0D` and `920521000000Z`.
+/// fn not_before() -> Option<ASN1Block> {
+///     build::utc_time(1992, 5, 21, 0, 0, 0)
+/// }
+/// ```
+pub fn utc_time(
+    year: u16,
+    month: u8,
+    day: u8,
+    hour: u8,
+    minute: u8,
+    second: u8,
+) -> Option<ASN1Block>
+    ensures made { IfSome result (λ b.
+        view b ≡ leaf 0 (utc_time (moment_with year month day hour minute second 0))) }
+    ensures faithful { IfSome result (λ b. IsFaithful (view b)) }
+    ensures none { IfNone result (IsFaithfulUtcTime (moment_with year month day hour minute second 0) → ⊥) }
+{
+    if !(1950..=2049).contains(&year) {
+        return None;
+    }
+    let moment = moment(year, month, day, hour, minute, second, 0)?;
+    Some(ASN1Block::UTCTime(0, moment))
+}
+
+/// A UTCTime of a moment of UTC that the crate `jiff` has. It comes back only if it is a whole second of the years 1950
+/// to 2049.
 ///
 /// ```rust
 /// use jiff::civil::DateTime;
@@ -213,16 +249,45 @@ pub fn ia5_string(alloc: Global, characters: &str) -> Result<ASN1Block, AllocErr
 ///
 /// // 1992-05-21 00:00:00 is written as `17 0D` and `920521000000Z`.
 /// fn not_before(moment: DateTime) -> ASN1Block {
-///     build::utc_time(moment)
+///     build::utc_time_from_jiff(moment)
 /// }
 /// ```
-pub fn utc_time(moment: DateTime) -> ASN1Block
+pub fn utc_time_from_jiff(moment: DateTime) -> ASN1Block
     ensures { view result ≡ leaf 0 (utc_time (moment_of moment)) }
 {
     ASN1Block::UTCTime(0, moment)
 }
 
-/// A GeneralizedTime, whose moment is one of UTC.
+/// A GeneralizedTime of a moment of UTC, with the nanoseconds of its second. `None` if there is no such moment, as on
+/// 30 February, at hour 24 or in second 60, or if the year has more than four digits.
+///
+/// ```rust
+/// use simple_asn1::{ASN1Block, build};
+///
+/// // Written as `18 0F` and `20500101000000Z`.
+/// fn not_after() -> Option<ASN1Block> {
+///     build::generalized_time(2050, 1, 1, 0, 0, 0, 0)
+/// }
+/// ```
+pub fn generalized_time(
+    year: u16,
+    month: u8,
+    day: u8,
+    hour: u8,
+    minute: u8,
+    second: u8,
+    nanosecond: u32,
+) -> Option<ASN1Block>
+    ensures made { IfSome result (λ b.
+        view b ≡ leaf 0 (generalized_time (moment_with year month day hour minute second nanosecond))) }
+    ensures faithful { IfSome result (λ b. IsFaithful (view b)) }
+    ensures none { IfNone result (IsValid (moment_with year month day hour minute second nanosecond) → ⊥) }
+{
+    let moment = moment(year, month, day, hour, minute, second, nanosecond)?;
+    Some(ASN1Block::GeneralizedTime(0, moment))
+}
+
+/// A GeneralizedTime of a moment of UTC that the crate `jiff` has. A year below 0 cannot be written.
 ///
 /// ```rust
 /// use jiff::civil::DateTime;
@@ -230,13 +295,47 @@ pub fn utc_time(moment: DateTime) -> ASN1Block
 ///
 /// // 2050-01-01 00:00:00 is written as `18 0F` and `20500101000000Z`.
 /// fn not_after(moment: DateTime) -> ASN1Block {
-///     build::generalized_time(moment)
+///     build::generalized_time_from_jiff(moment)
 /// }
 /// ```
-pub fn generalized_time(moment: DateTime) -> ASN1Block
+pub fn generalized_time_from_jiff(moment: DateTime) -> ASN1Block
     ensures { view result ≡ leaf 0 (generalized_time (moment_of moment)) }
 {
     ASN1Block::GeneralizedTime(0, moment)
+}
+
+// The moment of these fields, if there is one. In the place of a number that its type has not stands the greatest that
+// it has, which is in no moment either.
+fn moment(
+    year: u16,
+    month: u8,
+    day: u8,
+    hour: u8,
+    minute: u8,
+    second: u8,
+    nanosecond: u32,
+) -> Option<DateTime>
+    ensures made { IfSome result (λ d.
+        moment_of d ≡ moment_with year month day hour minute second nanosecond) }
+    ensures valid { IfSome result (λ d. IsValid (moment_of d)) }
+    ensures none { IfNone result (IsValid (moment_with year month day hour minute second nanosecond) → ⊥) }
+{
+    let year = i16::try_from(year).unwrap_or(i16::MAX);
+    let nanosecond = i32::try_from(nanosecond).unwrap_or(i32::MAX);
+    let (month, day) = (small(month), small(day));
+    let (hour, minute, second) = (small(hour), small(minute), small(second));
+    match DateTime::new(year, month, day, hour, minute, second, nanosecond) {
+        Ok(moment) => Some(moment),
+        Err(_) => None,
+    }
+}
+
+// The number, or the greatest of its type.
+fn small(n: u8) -> i8
+    ensures same { n < 128 → result ≡ pos n }
+    ensures large { 128 ≤ n → result ≡ pos 127 }
+{
+    i8::try_from(n).unwrap_or(i8::MAX)
 }
 
 /// A SEQUENCE of these items, or a SEQUENCE OF them.
@@ -256,18 +355,62 @@ pub fn sequence(items: Vec<ASN1Block>) -> ASN1Block
     ASN1Block::Sequence(0, items)
 }
 
-/// A SET of these items, or a SET OF them, in this order. DER wants them in ascending order (X.690 10.3, 11.6).
+/// A SET of these components in the order of their tags, as DER has it (X.690 10.3, X.680 8.6): those of class
+/// Universal, then those of Application, context-specific and private ones, and in each class by their numbers. A SET
+/// has no two components with one tag. To make a SET OF, use [`set_of`].
+///
+/// ```rust
+/// use simple_asn1::{ASN1Block, ASN1Class, build};
+/// use std::alloc::{AllocError, Global};
+///
+/// // Written as `31 06 02 01 05 80 01 2A`.
+/// fn pair(alloc: Global) -> Result<ASN1Block, AllocError> {
+///     let tagged = build::implicit_primitive(alloc, ASN1Class::ContextSpecific, 0, &[0x2A])?;
+///     build::set(vec![in alloc; tagged, build::integer(alloc, 5)?]?)
+/// }
+/// ```
+pub fn set(items: Vec<ASN1Block>) -> Result<ASN1Block, AllocError>
+    ensures { IfOk result (λ b. IsSetBy tag_key items.items (view b)) }
+{
+    Ok(ASN1Block::Set(0, by_tags(items)?))
+}
+
+/// A SET OF these items in the order of their encodings, as DER has it (X.690 11.6). Each item is written once, and its
+/// octets are held while the items are sorted.
+///
+/// # Errors
+/// The errors of [`to_der`](crate::to_der) for the first item that cannot be written; `OutOfMemory`.
+///
+/// ```rust
+/// use simple_asn1::{ASN1Block, ASN1EncodeErr, build};
+/// use std::alloc::Global;
+///
+/// // Written as `31 06 02 01 05 02 01 07`.
+/// fn numbers(alloc: Global) -> Result<ASN1Block, ASN1EncodeErr> {
+///     build::set_of(alloc, vec![in alloc; build::integer(alloc, 7)?, build::integer(alloc, 5)?]?)
+/// }
+/// ```
+pub fn set_of(alloc: Global, items: Vec<ASN1Block>) -> Result<ASN1Block, ASN1EncodeErr>
+    ensures sorted { IfOk result (λ b. IsSetBy canonical items.items (view b)) }
+    ensures writable { OnOk result (first_write_fault (views items.items) ≡ None) }
+    ensures refused { IfErr result
+        (λ e. (e ≡ no_memory) ⊎ (first_write_fault (views items.items) ≡ Some e)) }
+{
+    Ok(ASN1Block::Set(0, by_encodings(alloc, items)?))
+}
+
+/// A SET of these items, or a SET OF them, in the order in which they are given, which DER may not allow.
 ///
 /// ```rust
 /// use simple_asn1::{ASN1Block, build};
 /// use std::alloc::{AllocError, Global};
 ///
-/// // Written as `31 02 05 00`.
-/// fn set(alloc: Global) -> Result<ASN1Block, AllocError> {
-///     Ok(build::set(vec![in alloc; build::null()]?))
+/// // Written as `31 05 05 00 02 01 05`, which is not DER.
+/// fn pair(alloc: Global) -> Result<ASN1Block, AllocError> {
+///     Ok(build::set_as_given(vec![in alloc; build::null(), build::integer(alloc, 5)?]?))
 /// }
 /// ```
-pub fn set(items: Vec<ASN1Block>) -> ASN1Block
+pub fn set_as_given(items: Vec<ASN1Block>) -> ASN1Block
     ensures { view result ≡ group 0 Set (views items.items) }
 {
     ASN1Block::Set(0, items)

@@ -1,0 +1,26 @@
+-- For `sets::by_encodings`: what it returns is right (`sorted`).
+use Rattle.std.proofs.Common.{◌≡◌, ℕ, List, map, rules}
+use Rattle.std.proofs.lemmas.Cmp.{nat_list_cmp_total}
+use Rattle.std.proofs.lemmas.List.Sorted.{IsPermutation-map, answers_always, ranks_by}
+use Rattle.std.specs.Cmp.Lexicographic.{slice_cmp}
+use Rattle.std.specs.Ordering.{is_lt, nat_cmp}
+use Rattle.simple_asn1.specs.Inner.Encodings.{block_of, octets_of}
+use Rattle.simple_asn1.proofs.Encodings.{octets_of-items}
+use Rattle.simple_asn1.proofs.Order.{Ascend-sorted}
+use Rattle.simple_asn1.proofs.sets.by_encodings.Goals as goal
+
+pub returns-clause-sorted : goal.returns-clause-sorted
+returns-clause-sorted c =
+    let made = c.in_ok-blocks_of.ensures in
+    let given = c.in_ok-items.ensures.blocks in
+    let sorted = c.in_ok-sort_by.ensures in
+    record {
+      same =
+          rw (made, ← given)
+          (IsPermutation-map block_of c.in_ok-items.items.items c.sort_by.new.self.items sorted.permutation);
+      ascending =
+          rw (made, ← octets_of-items c.sort_by.new.self.items)
+          (Ascend-sorted octets_of c.sort_by.new.self.items
+          (sorted.sorted (λ x y. is_lt (slice_cmp nat_cmp (octets_of x) (octets_of y)))
+          (ranks_by nat_list_cmp_total octets_of) (answers_always _ _ _ (λ f a r g called. search rules))));
+    }
