@@ -83,8 +83,8 @@ impl<'o> Show<'o> {
         })
     }
 
-    // Writes each document of an input, one after another, behind its name where names are shown. Where something is not
-    // read, a line behind them says which other form it may be of.
+    // Writes each document of an input, one after another, behind its name where names are shown. Where something is
+    // not read, a line behind them says which other form it may be of.
     pub fn push_input<W: Write>(
         &self,
         name: &str,

@@ -1,9 +1,9 @@
 // The order in which DER has the items of a SET (X.690 10.3, 11.6).
-ghost use Rattle.std.specs.Prelude.{◌≡◌, ◌⊎◌, ◌<◌, ◌≤◌, ◌^◌, ℕ, IfErr, IfOk, IfSome, IfNone, OnOk, MatchOption, None, Some, map};
+ghost use Rattle.std.specs.Prelude.{◌≡◌, ◌⊎◌, ◌<◌, ◌≤◌, ◌^◌, IfErr, IfOk, OnOk, MatchOption, None, Some, map};
 ghost use Rattle.std.specs.Cmp.Lexicographic.{slice_cmp};
 ghost use Rattle.std.specs.Ordering.{nat_cmp};
 ghost use Rattle.asn1_blocks.specs.BlockParts.{tree_tag};
-ghost use Rattle.asn1_blocks.specs.View.{tree_class, view, views};
+ghost use Rattle.asn1_blocks.specs.View.{view, views};
 ghost use Rattle.asn1_headers.specs.Header.{class_number};
 ghost use Rattle.asn1_headers.specs.declared.error.ASN1EncodeErr.TheVariants.{OutOfMemory as no_memory};
 ghost use Rattle.asn1_writing.specs.Canonical.{canonical, first_write_fault, write_fault};

@@ -1,6 +1,5 @@
 -- For `build::moment`: what it returns is right (`made`).
-use Rattle.std.proofs.Common.{◌≡◌, ℕ, arith, rules}
-use Rattle.std.proofs.lemmas.Grind.{common_steps}
+use Rattle.std.proofs.Common.{◌≡◌, rules}
 use Rattle.std.specs.Prelude.{pos}
 use Rattle.jiff_core.specs.declared.civil.datetime.DateTime.{DateTime}
 use Rattle.simple_asn1.proofs.MomentFields.{same_fields}

@@ -1,5 +1,5 @@
 -- For `sets::by_encodings`: what it returns is right (`sorted`).
-use Rattle.std.proofs.Common.{◌≡◌, ℕ, List, map, rules}
+use Rattle.std.proofs.Common.{rules}
 use Rattle.std.proofs.lemmas.Cmp.{nat_list_cmp_total}
 use Rattle.std.proofs.lemmas.List.Sorted.{IsPermutation-map, answers_always, ranks_by}
 use Rattle.std.specs.Cmp.Lexicographic.{slice_cmp}

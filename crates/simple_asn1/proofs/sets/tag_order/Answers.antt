@@ -1,6 +1,6 @@
 -- For `sets::tag_order`: what it returns is right.
-use Rattle.std.proofs.Common.{◌≡◌, ◌∙◌, ap, sym, rules}
-use Rattle.std.specs.Ordering.{nat_cmp, ordering_then}
+use Rattle.std.proofs.Common.{rules}
+use Rattle.std.specs.Ordering.{nat_cmp}
 use Rattle.asn1_blocks.specs.BlockParts.{tree_tag}
 use Rattle.asn1_blocks.specs.View.{view}
 use Rattle.simple_asn1.proofs.Order.{ordering_then-Equal}
