@@ -52,7 +52,7 @@ has_short_offset text =
 
 -- the text comes in columns, as `xxd`, `hexdump -C`, `od -t x1`, Wireshark and `certutil` print them: an offset,
 -- digits, and maybe characters. `od` prints seven octal digits of an offset, or six hex digits
-abbrev pub has_columns : List ℕ → Bool
+unfoldable pub has_columns : List ℕ → Bool
 has_columns text =
     begins (codes "00000000: ") text
     || (begins (codes "00000000  ") text && list_any (λ b. b == vertical_bar) text)

@@ -60,6 +60,7 @@ pub(crate) fn read_symbols(text: &[u8], decoder: &mut HexDecoder) -> Result<bool
 }
 
 /// Whether the text comes in columns, with an offset before the digits.
+#[tactic(auto, unfolding(crate::specs::Digits::has_columns))]
 pub fn is_in_columns(text: &[u8]) -> bool
     ensures { result ≡ has_columns text.now }
 {
