@@ -1,4 +1,4 @@
-"""What the script of a page of der_dump does, in a frame: viewer.py PAGE WIDTH LINK OUT writes a page that holds the frame,
+"""What the script of a page of der_dump does, in a frame: viewer.py PAGE WIDTH LINK OUT writes a page that holds it,
 opened with the link, and says which behaviours are wrong. To see into the frame, chromium takes
 --allow-file-access-from-files.
 """
@@ -44,7 +44,8 @@ onload = () => {
   check('numbers', !isPhone || one('.said').getClientRects()[0].left < view.innerWidth / 3);
 
   for (const [at, section] of sections.entries()) {
-    const octets = one('.octets', section), [offsets, hex, text] = ['.offsets', '.hex', '.text'].map(it => one(it, octets));
+    const octets = one('.octets', section);
+     const [offsets, hex, text] = ['.offsets', '.hex', '.text'].map(it => one(it, octets));
     const bytes = hex.textContent.split(/\s/).map(it => parseInt(it, 16)), rows = hex.textContent.split('\n');
     const starts = offsets.textContent.split('\n'), texts = text.textContent.split('\n');
     check('columns', rows.length === Math.ceil(bytes.length / per) && starts.length === rows.length
@@ -63,7 +64,8 @@ onload = () => {
     };
     for (const line of all('[data-offset]', section)) {
       const offset = Number(line.dataset.offset), size = Number(line.dataset.header);
-      const isMarked = () => one('.pointed').dataset.offset === line.dataset.offset && section.contains(one('.pointed'));
+      const isMarked = () =>
+        one('.pointed').dataset.offset === line.dataset.offset && section.contains(one('.pointed'));
       if (offset >= bytes.length || size === 0) continue;
       send(line, 'mouseover');
       const marked = header().map(it => it.toString());
@@ -89,7 +91,8 @@ onload = () => {
     check('open all', all('details').every(it => it.open));
     const line = all('[data-offset]', section)[1];
     send(line, 'click');
-    check('link of a line', view.location.hash === `#${at ? `${at + 1}:` : ''}${Number(line.dataset.offset).toString(16)}`);
+    const number = Number(line.dataset.offset).toString(16);
+     check('link of a line', view.location.hash === `#${at ? `${at + 1}:` : ''}${number}`);
   }
 
   // finds lines, forward and back, in folds too
