@@ -45,7 +45,7 @@ onload = () => {
 
   for (const [at, section] of sections.entries()) {
     const octets = one('.octets', section);
-     const [offsets, hex, text] = ['.offsets', '.hex', '.text'].map(it => one(it, octets));
+    const [offsets, hex, text] = ['.offsets', '.hex', '.text'].map(it => one(it, octets));
     const bytes = hex.textContent.split(/\s/).map(it => parseInt(it, 16)), rows = hex.textContent.split('\n');
     const starts = offsets.textContent.split('\n'), texts = text.textContent.split('\n');
     check('columns', rows.length === Math.ceil(bytes.length / per) && starts.length === rows.length
@@ -92,7 +92,7 @@ onload = () => {
     const line = all('[data-offset]', section)[1];
     send(line, 'click');
     const number = Number(line.dataset.offset).toString(16);
-     check('link of a line', view.location.hash === `#${at ? `${at + 1}:` : ''}${number}`);
+    check('link of a line', view.location.hash === `#${at ? `${at + 1}:` : ''}${number}`);
   }
 
   // finds lines, forward and back, in folds too
