@@ -12,7 +12,7 @@ use dump_shapes::Shapes;
 use jiff::Timestamp;
 use jiff::civil::DateTime;
 use jiff::tz::TimeZone;
-use std::alloc::AllocError;
+use std::alloc::{AllocError, Global};
 use std::io;
 use std::io::{BufWriter, ErrorKind, Write};
 use std::process::ExitCode;
@@ -23,6 +23,9 @@ const WRONG_ARGUMENTS: u8 = 2;
 
 const NOT_UTF8: &str =
     "error: arguments must be UTF-8: give another file as standard input: der_dump < FILE";
+
+// How many types are named at most whose names are like one that no type has.
+const NAMES_SHOWN: usize = 5;
 
 // How many octets of the output are kept until they are written.
 const BUFFER: usize = 65_536;
@@ -127,12 +130,24 @@ fn print_answer(rt: &HostRuntime, fault: &OptionsFault<'_>) -> Result<u8, Refusa
 
 // Refuses a name that no type has.
 fn refuse_unknown(rt: &HostRuntime, name: &str) -> Result<(), Refusal> {
-    if Shapes::new(rt.alloc())?.named(name).is_some() {
-        return Ok(());
+    let shapes = Shapes::new(rt.alloc())?;
+    match shapes.named(name) {
+        Some(_) => Ok(()),
+        None => Err(Refusal::Text(unknown_type(rt.alloc(), &shapes, name)?)),
     }
-    Err(Refusal::Text(format!(in rt.alloc();
-        "error: no type '{name}' is known: give one of an RFC, such as Certificate"
-    )?))
+}
+
+// What is said of a name that no type has.
+fn unknown_type(alloc: Global, shapes: &Shapes, name: &str) -> Result<String, AllocError> {
+    let mut similar = shapes.like(alloc, name)?;
+    if similar.is_empty() {
+        return format!(in alloc;
+            "error: no type '{name}' is known; give one of an RFC, such as Certificate"
+        );
+    }
+    similar.truncate(NAMES_SHOWN);
+    let similar = similar.join(alloc, ", ")?;
+    format!(in alloc; "error: no type '{name}' is known; similar: {similar}")
 }
 
 // The names of object identifiers in a file.

@@ -45,7 +45,7 @@ pub const ITU_T: &str = "\
 0.4.0.19495.1.3 psp-ai ETSI TS 119 495
 0.4.0.19495.1.4 psp-ic ETSI TS 119 495
 0.4.0.19495.2 psd2-qcStatement ETSI TS 119 495
-0.4.0.2023.1.1 baseline-ts-policy ETSI EN 319 421
+0.4.0.2023.1.1 best-practices-ts-policy ETSI EN 319 421
 0.4.0.2042.1.1 ncp ETSI EN 319 411-1
 0.4.0.2042.1.2 ncpPlus ETSI EN 319 411-1
 0.4.0.2042.1.3 lcp ETSI EN 319 411-1

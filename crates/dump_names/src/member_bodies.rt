@@ -184,7 +184,7 @@ pub const MEMBER_BODIES: &str = "\
 1.2.840.10045.3.0.2 c2pnb163v2 X9.62
 1.2.840.10045.3.0.20 c2tnb431r1 X9.62
 1.2.840.10045.3.0.3 c2pnb163v3 X9.62
-1.2.840.10045.3.0.4 c2pnb176v1 X9.62
+1.2.840.10045.3.0.4 c2pnb176w1 X9.62
 1.2.840.10045.3.0.5 c2tnb191v1 X9.62
 1.2.840.10045.3.0.6 c2tnb191v2 X9.62
 1.2.840.10045.3.0.7 c2tnb191v3 X9.62
@@ -394,7 +394,7 @@ pub const MEMBER_BODIES: &str = "\
 1.2.840.113635.100.6.1.12 appleMacDeveloper Apple
 1.2.840.113635.100.6.1.13 appleDeveloperIDApplication Apple
 1.2.840.113635.100.6.1.14 appleDeveloperIDInstaller Apple
-1.2.840.113635.100.6.1.2 appleIPhoneDeveloper Apple
+1.2.840.113635.100.6.1.2 appleADCDeveloperSigning Apple
 1.2.840.113635.100.6.1.4 appleIPhoneDistribution Apple
 1.2.840.113635.100.6.1.7 appleMacAppDistribution Apple
 1.2.840.113635.100.6.1.9 appleMacAppStore Apple

@@ -30,6 +30,7 @@
 mod bits;
 mod field_walk;
 mod identifier;
+mod like;
 mod named;
 mod shapes;
 mod shapes_text;

@@ -322,8 +322,8 @@ fn moment(
 {
     let year = i16::try_from(year).unwrap_or(i16::MAX);
     let nanosecond = i32::try_from(nanosecond).unwrap_or(i32::MAX);
-    let (month, day) = (small(month), small(day));
-    let (hour, minute, second) = (small(hour), small(minute), small(second));
+    let (month, day) = (saturated(month), saturated(day));
+    let (hour, minute, second) = (saturated(hour), saturated(minute), saturated(second));
     match DateTime::new(year, month, day, hour, minute, second, nanosecond) {
         Ok(moment) => Some(moment),
         Err(_) => None,
@@ -331,7 +331,7 @@ fn moment(
 }
 
 // The number, or the greatest of its type.
-fn small(n: u8) -> i8
+fn saturated(n: u8) -> i8
     ensures same { n < 128 → result ≡ pos n }
     ensures large { 128 ≤ n → result ≡ pos 127 }
 {
