@@ -2,7 +2,7 @@
 
 use asn1_headers::tags::{CHARACTER_STRING, EMBEDDED_PDV, EXTERNAL, SEQUENCE, SET};
 use asn1_numbers::number::big_int::BigInt;
-use dump_values::scalars::{LEAST_HEX, write_hex, write_quoted};
+use dump_values::scalars::{LEAST_HEX, write_components, write_hex, write_notation, write_text};
 use dump_values::tag::{holds_encodings, universal_tag};
 use dump_values::value::{Bits, LeafValue};
 use dump_walk::piece::{Piece, PieceKind};
@@ -62,16 +62,16 @@ fn write_value(
         | LeafValue::Tagged(text) => write_octets(out, contents, text, is_full),
         LeafValue::Null => Ok(()),
         LeafValue::Identifier(identifier) => match &identifier.dotted {
-            Some(dotted) => out.push_str(dotted),
+            Some(dotted) => write_components(out, dotted, is_full),
             None => out.push_str("with components beyond 2^128"),
         },
         LeafValue::OtherText(text) if text.is_empty() => Ok(()),
-        LeafValue::Text(text) | LeafValue::OtherText(text) => write_quoted(out, text),
+        LeafValue::Text(text) | LeafValue::OtherText(text) => write_text(out, text, is_full),
         LeafValue::WideText(form, text) => {
             write!(out, "(as {}) ", form.name())?;
-            write_quoted(out, text)
+            write_text(out, text, is_full)
         }
-        LeafValue::Notation(text) => out.push_str(text),
+        LeafValue::Notation(text) => write_notation(out, text, is_full),
         LeafValue::Moment(time) | LeafValue::BerTime(time) => out.push_str(&time.text),
         LeafValue::Address(address) => out.push_str(&address.text(alloc)?),
     }
@@ -127,7 +127,7 @@ fn write_octets(
     match text {
         Some(text) => {
             out.push_str(" ")?;
-            write_quoted(out, text)
+            write_text(out, text, is_full)
         }
         None => Ok(()),
     }

@@ -4,7 +4,7 @@ ghost use Rattle.asn1_headers.specs.Fault.{fault_of};
 ghost use Rattle.asn1_headers.specs.declared.error.ASN1DecodeErr.TheVariants.{OutOfMemory};
 ghost use Rattle.dump_values.specs.Faults.{IsNamed};
 
-use crate::scalars::{printed_str, write_hex, write_quoted};
+use crate::scalars::{printed_str, write_hex, write_text};
 use asn1_headers::error::ASN1DecodeErr;
 use asn1_headers::tags::{BIT_STRING, BOOLEAN, OBJECT_IDENTIFIER, PRINTABLE_STRING, UTC_TIME};
 use std::alloc::{AllocError, Global};
@@ -102,7 +102,7 @@ fn write_message(
             match text_beside(universal, contents) {
                 Some(text) => {
                     out.push_str(": ")?;
-                    write_quoted(out, text)
+                    write_text(out, text, false)
                 }
                 None => Ok(()),
             }
@@ -135,7 +135,7 @@ fn write_no_time(
     };
     write!(out, "not a {name}: ")?;
     match str::from_utf8(contents) {
-        Ok(text) => write_quoted(out, text)?,
+        Ok(text) => write_text(out, text, false)?,
         Err(_) => write_hex(out, contents, false)?,
     }
     write!(out, "; expected {form}, of an existing moment")
