@@ -109,11 +109,7 @@ fn encode_all(alloc: Global, mut blocks: Vec<ASN1Block>) -> Result<Vec<Encoded>,
     let mut left = HeldBlocks::of(blocks);
     let mut items = Vec::with_capacity(alloc, left.len())?;
     while let Some(block) = left.pop() {
-        let item = match encode(alloc, block) {
-            Ok(item) => item,
-            Err(e) => return Err(e),
-        };
-        items.push(item)?;
+        items.push(encode(alloc, block)?)?;
     }
     Ok(items)
 }
