@@ -12,13 +12,6 @@ const VERSION: &str = "1.0.0";
 const ABOUT: &str =
     "Shows DER documents, such as certificates and keys, given as DER, PEM, hex digits or base64.";
 
-// The headings under which help lists options.
-const BLOCK: &str = "One block";
-
-const SHOWN: &str = "What is shown";
-
-const FORM: &str = "Other forms";
-
 // The command with all of its arguments, as help lists them.
 pub fn command<'a>(alloc: Global) -> Result<Command<'a>, AllocError> {
     Command::new(alloc, NAME)
@@ -27,45 +20,33 @@ pub fn command<'a>(alloc: Global) -> Result<Command<'a>, AllocError> {
         .about(ABOUT)
         .arg(arg!(in alloc; [FILE]...
             "Files to read, each in turn; `-`, or no file, is standard input"))?
+        .next_help_heading("One block")
         .arg(arg!(in alloc; --at <OFFSET>
-            "Show only the block that begins at the offset, in bytes, also as 0x1a")
-        .help_heading(BLOCK))?
+            "Show only the block that begins at the offset, in bytes, also as 0x1a"))?
         .arg(arg!(in alloc; --extract <OFFSET>
-            "Write the bytes of the block that begins at the offset")
-        .help_heading(BLOCK))?
+            "Write the bytes of the block that begins at the offset"))?
         .arg(arg!(in alloc; --contents <OFFSET>
-            "Write the contents of the block that begins at the offset")
-        .help_heading(BLOCK))?
+            "Write the contents of the block that begins at the offset"))?
         .arg(arg!(in alloc; --value <OFFSET>
-            "Write the bytes that the string at the offset holds, its segments joined")
-        .help_heading(BLOCK))?
+            "Write the bytes that the string at the offset holds, its segments joined"))?
+        .next_help_heading("What is shown")
         .arg(arg!(in alloc; --strict
-            "Reject documents that are not DER, and list why, after showing them")
-        .help_heading(SHOWN))?
-        .arg(arg!(in alloc; --full "Do not cut values to 32 bytes").help_heading(SHOWN))?
-        .arg(arg!(in alloc; --flat "Do not expand nested DER").help_heading(SHOWN))?
+            "Reject documents that are not DER, and list why, after showing them"))?
+        .arg(arg!(in alloc; --full "Do not cut values to 32 bytes"))?
+        .arg(arg!(in alloc; --flat "Do not expand nested DER"))?
         .arg(arg!(in alloc; --depth <COUNT>
-            "Hide blocks with more than COUNT blocks around them; 0 shows the outermost only")
-        .help_heading(SHOWN))?
-        .arg(
-            arg!(in alloc; --oids <FILE> "Name object identifiers by a file of dumpasn1 first").help_heading(
-                SHOWN,
-            ),
-        )?
+            "Hide blocks with more than COUNT blocks around them; 0 shows the outermost only"))?
+        .arg(arg!(in alloc; --oids <FILE> "Name object identifiers by a file of dumpasn1 first"))?
         .arg(arg!(in alloc; --color <WHEN>
-            "Color lines: always, never, or auto, on a terminal without NO_COLOR [default: auto]")
-        .help_heading(SHOWN))?
-        .arg(arg!(in alloc; --plain "Do not name the fields of known types").help_heading(SHOWN))?
+            "Color lines: always, never, or auto, on a terminal without NO_COLOR [default: auto]"))?
+        .arg(arg!(in alloc; --plain "Do not name the fields of known types"))?
         .arg(arg!(in alloc; --"as" <TYPE>
-            "Name fields as those of this type, such as Certificate [default: by label, or what fits]")
-        .help_heading(SHOWN))?
+            "Name fields as those of this type, such as Certificate [default: by label, or what fits]"))?
+        .next_help_heading("Other forms")
         .arg(arg!(in alloc; --json
-            "Write each document as one line of JSON, with all blocks whole")
-        .help_heading(FORM))?
+            "Write each document as one line of JSON, with all blocks whole"))?
         .arg(arg!(in alloc; --html
-            "Write one page of HTML that shows all documents, their bytes beside them")
-        .help_heading(FORM))?
+            "Write one page of HTML that shows all documents, their bytes beside them"))?
         .arg(arg!(in alloc; --text
-            "Write a short account of each certificate, request, list or key")
-        .help_heading(FORM))
+            "Write a short account of each certificate, request, list or key"))
 }
