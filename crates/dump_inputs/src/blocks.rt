@@ -55,7 +55,7 @@ impl Show<'_> {
         let shown = Document {
             label: None,
             octets: Ok(block.octets),
-            field: block.place.naming.field,
+            field: block.place.field().copied(),
         };
         let verdict = self.push_named(name, shown, printer)?;
         Ok(Outcome::Written(verdict))
@@ -104,11 +104,13 @@ impl Show<'_> {
     ) -> Result<Result<Block<'a>, String>, AllocError>
         ensures { IfOk result (IsFoundIn offset document.now.octets.items) }
     {
-        let place = outermost(Style {
+        let style = Style {
             is_flat: false,
             most_depth: None,
-            ..self.style(self.around_of(document.label.as_deref()))
-        });
+            ..self.style()
+        };
+        let around = self.around_labelled(document.label.as_deref());
+        let place = outermost(style, around);
         match block_at(
             self.alloc,
             &self.names.shapes,

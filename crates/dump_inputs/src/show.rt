@@ -246,10 +246,11 @@ impl<'o> Show<'o> {
         let dumper = Dumper {
             alloc: self.alloc,
             names: &self.names,
+            around: self.around_of(document),
             is_strict: self.options.is_strict,
         };
         let verdict = match document.octets {
-            Ok(octets) => dumper.push_document(self.style_of(document), octets, printer)?,
+            Ok(octets) => dumper.push_document(self.style(), octets, printer)?,
             Err(why) => push_refusal(why, printer)?,
         };
         printer.end_folds()?;
@@ -280,12 +281,13 @@ impl<'o> Show<'o> {
         let dumper = dump_json::Dumper {
             alloc: self.alloc,
             names: &self.names,
+            around: self.around_of(document),
             origin,
             is_strict: self.options.is_strict,
         };
         match document.octets {
             Ok(octets) => {
-                let is_right = dumper.push_document(self.style_of(document), octets, out)?;
+                let is_right = dumper.push_document(self.style(), octets, out)?;
                 Ok(verdict_of(is_right))
             }
             Err(why) => {
@@ -318,27 +320,26 @@ impl<'o> Show<'o> {
         Ok(verdict_of(!self.options.is_strict || is_der(self.alloc, octets)?))
     }
 
-    // How a document is shown.
-    fn style_of(&self, document: Document<'_, '_>) -> Style {
-        self.style(match document.field {
-            Some(spot) => Around::Alone(spot),
-            None => self.around_of(document.label),
-        })
-    }
-
-    // How documents are shown of which this says which fields they have.
-    pub fn style(&self, around: Around) -> Style {
+    // How documents are shown.
+    pub fn style(&self) -> Style {
         Style {
             is_full: self.options.is_full,
             is_flat: self.options.is_flat,
             most_depth: self.options.most_depth,
             is_plain: self.options.is_plain,
-            around,
+        }
+    }
+
+    // What says which fields a document is and has.
+    fn around_of(&self, document: Document<'_, '_>) -> Around {
+        match document.field {
+            Some(spot) => Around::Alone(spot),
+            None => self.around_labelled(document.label),
         }
     }
 
     // What says which fields a document with the label has.
-    pub fn around_of(&self, label: Option<&[u8]>) -> Around {
+    pub fn around_labelled(&self, label: Option<&[u8]>) -> Around {
         match self.type_labelled(label) {
             Some(shape) => Around::Shape(shape),
             None => Around::Unknown,

@@ -12,6 +12,7 @@ use crate::value::Value;
 use asn1_headers::error::ASN1DecodeErr;
 use der_io::{StreamFault, write_part};
 use dump_names::Names;
+use dump_shapes::Around;
 use dump_values::faults::{Fault, fault_at};
 use dump_walk::place::outermost;
 use dump_walk::style::Style;
@@ -42,6 +43,8 @@ impl<'a> Origin<'a> {
 pub struct Dumper<'a> {
     pub alloc: Global,
     pub names: &'a Names,
+    /// What says which fields the document is and has, as far as it is known.
+    pub around: Around,
     /// Where the document is from.
     pub origin: Origin<'a>,
     /// It has to be DER.
@@ -101,7 +104,8 @@ impl Dumper<'_> {
         let mut end = Vec::new(self.alloc);
         self.push_end(true, &mut end)?;
         write_part(out, b"{\"blocks\":")?;
-        let first = self.write_rows(octets, outermost(all_of(style)), departures, out)?;
+        let place = outermost(all_of(style), self.around);
+        let first = self.write_rows(octets, place, departures, out)?;
         write_part(out, &end)?;
         Ok(first)
     }

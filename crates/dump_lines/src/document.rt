@@ -11,6 +11,7 @@ use asn1_headers::error::ASN1DecodeErr;
 use der_io::StreamFault;
 use dump_names::Names;
 use dump_rows::Printer;
+use dump_shapes::Around;
 use dump_values::faults::{Fault, fault_at};
 use dump_walk::place::outermost;
 use dump_walk::style::Style;
@@ -31,6 +32,8 @@ pub enum Verdict {
 pub struct Dumper<'a> {
     pub alloc: Global,
     pub names: &'a Names,
+    /// What says which fields documents are and have, as far as it is known.
+    pub around: Around,
     /// Documents have to be DER.
     pub is_strict: bool,
 }
@@ -69,7 +72,8 @@ impl Dumper<'_> {
             return Ok(Verdict::Refused);
         }
         let mut marks = Vec::new(self.alloc);
-        let first = self.push_encodings(octets, outermost(style), &mut marks, printer)?;
+        let place = outermost(style, self.around);
+        let first = self.push_encodings(octets, place, &mut marks, printer)?;
         push_problems(&marks, &first, printer)?;
         Ok(verdict_on(&marks, &first))
     }

@@ -74,12 +74,9 @@ pub fn account_of(
     let Some(form) = names.shapes.name_of(shape).and_then(|name| form_of(name)) else {
         return Ok(None);
     };
-    let style = Style {
-        around: Around::Shape(shape),
-        ..Style::default()
-    };
+    let place = outermost(Style::default(), Around::Shape(shape));
     let mut reader = Reader::new(alloc, names, form, now);
-    read_pieces(&mut reader, octets, outermost(style))?;
+    read_pieces(&mut reader, octets, place)?;
     reader.finish(octets)
 }
 

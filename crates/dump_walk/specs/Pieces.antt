@@ -110,8 +110,8 @@ pub record IsPiece (here : Here) (piece : Piece) : Type 0 where
       (front_of depth piece) (fault_offset piece.fault)
   pub sized : IsSized here.left.octets.now piece.kind
   pub offset_is : piece.offset ≡ here.offset
-  pub place_is : piece.place ≡ here.place
-  pub holding : IsHolding here.left.octets.now piece.kind here.place piece.nested
+  pub place_is : piece.place ≡ here.place.now
+  pub holding : IsHolding here.left.octets.now piece.kind here.place.now piece.nested
 
 -- the lines of octets begin with these, up to the cursor, and these are the offsets of faults
 abbrev pub IsAt : List ℕ → List Front → List ℕ → Cursor → Type 0

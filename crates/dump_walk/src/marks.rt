@@ -73,7 +73,7 @@ pub fn find_breaches(
     alloc: Global,
     left: &[u8],
     header: &Header,
-    place: Place,
+    place: &Place,
 ) -> Result<Breaches, AllocError>
     requires front { IsAtFront left.now header.now }
     requires whole { header.now.size + header.now.announced ≤ length left.now }
@@ -83,8 +83,9 @@ pub fn find_breaches(
 {
     let contents = &left[header.size..header.size + header.announced];
     // whether a primitive encoding at the place is a list of named bits (X.680 22.2)
-    let leaf = place.naming.field.and_then(|field| field.leaf);
-    let is_list = leaf.is_some_and(|leaf| matches!(leaf.rule, ValueRule::Named));
+    let is_list = place
+        .leaf()
+        .is_some_and(|leaf| matches!(leaf.rule, ValueRule::Named));
     Ok(Breaches {
         rules: broken_rules(alloc, left, header)?,
         has_spare_bits: is_list && !header.constructed && ends_with_zero(contents),

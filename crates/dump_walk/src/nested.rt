@@ -38,19 +38,16 @@ pub fn nested_in<'a>(
     alloc: Global,
     header: &Header,
     contents: &'a [u8],
-    place: Place,
+    place: &Place,
 ) -> Result<Option<Nested<'a>>, AllocError>
     ensures { IfOk result (λ nested. IfSome nested (λ n.
-        (0 < place.documents)
+        (0 < place.now.documents)
         × HoldsBehind (tag_name header.now.class header.now.tag) contents.now n.before n.octets.now)) }
 {
     if !place.shows_inside() {
         return Ok(None);
     }
-    let held = place
-        .naming
-        .field
-        .map_or(Held::Anything, |field| field.held);
+    let held = place.field().map_or(Held::Anything, |field| field.held);
     let Some(nested) = octets_inside(header, contents, held) else {
         return Ok(None);
     };

@@ -123,7 +123,7 @@ impl<'a> Piece<'a> {
         if self.place.style.is_plain {
             return None;
         }
-        let spot = self.place.naming.field?;
+        let spot = self.place.field()?;
         match &self.kind {
             PieceKind::EndOfContents(_) | PieceKind::Unreadable(_) => None,
             _ => Some(Named {
@@ -157,10 +157,7 @@ impl<'a> Piece<'a> {
 
     // The names of the bits of it that are set, if its type has names for bits, and some are set.
     pub fn bits_text(&self, alloc: Global, shapes: &Shapes) -> Result<Option<String>, AllocError> {
-        match (
-            self.place.naming.field.and_then(|field| field.leaf),
-            self.value(),
-        ) {
+        match (self.place.leaf(), self.value()) {
             (Some(leaf), Some(LeafValue::Bits(bits))) => shapes.bits_text(
                 alloc,
                 leaf,
@@ -192,13 +189,13 @@ impl<'a> Piece<'a> {
 
 // Octets that are left: where they stand among those around, and at which place.
 #[derive(Clone, Copy)]
-pub struct Here<'a> {
+pub struct Here<'a, 'p> {
     pub left: Left<'a>,
     pub offset: usize,
-    pub place: Place,
+    pub place: &'p Place,
 }
 
-impl<'a> Here<'a> {
+impl<'a> Here<'a, '_> {
     // The piece that begins them.
     pub fn read(self, alloc: Global) -> Result<Piece<'a>, AllocError>
         requires { self.left.is_indefinite ≡ false → 0 < length self.left.octets.now }
@@ -254,7 +251,7 @@ impl<'a> Here<'a> {
         ensures { IsPiece self.entry result }
     {
         Piece {
-            place: self.place,
+            place: *self.place,
             offset: self.offset,
             kind,
             breaches: Breaches::none(alloc),
@@ -321,7 +318,7 @@ impl<'a> Here<'a> {
         let joined = read_joined(alloc, &header, contents, self.place)?;
         let step = step_of(&header, size);
         Ok(Piece {
-            place: self.place,
+            place: *self.place,
             offset: self.offset,
             kind: PieceKind::Opened(header, contents, joined),
             breaches,
@@ -362,7 +359,7 @@ impl<'a> Here<'a> {
         let Read { value, fault } = self.read_leaf(alloc, octets, &header)?;
         let step = step_of(&header, size_of(octets, &header));
         Ok(Piece {
-            place: self.place,
+            place: *self.place,
             offset: self.offset,
             kind: PieceKind::Leaf(header, contents, value),
             breaches,

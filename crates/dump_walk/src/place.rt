@@ -4,7 +4,7 @@ ghost use Rattle.dump_walk.specs.Fronts.{is_too_deep};
 
 use crate::style::Style;
 use crate::sum::checked_sum;
-use dump_shapes::{Around, Spot, ValueRule};
+use dump_shapes::{Around, LeafType, Spot, ValueRule};
 use dump_values::leaf::ContentsType;
 use std::alloc::AllocError;
 
@@ -25,20 +25,12 @@ pub struct Place {
     // whether they stand in a string that is constructed
     pub is_segment: bool,
     pub style: Style,
-    pub naming: Naming,
-}
-
-// Which fields blocks are.
-#[derive(Clone, Copy, Drop)]
-pub struct Naming {
-    // what says it
+    // what says which fields they are
     pub around: Around,
-    // which field the one is that stands here, if it is one
-    pub field: Option<Spot>,
 }
 
-// The place of the document itself.
-pub fn outermost(style: Style) -> Place
+// The place of the document itself, of which this says which fields it is and has.
+pub fn outermost(style: Style, around: Around) -> Place
     ensures outside { result.is_inside ≡ false }
     ensures base { result.base ≡ 0 }
     ensures depth { result.depth ≡ 0 }
@@ -52,54 +44,64 @@ pub fn outermost(style: Style) -> Place
         documents: if style.is_flat { 0 } else { MOST_DOCUMENTS },
         is_segment: false,
         style,
-        naming: Naming {
-            around: style.around,
-            field: None,
-        },
+        around,
     }
 }
 
 impl Place {
+    // Which field the one block is that stands here, if it is one.
+    pub fn field(&self) -> Option<&Spot> {
+        match &self.around {
+            Around::Alone(spot) => Some(spot),
+            _ => None,
+        }
+    }
+
+    // The type of its contents octets, if that is known.
+    pub fn leaf(&self) -> Option<LeafType> {
+        self.field()?.leaf
+    }
+
     // Whether what octets of strings hold that stand here may be shown.
-    pub fn shows_inside(self) -> bool
-        ensures { result ≡ true → 0 < self.documents }
+    pub fn shows_inside(&self) -> bool
+        ensures { result ≡ true → 0 < self.now.documents }
     {
         self.documents > 0 && !is_too_deep(self.style.most_depth, self.depth.saturating_add(1))
     }
 
     // The place of an encoding that stands so many levels further in, maybe in a string, and is this field.
     pub fn deeper(
-        self,
+        &self,
         levels: usize,
         is_segment: bool,
         field: Option<Spot>,
     ) -> Result<Place, AllocError>
-        ensures same { IfOk result (λ p. p.is_inside ≡ self.is_inside) }
-        ensures base { IfOk result (λ p. p.base ≡ self.base) }
-        ensures depth { IfOk result (λ p. p.depth ≡ self.depth + levels) }
-        ensures documents { IfOk result (λ p. p.documents ≡ self.documents) }
-        ensures style { IfOk result (λ p. p.style ≡ self.style) }
+        ensures same { IfOk result (λ p. p.is_inside ≡ self.now.is_inside) }
+        ensures base { IfOk result (λ p. p.base ≡ self.now.base) }
+        ensures depth { IfOk result (λ p. p.depth ≡ self.now.depth + levels) }
+        ensures documents { IfOk result (λ p. p.documents ≡ self.now.documents) }
+        ensures style { IfOk result (λ p. p.style ≡ self.now.style) }
     {
         Ok(Place {
+            is_inside: self.is_inside,
+            base: self.base,
             depth: checked_sum(self.depth, levels)?,
+            documents: self.documents,
             is_segment,
-            naming: Naming {
-                around: self.naming.around,
-                field,
-            },
-            ..self
+            style: self.style,
+            around: field.map_or(Around::Nothing, Around::Alone),
         })
     }
 
     // The place of octets inside a string which stands here; these stand at the offset of the document. One document
     // fewer is shown in them.
-    pub fn inside(self, offset: usize) -> Result<Place, AllocError>
-        requires { 0 < self.documents }
+    pub fn inside(&self, offset: usize) -> Result<Place, AllocError>
+        requires { 0 < self.now.documents }
         ensures inside { IfOk result (λ p. p.is_inside ≡ true) }
         ensures base { IfOk result (λ p. p.base ≡ offset) }
-        ensures depth { IfOk result (λ p. p.depth ≡ suc self.depth) }
-        ensures style { IfOk result (λ p. p.style ≡ self.style) }
-        ensures fewer { IfOk result (λ p. self.documents ≡ suc p.documents) }
+        ensures depth { IfOk result (λ p. p.depth ≡ suc self.now.depth) }
+        ensures style { IfOk result (λ p. p.style ≡ self.now.style) }
+        ensures fewer { IfOk result (λ p. self.now.documents ≡ suc p.documents) }
     {
         Ok(Place {
             is_inside: true,
@@ -107,20 +109,16 @@ impl Place {
             depth: checked_sum(self.depth, 1)?,
             documents: self.documents - 1,
             is_segment: false,
-            naming: Naming {
-                around: self
-                    .naming
-                    .field
-                    .map_or(Around::Nothing, |spot| Around::String(spot)),
-                field: None,
-            },
-            ..self
+            style: self.style,
+            around: self
+                .field()
+                .map_or(Around::Nothing, |spot| Around::String(*spot)),
         })
     }
 
     // Of which type the contents octets of a primitive encoding here are.
-    pub fn contents_type(self) -> ContentsType {
-        match self.naming.field.and_then(|field| field.leaf) {
+    pub fn contents_type(&self) -> ContentsType {
+        match self.leaf() {
             Some(leaf) if matches!(leaf.rule, ValueRule::Address) => ContentsType::Address,
             Some(leaf) => ContentsType::Known(leaf.tag),
             None => ContentsType::OfTag,

@@ -32,7 +32,7 @@ pub fn read_joined(
     alloc: Global,
     header: &Header,
     contents: &[u8],
-    place: Place,
+    place: &Place,
 ) -> Result<Option<Joined>, AllocError> {
     let (false, Some(tag)) = (place.is_segment, string_type(header)) else {
         return Ok(None);

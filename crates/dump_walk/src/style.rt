@@ -1,7 +1,5 @@
 // How documents are shown.
 
-use dump_shapes::Around;
-
 /// What is shown of a document. By default octets are cut off after some, and documents inside octets are shown, blocks
 /// of any depth.
 #[derive(Clone, Copy, Debug, Default, Drop, PartialEq)]
@@ -15,6 +13,4 @@ pub struct Style {
     pub most_depth: Option<usize>,
     /// Fields have no names.
     pub is_plain: bool,
-    /// What says which fields the document is and has, as far as it is known.
-    pub around: Around,
 }

@@ -37,8 +37,8 @@ impl<'a> Walk<'a> {
             place,
             string: None,
             fields: Fields {
-                walk: FieldWalk::inside(alloc, shapes, place.naming.around),
-                around: place.naming.around,
+                walk: FieldWalk::inside(alloc, shapes, place.around),
+                around: place.around,
             },
         })
     }
@@ -59,7 +59,7 @@ impl<'a> Walk<'a> {
         let here = Here {
             left,
             offset: self.cursor.offset,
-            place,
+            place: &place,
         };
         let piece = here.read(alloc)?;
         self.cursor.go(piece.step)?;
