@@ -17,6 +17,9 @@ use dump_walk::walk::Walk;
 use std::alloc::AllocError;
 use std::io::Write;
 
+// Room for most objects.
+const OBJECT_ROOM: usize = 400;
+
 impl Dumper<'_> {
     // Writes the objects of octets, as an array, and adds the rules that are broken, also inside octets of strings,
     // where octets have to be DER. Returns the first fault.
@@ -70,7 +73,8 @@ impl Dumper<'_> {
     {
         let offset = piece.document_offset()?;
         let rules = self.rules_of(piece, offset, departures)?;
-        let mut text = Vec::from_slice(self.alloc, b"{")?;
+        let mut text = Vec::with_capacity(self.alloc, OBJECT_ROOM)?;
+        text.extend_from_slice(b"{")?;
         let is_later = push_piece(self.alloc, self.names, piece, offset, rules, &mut text)?;
         write_part(out, &text)?;
         Ok(is_later)
