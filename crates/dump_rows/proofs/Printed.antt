@@ -1,13 +1,19 @@
 -- What is printed, one after another, for `printer` and for crates that print rows.
-use Rattle.std.proofs.Common.{◌≡◌, ℕ, zero, suc, ◌+◌, List, [], ◌∷◌, ◌++◌, ap, append-nil, append_assoc, refl, subst, sym, ◌∙◌}
+use Rattle.std.proofs.Common.{◌≡◌, ℕ, zero, suc, ◌+◌, ◌<◌, true, false, List, [], ◌∷◌, ◌++◌, ap, append-nil, append_assoc, arith, refl, slice_index, subst, sym, ◌∙◌}
+use Rattle.std.proofs.lemmas.Bool.{and_parts}
+use Rattle.std.proofs.lemmas.Fmt.{hex_one_digit}
+use Rattle.std.proofs.lemmas.Str.{chars-IsAscii, encode_ascii}
 use Rattle.std.proofs.Math.Numerals.{suc-eq-add-one}
 use Rattle.std.proofs.KnownBytes.{Appends-nil, Appends-trans}
 use Rattle.std.proofs.lemmas.Grind.{flat_map-append}
 use Rattle.std.specs.Io.KnownBytes.{Appends}
-use Rattle.std.specs.List.{flat_map, repeat}
+use Rattle.std.specs.Char.{encode_utf8}
+use Rattle.std.specs.Fmt.{digit_glyph, digits}
+use Rattle.std.specs.List.{flat_map, list_all, repeat}
 use Rattle.std.specs.Prelude.{Option}
+use Rattle.std.specs.Str.{chars}
 use Rattle.der_io.specs.Escaped.{all_escaped}
-use Rattle.dump_rows.specs.Parts.{text_of, written}
+use Rattle.dump_rows.specs.Parts.{entity, stands_raw, text_of, written}
 use Rattle.dump_rows.specs.Printing.{IsPrinted, PrintsText}
 use Rattle.dump_rows.specs.declared.part.Look.TheVariants.{Plain}
 use Rattle.dump_rows.specs.declared.part.Look.{Look}
@@ -20,6 +26,33 @@ all_escaped-append escape [] x = append-nil (escape x)
 all_escaped-append escape (y ∷ xs) x =
     ap (λ z. escape y ++ z) (all_escaped-append escape xs x)
     ∙ sym (append_assoc (escape y) (all_escaped escape xs) (escape x))
+
+raw_octet-ascii : (b : ℕ) → stands_raw b ≡ true → b < 128
+raw_octet-ascii b e = grind (arith, e)
+
+entity-raw : (b : ℕ) → stands_raw b ≡ true → entity b ≡ b ∷ []
+entity-raw b e = let one = encode_ascii b (raw_octet-ascii b e) in grind (arith, e, one)
+
+IsAscii-raw : (text : List ℕ) → list_all stands_raw text ≡ true → (i : ℕ) → slice_index text i < 128
+IsAscii-raw [] e i = omega arith
+IsAscii-raw (b ∷ text) e zero = raw_octet-ascii b (and_parts _ _ e).0
+IsAscii-raw (b ∷ text) e (suc i) = IsAscii-raw text (and_parts _ _ e).1 i
+
+entities-raw : (text : List ℕ) → list_all stands_raw text ≡ true → all_escaped entity text ≡ text
+entities-raw [] e = refl
+entities-raw (b ∷ text) e =
+    let (first, rest) = and_parts _ _ e in
+    ap (λ z. z ++ all_escaped entity text) (entity-raw b first) ∙ ap (λ z. b ∷ z) (entities-raw text rest)
+
+-- characters that stand for themselves on a page are put as they are
+pub all_escaped-raw : (text : List ℕ) → list_all stands_raw text ≡ true → all_escaped entity (chars text) ≡ text
+all_escaped-raw text e = ap (all_escaped entity) (chars-IsAscii text (IsAscii-raw text e)) ∙ entities-raw text e
+
+-- the character of a hex digit
+pub encode_utf8-hex_digit : (n c : ℕ) → n < 16 → c ≡ digit_glyph false n → encode_utf8 c ≡ digits 16 false n
+encode_utf8-hex_digit n c less e =
+    let ascii : c < 128 = grind (arith, less, e) in
+    encode_ascii c ascii ∙ (ap (λ z. z ∷ []) e ∙ sym (hex_one_digit false n less))
 
 repeat-behind : (n : ℕ) (xs : List ℕ) → repeat (suc n) xs ≡ repeat n xs ++ xs
 repeat-behind zero xs = append-nil xs

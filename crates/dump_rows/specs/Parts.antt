@@ -1,5 +1,5 @@
 -- What is printed of the parts of rows and notes in each look.
-use Rattle.std.specs.Prelude.{ℕ, ◌/◌, ◌%◌, ◌==◌, Bool, true, false, if◌then◌else◌, None, Option, Some, List, [], ◌∷◌, ◌++◌, codes, decimal}
+use Rattle.std.specs.Prelude.{ℕ, ◌/◌, ◌%◌, ◌==◌, ◌&&◌, not, nat_lt, Bool, true, false, if◌then◌else◌, None, Option, Some, List, [], ◌∷◌, ◌++◌, codes, decimal}
 use Rattle.std.specs.Char.{encode_utf8}
 use Rattle.std.specs.Fmt.{digits}
 use Rattle.std.specs.List.{flat_map, repeat}
@@ -40,6 +40,11 @@ entity c =
     else if c == 39 then codes "&#39;"
     else encode_utf8 c
 
+-- an octet that is a character of ASCII, and none of these five
+abbrev pub stands_raw : ℕ → Bool
+stands_raw b =
+    nat_lt b 128 && not (b == 38) && not (b == 60) && not (b == 62) && not (b == 34) && not (b == 39)
+
 -- text in a look: on a page each character that has a meaning there is escaped
 abbrev pub in_look : Look → Paint → List ℕ → List ℕ
 in_look Plain paint text = text
@@ -47,22 +52,29 @@ in_look Colored paint text = painted paint text
 in_look Page paint text = all_escaped entity (chars text)
 
 -- the beginning of an element of a page: a fold or a line, with the class `fault` if something is wrong
+abbrev pub start_tag : Bool → Bool → List ℕ
+start_tag true true = codes "<details open><summary class=\"fault\""
+start_tag true false = codes "<details open><summary"
+start_tag false true = codes "<p tabindex=\"0\" class=\"fault\""
+start_tag false false = codes "<p tabindex=\"0\""
+
+-- with where the octets stand
 abbrev pub start_text : Bool → Bool → List ℕ → List ℕ
-start_text true true place = codes "<details open><summary class=\"fault\"" ++ (place ++ codes ">")
-start_text true false place = codes "<details open><summary" ++ (place ++ codes ">")
-start_text false true place = codes "<p tabindex=\"0\" class=\"fault\"" ++ (place ++ codes ">")
-start_text false false place = codes "<p tabindex=\"0\"" ++ (place ++ codes ">")
+start_text fold fault place = start_tag fold fault ++ (place ++ codes ">")
 
 -- where the octets of a row stand
 abbrev pub place_text : Option Place → List ℕ
 place_text None = []
 place_text (Some place) =
-    codes " data-offset=\"" ++ (decimal place.offset ++ (codes "\" data-header=\"" ++ (decimal place.header
-    ++ (codes "\" data-contents=\"" ++ (size_text place.contents ++ codes "\"")))))
+    (codes " data-offset=\"" ++ (decimal place.offset ++ (codes "\" data-header=\"" ++ (decimal place.header
+    ++ codes "\" data-contents=\"")))) ++ (size_text place.contents ++ codes "\"")
 
--- octets in hex digits, with a space after each
+-- an octet in hex digits, and a space
+abbrev pub octet_text : ℕ → List ℕ
+octet_text b = digits 16 false (b / 16) ++ (digits 16 false (b % 16) ++ space ∷ [])
+
 abbrev pub octets_text : List ℕ → List ℕ
-octets_text = flat_map (λ b. digits 16 false (b / 16) ++ (digits 16 false (b % 16) ++ space ∷ []))
+octets_text = flat_map octet_text
 
 -- what a line has of a part that is no text: its end
 abbrev pub in_line : Part → List ℕ

@@ -1,10 +1,11 @@
 // The parts of what is printed, in each look.
-ghost use Rattle.std.specs.Prelude.{◌≡◌, ◌++◌, IfOk, OnOk, string_bytes};
+ghost use Rattle.std.specs.Prelude.{◌≡◌, ◌<◌, ◌++◌, OnOk, false, string_bytes};
+ghost use Rattle.std.specs.Fmt.{digit_glyph};
 ghost use Rattle.std.specs.List.{list_all};
 ghost use Rattle.std.specs.Str.{chars};
 ghost use Rattle.der_io.specs.Escaped.{all_escaped};
-ghost use Rattle.dump_rows.specs.Parts.{entity, in_look, octets_text, place_text as place_is, start_text, written};
-ghost use Rattle.dump_rows.specs.Rows.{is_plain, shown_text, size_text as size_is};
+ghost use Rattle.dump_rows.specs.Parts.{entity, in_look, octet_text, octets_text, place_text, stands_raw, start_tag, start_text, written};
+ghost use Rattle.dump_rows.specs.Rows.{is_plain, shown_text, size_text};
 
 use der_io::push_shown;
 use std::alloc::{AllocError, Global};
@@ -80,7 +81,7 @@ impl Part<'_> {
                     is_fault,
                     place,
                 },
-            ) => push_start(*is_fold, *is_fault, &place_text(alloc, *place)?, out),
+            ) => push_start(*is_fold, *is_fault, *place, out),
             (Look::Page, Part::End { is_fold: false }) => out.push_str("</p>\n"),
             (Look::Page, Part::End { is_fold: true }) => out.push_str("</summary>\n"),
             (Look::Page, Part::FoldEnds(n)) => out.push_str(&"</details>\n".repeat(alloc, *n)?),
@@ -136,10 +137,26 @@ fn push_shown_text(look: Look, paint: Paint, text: &str, out: &mut String) -> Re
 fn push_entities(text: &str, out: &mut String) -> Result<(), AllocError>
     ensures { OnOk result (string_bytes out.new ≡ string_bytes out.old ++ all_escaped entity (chars text.now)) }
 {
+    if is_raw(text.as_bytes()) {
+        out.push_str(text)?;
+        return Ok(());
+    }
     for c in text.chars() {
         push_entity(c, out)?;
     }
     Ok(())
+}
+
+// Whether the text is of characters of ASCII that stand for themselves on a page.
+fn is_raw(text: &[u8]) -> bool
+    ensures { result ≡ list_all stands_raw text.now }
+{
+    text.iter().all(|b| *b < 128
+        && *b != b'&'
+        && *b != b'<'
+        && *b != b'>'
+        && *b != b'"'
+        && *b != b'\'')
 }
 
 fn push_entity(c: char, out: &mut String) -> Result<(), AllocError>
@@ -159,44 +176,53 @@ fn push_entity(c: char, out: &mut String) -> Result<(), AllocError>
 fn push_start(
     is_fold: bool,
     is_fault: bool,
-    place: &str,
+    place: Option<Place>,
     out: &mut String,
 ) -> Result<(), AllocError>
-    ensures { OnOk result (string_bytes out.new ≡ string_bytes out.old ++ start_text is_fold is_fault place.now) }
+    ensures { OnOk result (string_bytes out.new
+        ≡ string_bytes out.old ++ start_text is_fold is_fault (place_text place)) }
+{
+    out.push_str(start_tag(is_fold, is_fault))?;
+    push_place(place, out)?;
+    out.push_str(">")
+}
+
+// The beginning of an element up to where the octets stand.
+fn start_tag(is_fold: bool, is_fault: bool) -> &'static str
+    ensures { result.now ≡ start_tag is_fold is_fault }
 {
     match (is_fold, is_fault) {
-        (true, true) => write!(out, "<details open><summary class=\"fault\"{place}>"),
-        (true, false) => write!(out, "<details open><summary{place}>"),
-        (false, true) => write!(out, "<p tabindex=\"0\" class=\"fault\"{place}>"),
-        (false, false) => write!(out, "<p tabindex=\"0\"{place}>"),
+        (true, true) => "<details open><summary class=\"fault\"",
+        (true, false) => "<details open><summary",
+        (false, true) => "<p tabindex=\"0\" class=\"fault\"",
+        (false, false) => "<p tabindex=\"0\"",
     }
 }
 
-// Where octets stand, for the script of a page.
-fn place_text(alloc: Global, place: Option<Place>) -> Result<String, AllocError>
-    ensures { IfOk result (λ text. string_bytes text ≡ place_is place) }
+// Pushes where octets stand, for the script of a page.
+fn push_place(place: Option<Place>, out: &mut String) -> Result<(), AllocError>
+    ensures { OnOk result (string_bytes out.new ≡ string_bytes out.old ++ place_text place) }
 {
-    let Some(
-        Place {
-            offset,
-            header,
-            contents,
-        },
-    ) = place
-    else {
-        return Ok(String::new(alloc));
+    let Some(place) = place else {
+        return Ok(());
     };
-    let size = size_text(alloc, contents)?;
-    format!(in alloc; " data-offset=\"{offset}\" data-header=\"{header}\" data-contents=\"{size}\"")
+    let (offset, header) = (place.offset, place.header);
+    write!(
+        out,
+        " data-offset=\"{offset}\" data-header=\"{header}\" data-contents=\""
+    )?;
+    push_size(place.contents, out)?;
+    out.push_str("\"")?;
+    Ok(())
 }
 
-// The size of contents, or that the length is indefinite.
-fn size_text(alloc: Global, size: Option<usize>) -> Result<String, AllocError>
-    ensures { IfOk result (λ text. string_bytes text ≡ size_is size) }
+// Pushes the size of contents, or that the length is indefinite.
+fn push_size(size: Option<usize>, out: &mut String) -> Result<(), AllocError>
+    ensures { OnOk result (string_bytes out.new ≡ string_bytes out.old ++ size_text size) }
 {
     match size {
-        Some(size) => format!(in alloc; "{size}"),
-        None => String::from_str(alloc, "inf"),
+        Some(size) => write!(out, "{size}"),
+        None => out.push_str("inf"),
     }
 }
 
@@ -205,8 +231,27 @@ fn push_octets(octets: &[u8], out: &mut String) -> Result<(), AllocError>
     ensures { OnOk result (string_bytes out.new ≡ string_bytes out.old ++ octets_text octets.now) }
 {
     for b in octets {
-        let (high, low) = (b / 16, b % 16);
-        write!(out, "{high:x}{low:x} ")?;
+        push_octet(*b, out)?;
     }
     Ok(())
+}
+
+fn push_octet(b: u8, out: &mut String) -> Result<(), AllocError>
+    ensures { OnOk result (string_bytes out.new ≡ string_bytes out.old ++ octet_text b) }
+{
+    out.push(hex_digit(b / 16))?;
+    out.push(hex_digit(b % 16))?;
+    out.push(' ')?;
+    Ok(())
+}
+
+fn hex_digit(digit: u8) -> char
+    requires { digit < 16 }
+    ensures { result ≡ digit_glyph false digit }
+{
+    char::from(if digit < 10 {
+        b'0' + digit
+    } else {
+        b'a' + (digit - 10)
+    })
 }
