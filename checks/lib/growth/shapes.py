@@ -285,10 +285,29 @@ def columns(size):
     return "".join(lines).encode()
 
 
+def among_words(size):
+    """Documents in base64, in an array of JSON."""
+    word = b'"' + base64.b64encode(DOCUMENTS["groups"](24)) + b'"'
+    return b'{"x5c": [' + b", ".join([word] * (size // 36)) + b"]}"
+
+
+def lines_among_words(size):
+    """Base64 in lines, behind a line of words."""
+    return b"A document:\n" + base64.encodebytes(DOCUMENTS["groups in one"](size * 3 // 4))
+
+
+def array_among_words(size):
+    """An array in Go."""
+    return b"document := []byte" + source(size)
+
+
 TEXTS = {
     "hex digits": hex_digits,
     "many objects of PEM": pem_objects,
     "an object of PEM": pem_object,
     "an array in C": source,
     "columns of hex digits": columns,
+    "documents among words": among_words,
+    "lines of base64 among words": lines_among_words,
+    "an array among words": array_among_words,
 }

@@ -10,15 +10,20 @@
 //! `blocks` finds the block at an offset, to show it or to write a part of it. `other_forms` knows how forms begin that
 //! are not read.
 //!
+//! In a text in no form of `der_forms`, `found` finds documents among other words, by `spelled` and `document`.
+//!
 //! It opens nothing by itself: `der_dump` gives it files and standard input, and tests give it octets.
 #![tactic(auto)]
 
 mod appended;
 mod blocks;
+mod document;
+mod found;
 mod other_forms;
 mod outcome;
 mod show;
 mod sources;
+mod spelled;
 
 pub use outcome::Outcome;
 pub use sources::{Source, run, status};

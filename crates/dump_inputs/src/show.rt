@@ -1,7 +1,9 @@
 // How documents are shown.
 ghost use Rattle.std.specs.Prelude.{◌≡◌, false, OnOk};
 
+use crate::found::{Found, documents_in};
 use crate::other_forms::other_form;
+use crate::spelled::is_pem;
 use asn1_der::is_der;
 use der_forms::{FormFault, InputForm, Objects, PemObject, form_of, text_of};
 use der_io::{StreamFault, write_part};
@@ -95,6 +97,9 @@ impl<'o> Show<'o> {
         let text = text_of(self.alloc, input)?;
         let verdict = match form_of(self.alloc, &text)? {
             InputForm::Pem => self.push_objects(file, &text, printer)?,
+            InputForm::Unread(FormFault::Text(line)) => {
+                self.push_words(file, line, &text, printer)?
+            }
             InputForm::Unread(fault) => self.push_fault(file, None, &fault, printer)?,
             InputForm::Spelled(octets) | InputForm::LaidOut(octets) => {
                 self.push(file, Document::of(None, Ok(&octets)), printer)?
@@ -151,16 +156,65 @@ impl<'o> Show<'o> {
         if !self.is_named {
             return Ok(None);
         }
+        self.push_title(name.as_bytes(), printer)?;
+        Ok(Some(name))
+    }
+
+    // Writes a title of documents. JSON has none.
+    fn push_title<W: Write>(
+        &self,
+        title: &[u8],
+        printer: &mut Printer<W>,
+    ) -> Result<(), StreamFault> {
         match self.options.output {
-            Output::Json => {}
-            Output::Lines | Output::Accounts => printer.push_title(name.as_bytes())?,
+            Output::Json => Ok(()),
+            Output::Lines | Output::Accounts => printer.push_title(title),
             Output::Page => {
                 printer.begin_section()?;
-                printer.push_title(name.as_bytes())?;
-                printer.end_section(&[])?;
+                printer.push_title(title)?;
+                printer.end_section(&[])
             }
         }
-        Ok(Some(name))
+    }
+
+    // Writes each document that stands among the words of a text; or where none does, that this line of it is in no
+    // form.
+    fn push_words<W: Write>(
+        &self,
+        file: Option<&str>,
+        line: usize,
+        text: &[u8],
+        printer: &mut Printer<W>,
+    ) -> Result<Verdict, StreamFault> {
+        let documents = documents_in(self.alloc, text)?;
+        if documents.is_empty() {
+            return self.push_fault(file, None, &FormFault::Text(line), printer);
+        }
+        let mut verdict = Verdict::AllRead;
+        for found in documents {
+            if let Verdict::Refused = self.push_found(file, found, printer)? {
+                verdict = Verdict::Refused;
+            }
+        }
+        Ok(verdict)
+    }
+
+    // Writes a document that stands among words, with the line in which it begins.
+    fn push_found<W: Write>(
+        &self,
+        file: Option<&str>,
+        found: Found,
+        printer: &mut Printer<W>,
+    ) -> Result<Verdict, StreamFault> {
+        let place = format!(in self.alloc; "line {}", found.line)?;
+        let place = place.as_bytes();
+        if is_pem(&found.octets) {
+            self.push_title(place, printer)?;
+            let text = text_of(self.alloc, found.octets)?;
+            return self.push_objects(file, &text, printer);
+        }
+        let document = Document::of(Some(place), Ok(&found.octets));
+        self.push(file, document, printer)
     }
 
     // Writes each object of PEM, before the next is decoded.

@@ -27,10 +27,10 @@ pub struct Source<'a, R> {
 /// Reads each input to its end, in order, and writes to `w` what the options want of it before the next is read.
 /// Returns the outcome of each, and the writer. The readers of those that could be read are at their ends.
 ///
-/// An input is DER, PEM, hex digits or base64, told apart by its bytes. A document is put as a dump, as a line of JSON,
-/// on a page of HTML, or as a short account, which tells how many days are left if it is given the time; names of
-/// object identifiers are first those of `own`. Lines are colored if the options say `Always`. One input at a time is
-/// kept in memory, with what is open in it, and no output.
+/// An input is DER, PEM, hex digits or base64, told apart by its bytes, or a text with documents among other words. A
+/// document is put as a dump, as a line of JSON, on a page of HTML, or as a short account, which tells how many days
+/// are left if it is given the time; names of object identifiers are first those of `own`. Lines are colored if the
+/// options say `Always`. One input at a time is kept in memory, with what is open in it, and no output.
 ///
 /// # Errors
 /// `Memory` and `Write`, after which what was written before stays: a front of the output, behind what the writer held.
