@@ -301,6 +301,11 @@ def array_among_words(size):
     return b"document := []byte" + source(size)
 
 
+def without_mark(size):
+    """Hex digits in UTF-16 without a byte order mark."""
+    return hex_digits(size // 2).decode().encode("utf-16-le")
+
+
 TEXTS = {
     "hex digits": hex_digits,
     "many objects of PEM": pem_objects,
@@ -310,4 +315,5 @@ TEXTS = {
     "documents among words": among_words,
     "lines of base64 among words": lines_among_words,
     "an array among words": array_among_words,
+    "text in UTF-16 without a mark": without_mark,
 }

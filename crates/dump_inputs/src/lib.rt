@@ -11,6 +11,7 @@
 //! are not read.
 //!
 //! In a text in no form of `der_forms`, `found` finds documents among other words, by `spelled` and `document`.
+//! `utf16` reads text without a byte order mark.
 //!
 //! It opens nothing by itself: `der_dump` gives it files and standard input, and tests give it octets.
 #![tactic(auto)]
@@ -24,6 +25,7 @@ mod outcome;
 mod show;
 mod sources;
 mod spelled;
+mod utf16;
 
 pub use outcome::Outcome;
 pub use sources::{Source, run, status};

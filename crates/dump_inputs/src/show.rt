@@ -4,6 +4,7 @@ ghost use Rattle.std.specs.Prelude.{◌≡◌, false, OnOk};
 use crate::found::{Found, documents_in};
 use crate::other_forms::other_form;
 use crate::spelled::is_pem;
+use crate::utf16::text_in;
 use asn1_der::is_der;
 use der_forms::{FormFault, InputForm, Objects, PemObject, form_of, text_of};
 use der_io::{StreamFault, write_part};
@@ -94,7 +95,7 @@ impl<'o> Show<'o> {
         printer: &mut Printer<W>,
     ) -> Result<Verdict, StreamFault> {
         let file = self.push_file(name, printer)?;
-        let text = text_of(self.alloc, input)?;
+        let text = text_in(self.alloc, input)?;
         let verdict = match form_of(self.alloc, &text)? {
             InputForm::Pem => self.push_objects(file, &text, printer)?,
             InputForm::Unread(FormFault::Text(line)) => {
