@@ -301,6 +301,11 @@ def array_among_words(size):
     return b"document := []byte" + source(size)
 
 
+def commented_pem(size):
+    """An object of PEM in a comment."""
+    return b"".join(b"# " + line for line in pem_object(size).splitlines(keepends=True))
+
+
 def without_mark(size):
     """Hex digits in UTF-16 without a byte order mark."""
     return hex_digits(size // 2).decode().encode("utf-16-le")
@@ -315,5 +320,6 @@ TEXTS = {
     "documents among words": among_words,
     "lines of base64 among words": lines_among_words,
     "an array among words": array_among_words,
+    "a commented object of PEM": commented_pem,
     "text in UTF-16 without a mark": without_mark,
 }

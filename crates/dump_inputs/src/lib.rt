@@ -11,7 +11,7 @@
 //! are not read.
 //!
 //! In a text in no form of `der_forms`, `found` finds documents among other words, by `spelled` and `document`.
-//! `utf16` reads text without a byte order mark.
+//! `quoted` reads PEM whose lines have marks around them, and `utf16` text without a byte order mark.
 //!
 //! It opens nothing by itself: `der_dump` gives it files and standard input, and tests give it octets.
 #![tactic(auto)]
@@ -22,6 +22,7 @@ mod document;
 mod found;
 mod other_forms;
 mod outcome;
+mod quoted;
 mod show;
 mod sources;
 mod spelled;

@@ -3,6 +3,7 @@ ghost use Rattle.std.specs.Prelude.{◌≡◌, false, OnOk};
 
 use crate::found::{Found, documents_in};
 use crate::other_forms::other_form;
+use crate::quoted::without_marks;
 use crate::spelled::is_pem;
 use crate::utf16::text_in;
 use asn1_der::is_der;
@@ -97,7 +98,7 @@ impl<'o> Show<'o> {
         let file = self.push_file(name, printer)?;
         let text = text_in(self.alloc, input)?;
         let verdict = match form_of(self.alloc, &text)? {
-            InputForm::Pem => self.push_objects(file, &text, printer)?,
+            InputForm::Pem => self.push_pem(file, &text, printer)?,
             InputForm::Unread(FormFault::Text(line)) => {
                 self.push_words(file, line, &text, printer)?
             }
@@ -212,10 +213,23 @@ impl<'o> Show<'o> {
         if is_pem(&found.octets) {
             self.push_title(place, printer)?;
             let text = text_of(self.alloc, found.octets)?;
-            return self.push_objects(file, &text, printer);
+            return self.push_pem(file, &text, printer);
         }
         let document = Document::of(Some(place), Ok(&found.octets));
         self.push(file, document, printer)
+    }
+
+    // Writes each object of PEM, whose lines may have marks around them.
+    fn push_pem<W: Write>(
+        &self,
+        file: Option<&str>,
+        text: &[u8],
+        printer: &mut Printer<W>,
+    ) -> Result<Verdict, StreamFault> {
+        match without_marks(self.alloc, text)? {
+            Some(plain) => self.push_objects(file, &plain, printer),
+            None => self.push_objects(file, text, printer),
+        }
     }
 
     // Writes each object of PEM, before the next is decoded.
