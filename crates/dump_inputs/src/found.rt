@@ -3,7 +3,9 @@
 // A word is symbols of base64 one behind another. Each is tried by itself, and then those that may spell a document
 // together: hex digits with commas and the like between them, and base64 in lines.
 
-use crate::spelled::{digits_in, document_in_digits, document_in_symbols, is_symbol, may_begin};
+use crate::spelled::{
+    digits_in, document_in_digits, document_in_symbols, is_symbol, may_begin, may_spell,
+};
 use der_digits::lines::Lines;
 use std::alloc::{AllocError, Global};
 
@@ -153,10 +155,17 @@ impl Search {
         if word.is_empty() {
             return Ok(());
         }
-        self.read_symbols_of(word)?;
+        if !self.is_idle() || may_spell(word) {
+            self.read_symbols_of(word)?;
+        }
         self.is_blank = false;
         self.is_at_start = false;
         Ok(())
+    }
+
+    // Whether no words were read that may spell a document with the next one.
+    fn is_idle(&self) -> bool {
+        self.digits.words == 0 && self.symbols.words == 0
     }
 
     fn read_symbols_of(&mut self, word: &[u8]) -> Result<(), AllocError> {

@@ -31,6 +31,15 @@ pub fn is_symbol(b: u8) -> bool {
     b.is_ascii_alphanumeric() || matches!(b, b'+' | b'/' | b'-' | b'_')
 }
 
+// Whether a word may be the first of those that spell a document, which most words of a text are not.
+pub fn may_spell(word: &[u8]) -> bool {
+    match word {
+        [b'0', b'x', ..] => true,
+        [a, b, ..] if a.is_ascii_hexdigit() && b.is_ascii_hexdigit() => true,
+        _ => may_begin(word),
+    }
+}
+
 // The digits of a word that spells octets by hex digits, which may be those of a number: `0x30`, `0x30_u8`.
 pub fn digits_in(word: &[u8]) -> Option<&[u8]> {
     let digits = match word {
