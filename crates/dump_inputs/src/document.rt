@@ -28,13 +28,15 @@ fn is_long(octets: &[u8]) -> bool {
         && encoding_at(octets, 0).is_some_and(|encoding| encoding.len() == octets.len())
 }
 
-// Whether the octets are whole encodings, and so is what stands inside those that are constructed.
+// Whether the octets are whole encodings of types, and so is what stands inside those that are constructed: zeros are
+// encodings too, of tag 0.
 fn are_encodings(alloc: Global, octets: &[u8]) -> Result<bool, AllocError> {
     match departures(alloc, octets) {
         Ok(found) => Ok(
-            found
-                .iter()
-                .all(|departure| departure.rule != Rule::NotEncodings),
+            found.iter().all(|departure| !matches!(
+                departure.rule,
+                Rule::NotEncodings | Rule::ReservedTag
+            )),
         ),
         Err(
             LocatedErr {
