@@ -7,8 +7,8 @@ only waits for the other, and is tried again in the next check. One that is prov
 crate, and so is a change outside a body.
 
 A verdict is kept in `checks/data/edits/NAME`, with a sum of all that it stands on: the edit, the bodies and proofs of
-the functions that it changes, the contracts of those that these name, and the definitions and types of the crate and
-those below. Comments and line breaks are no part of it.
+the functions that it changes, the contracts of those that these name, and the definitions and types that all this
+reaches, in the crate and those below. Comments and line breaks are no part of it.
 """
 import collections
 import contextlib
@@ -22,6 +22,7 @@ import subprocess
 import sys
 
 from edits import CRATES, TOP, Unmade, edits_of, made
+from reached import Reach
 
 KEPT = TOP / "checks/data/edits"
 PARTS = ("src", "specs", "proofs", "c")
@@ -61,33 +62,31 @@ def sum_of_all(told):
 
 @functools.lru_cache(maxsize=None)
 def sources(crate):
-    """Of each source of a crate what stands outside its functions, and their heads and bodies by the functions."""
+    """Of each source of a crate the lines outside its functions, and their heads and bodies by the functions."""
     found = {}
     for path in sorted((CRATES / crate / "src").rglob("*.rt")):
         lines, parts = path.read_text().split("\n"), {}
         for it in reversed(functions("\n".join(lines))):
-            behind = it.body if 0 <= it.body < it.last else it.last
-            parts[it] = (words_of("\n".join(lines[it.first:behind + 1]), "//"),
+            first, behind = it.first, it.body if 0 <= it.body < it.last else it.last
+            while first > 0 and lines[first - 1].lstrip().startswith("#["):
+                first -= 1
+            parts[it] = (words_of("\n".join(lines[first:behind + 1]), "//"),
                          words_of("\n".join(lines[behind:it.last]), "//"))
-            del lines[it.first:it.last + 1]
-        found[str(path.relative_to(CRATES / crate))] = words_of("\n".join(lines), "//"), parts
+            del lines[first:it.last + 1]
+        found[str(path.relative_to(CRATES / crate))] = lines, parts
     return found
 
 
 @functools.lru_cache(maxsize=None)
-def sum_of_types(crate):
-    """A sum of what stands outside the functions of this crate and those below: definitions, types, macros."""
-    folder = CRATES / crate
-    told = [(str(it.relative_to(folder)), words_of(it.read_text(), "--"))
-            for it in sorted(folder.glob("specs/**/*.antt"))]
-    told += [(path, outside) for path, (outside, _) in sources(crate).items()]
-    return sum_of_all([told, [(it, sum_of_types(it)) for it in below().get(crate, [])]])
+def reach(crate):
+    return Reach({crate, *whole_below(crate)}, lambda it: {path: lines for path, (lines, _) in sources(it).items()})
 
 
 def heads(crate, words):
     """The heads of the functions of a crate that these words name, and of those that nothing has to name: of a trait's
     impl, and in a macro."""
-    outside = " ".join(it for it, _ in sources(crate).values() if "macro_rules!" in it)
+    outside = " ".join(text for lines, _ in sources(crate).values() for text in ["\n".join(lines)]
+                       if "macro_rules!" in text)
     named = words | set(re.findall(r"\w+", outside))
     return [(path, it.name, it.owner, head) for path, (_, of) in sources(crate).items()
             for it, (head, _) in of.items() if it.owner[1] or it.name in named]
@@ -105,11 +104,11 @@ def proofs_of(crate, names):
 
 
 def sum_of(edit):
-    """A sum of what the verdict on an edit stands on: types and definitions, and of the crate's bodies and proofs those
-    of the functions that it changes, or all where it changes something else. Of other functions, the heads of those
-    that all this names."""
+    """A sum of what the verdict on an edit stands on: of the crate's bodies and proofs those of the functions that it
+    changes, or all where it changes something else; of other functions, the heads of those that all this names; and the
+    definitions and types that these reach."""
     folder = CRATES / edit.crate
-    told = [edit.name, edit.text, sum_of_types(edit.crate)]
+    told = [edit.name, edit.text]
     try:
         changed = changed_functions(edit, folder)
     except Unmade:
@@ -121,7 +120,12 @@ def sum_of(edit):
     told += [sorted(parts)]
     told += [(str(it.relative_to(folder)), words_of(it.read_text(), "--")) for it in paths]
     words = set(re.findall(r"\w+", repr(told)))
-    told += [(it, sorted(heads(it, words))) for it in sorted({edit.crate, *whole_below(edit.crate)})]
+    above = [(it, sorted(heads(it, words))) for it in sorted({edit.crate, *whole_below(edit.crate)})]
+    texts = [((edit.crate, path), " ".join(part)) for path, _, _, part in parts]
+    texts += [((edit.crate, path), edit.text) for path in {path for path, *_ in parts}]
+    texts += [((crate, path), head) for crate, of in above for path, _, _, head in of]
+    texts += [(it, it.read_text()) for it in paths]
+    told += [above, reach(edit.crate).reached(texts)]
     told += [(it.name, it.read_bytes()) for it in sorted((folder / "c").rglob("*")) if it.is_file()]
     return sum_of_all(told)
 
