@@ -23,8 +23,9 @@ DECLARES = re.compile(r"^(?:pub(?:\([^)]*\))? )?(?:unsafe )?(?:struct|enum|union
 Scope = collections.namedtuple("Scope", "items imports modules")
 
 
+@functools.lru_cache(maxsize=None)
 def names_in(text):
-    return set(filter(None, BETWEEN.split(text)))
+    return frozenset(filter(None, BETWEEN.split(text)))
 
 
 def paragraphs_of(text, comment):
@@ -105,7 +106,7 @@ class Reach:
     """Finds what texts of a crate name. `sources` has for a crate of each source the lines outside its functions."""
 
     def __init__(self, crates, sources):
-        self.scopes, self.types = {}, collections.defaultdict(list)
+        self.scopes, self.types, self.found = {}, collections.defaultdict(list), {}
         split = {(crate, path): items_of_source(lines) for crate in crates for path, lines in sources(crate).items()}
         declared = {name for items, _ in split.values() for name in items if name}
         for (crate, path), (items, impls) in split.items():
@@ -120,6 +121,11 @@ class Reach:
 
     def places(self, key, name):
         """Where what has the name in this scope is defined: scopes, and its name there."""
+        if (key, name) not in self.found:
+            self.found[key, name] = self.looked_up(key, name)
+        return self.found[key, name]
+
+    def looked_up(self, key, name):
         scope = self.scope(key)
         if name in scope.items and isinstance(key, pathlib.Path):
             return [(key, name)]
