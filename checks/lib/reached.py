@@ -1,8 +1,9 @@
 """Definitions and types that texts of a crate name, those that these name in turn, and so on.
 
 A name is looked up where it stands: among what its file defines, then among what the file imports. In a source it may
-also be a type, a constant or a trait of the crate or one below, by its name alone, so that more is found than needed,
-and nothing less. What the kit defines is not looked for, nor which traits a type derives: what needs one names it.
+also be a type, a constant or a trait of the crate or one below, by its name alone, so that more is found than needed.
+These are not looked for: what the kit defines, and from which of its modules a name comes; definitions in proofs of
+crates below; and which traits a type derives.
 """
 import collections
 import functools
@@ -14,7 +15,7 @@ from edits import CRATES
 # what stands in words that no name has
 BETWEEN = re.compile(r"[\s(){}\[\],;.:λ→\"'&*!?<>|]+")
 # how an item of a file of definitions begins
-OPENS = re.compile(r"^(?:(?:abbrev|unfoldable|pub|private) )*(?:(data|record|module) )?(\S+)")
+OPENS = re.compile(r"^(?:(?:abbrev|unfoldable|pub) )*(?:(data|record|module) )?(\S+)")
 IMPORT = re.compile(r"^\s*(?:pub |ghost )*use (Rattle\.[\w.-]+?)(?:\.\{([^}]*)\}| as (\w+))?;?$", re.M)
 # an item of a source, behind `pub`
 DECLARES = re.compile(r"^(?:pub(?:\([^)]*\))? )?(?:unsafe )?(?:struct|enum|union|trait|type|const|static) (\w+)", re.M)
@@ -25,6 +26,7 @@ Scope = collections.namedtuple("Scope", "items imports modules")
 
 @functools.lru_cache(maxsize=None)
 def names_in(text):
+    """The words of a text that may be names."""
     return frozenset(filter(None, BETWEEN.split(text)))
 
 
@@ -97,7 +99,7 @@ def items_of_source(outside):
         elif declared:
             items[declared[0]].append(text)
         elif re.match(r"(?:unsafe )?impl\b", lines[0]):
-            for name in names_in(lines[0].partition(" where ")[0]):
+            for name in names_in(text.partition("{")[0]):
                 impls[name].append(text)
     return dict(items), dict(impls)
 
@@ -126,6 +128,7 @@ class Reach:
         return self.found[key, name]
 
     def looked_up(self, key, name):
+        """The same, where it was not asked before."""
         scope = self.scope(key)
         if name in scope.items and isinstance(key, pathlib.Path):
             return [(key, name)]

@@ -85,8 +85,8 @@ def reach(crate):
 def heads(crate, words):
     """The heads of the functions of a crate that these words name, and of those that nothing has to name: of a trait's
     impl, and in a macro."""
-    outside = " ".join(text for lines, _ in sources(crate).values() for text in ["\n".join(lines)]
-                       if "macro_rules!" in text)
+    texts = [words_of("\n".join(lines), "//") for lines, _ in sources(crate).values()]
+    outside = " ".join(it for it in texts if "macro_rules!" in it)
     named = words | set(re.findall(r"\w+", outside))
     return [(path, it.name, it.owner, head) for path, (_, of) in sources(crate).items()
             for it, (head, _) in of.items() if it.owner[1] or it.name in named]
