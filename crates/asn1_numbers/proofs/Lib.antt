@@ -3,6 +3,7 @@ pub mod Base128Forms
 pub mod DigitOrder
 pub mod FixedOctets
 pub mod SignedNumbers
+pub mod BitCounts
 pub mod FittingNumbers
 pub mod Decimals
 pub mod Limbs
