@@ -32,8 +32,8 @@ AreExtents octets index count [] = index ≡ length octets
 AreExtents octets index count (extent ∷ extents) =
     EndsBehind octets index count extent extents (λ end before. AreExtents octets end before extents)
 
-abbrev pub IsPlaced : List ℕ → Place → List Departure → Type 0
-IsPlaced octets place found = AreExtents octets place.index (length found) (extents_of place)
+abbrev pub HasExtents : List ℕ → Place → List Departure → Type 0
+HasExtents octets place found = AreExtents octets place.index (length found) (extents_of place)
 
 -- what is listed inside an open encoding in the end: what was found, and what is listed from the index on; or, if
 -- another encoding is around it, that its contents octets are no encodings
@@ -55,14 +55,14 @@ abbrev pub ListsAll : List ℕ → Place → List Departure → List Departure �
 ListsAll octets place found all = Completes octets place.index (extents_of place) found all
 
 -- the departures of all octets are unchanged, and less is left to do
-pub record GoesOn (octets : List ℕ) (old new : Place) (found_old found_new : List Departure) : Type 0 where
-  pub placed : IsPlaced octets new found_new
+pub record GoesOnListing (octets : List ℕ) (old new : Place) (found_old found_new : List Departure) : Type 0 where
+  pub placed : HasExtents octets new found_new
   pub all : (all : List Departure) → ListsAll octets new found_new all → ListsAll octets old found_old all
   pub fewer : work_left octets new.index new.outer.items < work_left octets old.index old.outer.items
 
-abbrev pub HasTurned : List ℕ → Bool → Place → Place → List Departure → List Departure → Type 0
-HasTurned octets true old new found_old found_new = GoesOn octets old new found_old found_new
-HasTurned octets false old new found_old found_new = ListsAll octets old found_old found_new
+abbrev pub HasListed : List ℕ → Bool → Place → Place → List Departure → List Departure → Type 0
+HasListed octets true old new found_old found_new = GoesOnListing octets old new found_old found_new
+HasListed octets false old new found_old found_new = ListsAll octets old found_old found_new
 
 -- end-of-contents octets stand in front, and close an encoding that is open
 abbrev pub is_at_end : ℕ → List ℕ → Bool

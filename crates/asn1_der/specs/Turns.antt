@@ -9,20 +9,20 @@ use Rattle.asn1_der.specs.declared.der.Turn.TheVariants.{More, End, Stop}
 abbrev pub ends_of : Place → List ℕ
 ends_of place = place.end ∷ reverse place.outer.items
 
-abbrev pub IsPlaced : List ℕ → Place → Type 0
-IsPlaced octets place = AreEnds place.index (ends_of place) (length octets)
+abbrev pub HasEnds : List ℕ → Place → Type 0
+HasEnds octets place = AreEnds place.index (ends_of place) (length octets)
 
 -- all that is left is DER
 abbrev pub IsLeftDer : List ℕ → Place → Type 0
 IsLeftDer octets place = AreDerUpTo octets place.index (ends_of place)
 
 -- what is left after a turn is DER exactly if what was left before it is, and less is left to do
-pub record GoesOn (octets : List ℕ) (old new : Place) : Type 0 where
-  pub placed : IsPlaced octets new
+pub record GoesOnChecking (octets : List ℕ) (old new : Place) : Type 0 where
+  pub placed : HasEnds octets new
   pub same : IsLeftDer octets old ↔ IsLeftDer octets new
   pub fewer : work_left octets new.index new.outer.items < work_left octets old.index old.outer.items
 
-abbrev pub HasTurned : List ℕ → Place → Turn → Place → Type 0
-HasTurned octets old More new = GoesOn octets old new
-HasTurned octets old End new = IsLeftDer octets old
-HasTurned octets old Stop new = IsLeftDer octets old → ⊥
+abbrev pub HasChecked : List ℕ → Place → Turn → Place → Type 0
+HasChecked octets old More new = GoesOnChecking octets old new
+HasChecked octets old End new = IsLeftDer octets old
+HasChecked octets old Stop new = IsLeftDer octets old → ⊥

@@ -2,7 +2,7 @@
 ghost use Rattle.std.specs.Prelude.{◌≡◌, ◌↔◌, IfOk, IsTrue};
 ghost use Rattle.asn1_blocks.specs.Places.{HeaderFound};
 ghost use Rattle.asn1_der.specs.Der.{IsDer};
-ghost use Rattle.asn1_der.specs.Turns.{HasTurned, IsPlaced};
+ghost use Rattle.asn1_der.specs.Turns.{HasChecked, HasEnds};
 
 use crate::header_rules::is_der_alone;
 use asn1_blocks::parsed::{PlacedHeader, header_within};
@@ -73,8 +73,8 @@ enum Turn {
 
 // Looks at one encoding beside its items, or closes one at its end.
 fn take_turn(alloc: Global, octets: &[u8], place: &mut Place) -> Result<Turn, AllocError>
-    requires { IsPlaced octets.now place.old }
-    ensures { IfOk result (λ turn. HasTurned octets.now place.old turn place.new) }
+    requires { HasEnds octets.now place.old }
+    ensures { IfOk result (λ turn. HasChecked octets.now place.old turn place.new) }
 {
     if place.index == place.end {
         return Ok(close(octets, place));
@@ -100,9 +100,9 @@ fn take_turn(alloc: Global, octets: &[u8], place: &mut Place) -> Result<Turn, Al
 
 // Goes on behind the innermost open encoding, which has ended.
 fn close(_octets: &[u8], place: &mut Place) -> Turn
-    requires placed { IsPlaced _octets.now place.old }
+    requires placed { HasEnds _octets.now place.old }
     requires ended { place.old.index ≡ place.old.end }
-    ensures { HasTurned _octets.now place.old result place.new }
+    ensures { HasChecked _octets.now place.old result place.new }
 {
     match place.outer.pop() {
         Some(end) => {
@@ -115,9 +115,9 @@ fn close(_octets: &[u8], place: &mut Place) -> Turn
 
 // Goes on inside the encoding with the header, or behind it.
 fn advance(octets: &[u8], place: &mut Place, header: &PlacedHeader) -> Result<Turn, AllocError>
-    requires placed { IsPlaced octets.now place.old }
+    requires placed { HasEnds octets.now place.old }
     requires found { HeaderFound octets.now place.old.index place.old.end header.now }
-    ensures { IfOk result (λ turn. HasTurned octets.now place.old turn place.new) }
+    ensures { IfOk result (λ turn. HasChecked octets.now place.old turn place.new) }
 {
     if !is_der_alone(octets, place.index, place.end, header) {
         return Ok(Turn::Stop);

@@ -4,7 +4,7 @@ ghost use Rattle.asn1_headers.specs.Fault.{OutOfMemoryOr};
 ghost use Rattle.asn1_blocks.specs.Places.{HeaderFound};
 ghost use Rattle.asn1_der.specs.Der.{IsDer};
 ghost use Rattle.asn1_der.specs.Departures.{AreDepartures, HeaderFaultBehind, NoEncodingsFault};
-ghost use Rattle.asn1_der.specs.Listing.{GoesOn, HasTurned, IsPlaced, is_at_end as is_at_end_is};
+ghost use Rattle.asn1_der.specs.Listing.{GoesOnListing, HasListed, HasExtents, is_at_end as is_at_end_is};
 ghost use Rattle.asn1_der.specs.declared.rule.Departure.{Departure};
 
 use crate::der::is_der;
@@ -117,10 +117,10 @@ fn take_turn(
     place: &mut Place,
     found: &mut Vec<Departure>,
 ) -> Result<bool, LocatedErr>
-    requires placed { IsPlaced octets.now place.old found.old.items }
+    requires placed { HasExtents octets.now place.old found.old.items }
     requires within { place.old.inner.end ≤ length octets.now }
     ensures turned { IfOk result (λ more.
-        HasTurned octets.now more place.old place.new found.old.items found.new.items) }
+        HasListed octets.now more place.old place.new found.old.items found.new.items) }
     ensures refused { IfErr result (λ e. OutOfMemoryOr (HeaderFaultBehind 0 0 octets.now e.offset) e.error) }
 {
     if place.index == place.inner.end && place.inner.unended == 0 {
@@ -141,10 +141,10 @@ fn take_turn(
 
 // Goes on behind the innermost open encoding, which has ended.
 fn close(_octets: &[u8], place: &mut Place, _found: &[Departure]) -> bool
-    requires placed { IsPlaced _octets.now place.old _found.now }
+    requires placed { HasExtents _octets.now place.old _found.now }
     requires ended { place.old.index ≡ place.old.inner.end }
     requires no_more { place.old.inner.unended ≡ 0 }
-    ensures { HasTurned _octets.now result place.old place.new _found.now _found.now }
+    ensures { HasListed _octets.now result place.old place.new _found.now _found.now }
 {
     match place.outer.pop() {
         Some(extent) => {
@@ -157,10 +157,10 @@ fn close(_octets: &[u8], place: &mut Place, _found: &[Departure]) -> bool
 
 // Goes on behind end-of-contents octets.
 fn pass_end(_octets: &[u8], place: &mut Place, _found: &[Departure])
-    requires placed { IsPlaced _octets.now place.old _found.now }
+    requires placed { HasExtents _octets.now place.old _found.now }
     requires end { IsTrue (is_at_end_is place.old.inner.unended
         (slice_range _octets.now place.old.index place.old.inner.end)) }
-    ensures { GoesOn _octets.now place.old place.new _found.now _found.now }
+    ensures { GoesOnListing _octets.now place.old place.new _found.now _found.now }
 {
     place.index += 2;
     place.inner.unended -= 1;
@@ -191,12 +191,12 @@ fn refuse(
     found: &mut Vec<Departure>,
     error: ASN1DecodeErr,
 ) -> Result<bool, LocatedErr>
-    requires placed { IsPlaced octets.now place.old found.old.items }
+    requires placed { HasExtents octets.now place.old found.old.items }
     requires within { place.old.inner.end ≤ length octets.now }
     requires at_fault { OutOfMemoryOr (HeaderFaultBehind place.old.inner.unended place.old.index
         (slice_range octets.now place.old.index place.old.inner.end) place.old.index) error }
     ensures turned { IfOk result (λ more.
-        HasTurned octets.now more place.old place.new found.old.items found.new.items) }
+        HasListed octets.now more place.old place.new found.old.items found.new.items) }
     ensures refused { IfErr result (λ e. OutOfMemoryOr (HeaderFaultBehind 0 0 octets.now e.offset) e.error) }
 {
     if is_out_of_memory(&error) {
@@ -231,12 +231,12 @@ fn advance(
     header: &PlacedHeader,
     found: &mut Vec<Departure>,
 ) -> Result<(), AllocError>
-    requires placed { IsPlaced octets.now place.old found.old.items }
+    requires placed { HasExtents octets.now place.old found.old.items }
     requires within { place.old.inner.end ≤ length octets.now }
     requires header { HeaderFound octets.now place.old.index place.old.inner.end header.now }
     requires no_end { is_at_end_is place.old.inner.unended
         (slice_range octets.now place.old.index place.old.inner.end) ≡ false }
-    ensures { IfOk result (λ _. GoesOn octets.now place.old place.new found.old.items found.new.items) }
+    ensures { IfOk result (λ _. GoesOnListing octets.now place.old place.new found.old.items found.new.items) }
 {
     let contents = &octets[header.start..header.end];
     push_own(alloc, place.index, header, contents, found)?;

@@ -1,6 +1,6 @@
 -- For `listing::list`: what it returns is right (`none`), and `take_turn` may be called.
 use Rattle.std.proofs.Common.{◌≡◌, ◌<◌, ◌^◌, arith, false, length, reverse, subst}
-use Rattle.asn1_der.specs.Listing.{HasTurned}
+use Rattle.asn1_der.specs.Listing.{HasListed}
 use Rattle.asn1_der.proofs.DerLists.{Lists-nil_iff_der}
 use Rattle.asn1_der.proofs.Walk.{AreExtents-le}
 use Rattle.asn1_der.proofs.listing.list.Goals as goal
@@ -19,5 +19,5 @@ returns-then-not-branch-clause-none c =
     let some : 0 < length x = grind (arith, is_empty, c.is_empty.ensures) in
     let last : c.in_ok-take_turn.field-0 ≡ false = c.if-not-branch.true in
     Lists-nil_iff_der x found some small (c.turns.invariant.all found
-    (subst (λ b. HasTurned x b c.turns.place c.take_turn.new.place c.turns.found.items found) last
+    (subst (λ b. HasListed x b c.turns.place c.take_turn.new.place c.turns.found.items found) last
     c.in_ok-take_turn.ensures.turned))

@@ -1,7 +1,7 @@
 -- For `listing::list`: what each turn of its loop keeps and what grows less, so that it ends.
 use Rattle.std.specs.Prelude.{List}
 use Rattle.asn1_der.specs.Departures.{Lists}
-use Rattle.asn1_der.specs.Listing.{IsPlaced, ListsAll}
+use Rattle.asn1_der.specs.Listing.{HasExtents, ListsAll}
 use Rattle.asn1_der.specs.Steps.{work_left}
 use Rattle.asn1_der.specs.declared.rule.Departure.{Departure}
 use Rattle.asn1_der.proofs.listing.list.Given as goal
@@ -9,7 +9,7 @@ use Rattle.asn1_der.proofs.listing.list.Given as goal
 -- the departures found so far, with those of what is left, are all
 abbrev pub invariant-turns : goal.invariant-turns
 invariant-turns l = record {
-  placed : IsPlaced l.octets l.place l.found.items;
+  placed : HasExtents l.octets l.place l.found.items;
   all : (all : List Departure) → ListsAll l.octets l.place l.found.items all → Lists 0 0 l.octets all;
 }
 
