@@ -113,6 +113,30 @@ IsUnknownTag-not_known n e = (
   λ g t. false≢true (sym e ∙ (ap is_known_tag t ∙ is_known_tag-group_tag g)),
 )
 
+-- the tag number of each leaf is below 64
+leaf_tag-lt : (l : Leaf) → leaf_tag l < 64
+leaf_tag-lt (boolean b) = lit< tt
+leaf_tag-lt (integer n) = lit< tt
+leaf_tag-lt (bit_string n v) = lit< tt
+leaf_tag-lt (octet_string v) = lit< tt
+leaf_tag-lt null = lit< tt
+leaf_tag-lt (object_identifier ns) = lit< tt
+leaf_tag-lt (text kind cs) = string_tag-lt kind
+leaf_tag-lt (utc_time m) = lit< tt
+leaf_tag-lt (generalized_time m) = lit< tt
+
+-- the tag number of each group is below 64
+group_tag-lt : (g : GroupKind) → group_tag g < 64
+group_tag-lt Sequence = lit< tt
+group_tag-lt Set = lit< tt
+
+-- a tag number that does not fit 64 bits is unknown
+pub IsUnknownTag-large : (n : ℕ) → (n < 2 ^ 64 → ⊥) → IsUnknownTag n
+IsUnknownTag-large n large = (
+  λ l t. large (omega (arith, t, leaf_tag-lt l)),
+  λ g t. large (omega (arith, t, group_tag-lt g)),
+)
+
 -- no tag is that of a leaf and of a group
 pub is_leaf_tag-not_group_tag : (n : ℕ) (g : GroupKind) → is_leaf_tag n ≡ true → n ≡ group_tag g → ⊥
 is_leaf_tag-not_group_tag n g e d = false≢true (sym (is_leaf_tag-group_tag g) ∙ ap is_leaf_tag (sym d) ∙ e)
@@ -365,6 +389,11 @@ pub LeafContents-or_fault : (n : ℕ) (contents : List ℕ) → is_leaf_tag n �
     LeafMeaning n contents
 LeafContents-or_fault n contents e small = let l = is_leaf_tag-leaf n e in LeafMeaning-same_tag l.0 n contents l.1
 
+-- the tag number of a SEQUENCE or SET is that of a group
+pub is_group_tag-group : (n : ℕ) → is_group_tag n ≡ true → (g : GroupKind) × (n ≡ group_tag g)
+is_group_tag-group n is = elim (or_cases (n == SEQUENCE) (n == SET) is)
+    [ inl b ↦ (Sequence, eqb-true n SEQUENCE b) | inr b ↦ (Set, eqb-true n SET b) ]
+
 -- each tag is unknown, of a group or of a leaf
 pub data TagKind (n : ℕ) : Type 0 where
   unknown_tag : IsUnknownTag n → TagKind n
@@ -377,8 +406,7 @@ TagKind-total n = elim (cases_Bool (is_known_tag n)) [
   | inr e ↦ unknown_tag (IsUnknownTag-not_known n e)
   | inl e ↦ elim (or_cases (is_leaf_tag n) (is_group_tag n) e) [
     | inl a ↦ leaf_tag_of a
-    | inr a ↦ elim (or_cases (n == SEQUENCE) (n == SET) a)
-        [ inl b ↦ group_tag_of Sequence (eqb-true n SEQUENCE b) | inr b ↦ group_tag_of Set (eqb-true n SET b) ]
+    | inr a ↦ let (g, is) = is_group_tag-group n a in group_tag_of g is
   ]
 ]
 
@@ -388,8 +416,7 @@ is_known_tag-unknown n u = elim (cases_Bool (is_known_tag n)) [
   | inr e ↦ e
   | inl e ↦ elim (or_cases (is_leaf_tag n) (is_group_tag n) e) [
     | inl a ↦ let l = is_leaf_tag-leaf n a in absurd (u.0 l.0 l.1)
-    | inr a ↦ elim (or_cases (n == SEQUENCE) (n == SET) a)
-        [ inl b ↦ absurd (u.1 Sequence (eqb-true n SEQUENCE b)) | inr b ↦ absurd (u.1 Set (eqb-true n SET b)) ]
+    | inr a ↦ let (g, is) = is_group_tag-group n a in absurd (u.1 g is)
   ]
 ]
 

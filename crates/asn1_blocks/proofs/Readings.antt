@@ -48,42 +48,42 @@ FirstFault-without_place octets e o (inl memory) = inl memory
 FirstFault-without_place octets e o (inr p) = inr (o, p)
 
 -- the error is that memory ran out, or the first fault, which stands at the offset
-abbrev pub IsPlaced : List ℕ → LocatedErr → Type 0
-IsPlaced octets e = OutOfMemoryOr (λ f. FirstFaultAt octets f e.offset) e.error
+abbrev pub IsLocated : List ℕ → LocatedErr → Type 0
+IsLocated octets e = OutOfMemoryOr (λ f. FirstFaultAt octets f e.offset) e.error
 
 -- reading a document with its places fails for want of memory alone
-pub IsPlaced-out_of_memory : (octets : List ℕ) (bs : Trees ℕ) (e : LocatedErr) → length octets < 2 ^ 64 →
+pub IsLocated-out_of_memory : (octets : List ℕ) (bs : Trees ℕ) (e : LocatedErr) → length octets < 2 ^ 64 →
     IsDocument octets bs →
-    IsPlaced octets e
+    IsLocated octets e
     → e.error ≡ OutOfMemory
-IsPlaced-out_of_memory octets bs e small d (inl memory) = memory
-IsPlaced-out_of_memory octets bs e small d (inr p) =
+IsLocated-out_of_memory octets bs e small d (inl memory) = memory
+IsLocated-out_of_memory octets bs e small d (inr p) =
     absurd (IsDocument-no_fault octets bs (fault_of e.error) small d (e.offset, p))
 
 -- a document is accepted as its trees by a call that locates faults
 pub IsDocument-accepted_located : (octets : List ℕ) (r : Result (Vec ASN1Block Global) LocatedErr) →
     length octets < 2 ^ 64
-    → IfOk r (λ v. IsDocument octets (views v.items)) → IfErr r (IsPlaced octets) → (bs : Trees ℕ) →
+    → IfOk r (λ v. IsDocument octets (views v.items)) → IfErr r (IsLocated octets) → (bs : Trees ℕ) →
     IsDocument octets bs
     → MatchResult r (λ v. views v.items ≡ bs) (λ e. e.error ≡ OutOfMemory)
 IsDocument-accepted_located octets (Ok v) small ok err bs d =
     EncodesAll-unique 0 octets (views v.items) bs ok.blocks d.blocks
-IsDocument-accepted_located octets (Err e) small ok err bs d = IsPlaced-out_of_memory octets bs e small d err
+IsDocument-accepted_located octets (Err e) small ok err bs d = IsLocated-out_of_memory octets bs e small d err
 
 -- an error of octets with a first fault is that fault at its place, or want of memory
-pub IsPlaced-same_place : (octets : List ℕ) (e : LocatedErr) (fault : DecodeFault) (o : ℕ) → length octets < 2 ^ 64 →
-    IsPlaced octets e
+pub IsLocated-same_place : (octets : List ℕ) (e : LocatedErr) (fault : DecodeFault) (o : ℕ) → length octets < 2 ^ 64 →
+    IsLocated octets e
     → FirstFaultAt octets fault o
     → OutOfMemoryOr (λ f. (f ≡ fault) × (e.offset ≡ o)) e.error
-IsPlaced-same_place octets e fault o small (inl memory) p = inl memory
-IsPlaced-same_place octets e fault o small (inr q) p =
+IsLocated-same_place octets e fault o small (inl memory) p = inl memory
+IsLocated-same_place octets e fault o small (inr q) p =
     inr (FirstFaultAt-unique octets (fault_of e.error) fault e.offset o small q p)
 
 -- octets with a first fault are refused with that fault at its place
 pub FirstFaultAt-refused : (octets : List ℕ) (r : Result (Vec ASN1Block Global) LocatedErr) → length octets < 2 ^ 64
-    → IfOk r (λ v. IsDocument octets (views v.items)) → IfErr r (IsPlaced octets) → (fault : DecodeFault) (o : ℕ) →
+    → IfOk r (λ v. IsDocument octets (views v.items)) → IfErr r (IsLocated octets) → (fault : DecodeFault) (o : ℕ) →
     FirstFaultAt octets fault o
     → IsErrAnd r (λ e. OutOfMemoryOr (λ f. (f ≡ fault) × (e.offset ≡ o)) e.error)
 FirstFaultAt-refused octets (Ok v) small ok err fault o p =
     IsDocument-no_fault octets (views v.items) fault small ok (o, p)
-FirstFaultAt-refused octets (Err e) small ok err fault o p = IsPlaced-same_place octets e fault o small err p
+FirstFaultAt-refused octets (Err e) small ok err fault o p = IsLocated-same_place octets e fault o small err p

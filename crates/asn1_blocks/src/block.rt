@@ -21,7 +21,7 @@ use asn1_numbers::number::big_uint::BigUint;
 use jiff::civil::DateTime;
 
 // Which blocks hold blocks one after another.
-#[derive(Drop)]
+#[derive(Clone, Copy)]
 pub enum GroupKind {
     Sequence,
     Set,

@@ -3,7 +3,7 @@
 ghost use Rattle.std.specs.Prelude.{◌≡◌, ◌↔◌, ◌⊎◌, ◌≤◌, ℕ, List, length, false, None, Some, IfOk, IfErr, IsTrue, MatchOption, OnOk};
 ghost use Rattle.std.specs.Str.{chars};
 ghost use Rattle.asn1_headers.specs.declared.header.ASN1Class.TheVariants.{Universal};
-ghost use Rattle.asn1_blocks.specs.Contents.{LeafFault, is_known_tag, is_leaf_tag, string_tag};
+ghost use Rattle.asn1_blocks.specs.Contents.{LeafFault, is_group_tag, is_known_tag, is_leaf_tag, string_tag};
 ghost use Rattle.asn1_leaves.specs.Contents.Moment.{moment_of};
 ghost use Rattle.asn1_leaves.specs.Contents.Text.{text_form};
 ghost use Rattle.asn1_leaves.specs.StringKind.{StringKind};
@@ -241,25 +241,32 @@ pub fn is_faithful_leaf(b: &ASN1Block) -> bool
 }
 
 // Whether contents octets of class Universal with this tag number have a rule.
-pub fn is_known(tag: &BigUint) -> bool
-    ensures { result ≡ is_known_tag tag.now }
+#[inline(always)]
+pub fn is_known(tag: u64) -> bool
+    ensures { result ≡ is_known_tag tag }
 {
     matches!(
-        tag.to_u64(),
-        Some(
-            BOOLEAN..=OBJECT_IDENTIFIER
-                | UTF8_STRING
-                | SEQUENCE
-                | SET
-                | PRINTABLE_STRING
-                | TELETEX_STRING
-                | IA5_STRING
-                | UTC_TIME
-                | GENERALIZED_TIME
-                | UNIVERSAL_STRING
-                | BMP_STRING
-        )
+        tag,
+        BOOLEAN..=OBJECT_IDENTIFIER
+            | UTF8_STRING
+            | SEQUENCE
+            | SET
+            | PRINTABLE_STRING
+            | TELETEX_STRING
+            | IA5_STRING
+            | UTC_TIME
+            | GENERALIZED_TIME
+            | UNIVERSAL_STRING
+            | BMP_STRING
     )
+}
+
+// Whether the tag number is that of a SEQUENCE or SET.
+#[inline(always)]
+pub fn is_group_tag(tag: u64) -> bool
+    ensures { result ≡ is_group_tag tag }
+{
+    matches!(tag, SEQUENCE | SET)
 }
 
 // The form of a string with the tag number.

@@ -54,7 +54,7 @@ fn are_faithful(alloc: Global, blocks: &[ASN1Block]) -> Result<bool, AllocError>
 }
 
 // Whether the block is faithful as far as those inside it are.
-fn is_faithful_alone(alloc: Global, b: &ASN1Block) -> Result<bool, AllocError>
+pub fn is_faithful_alone(alloc: Global, b: &ASN1Block) -> Result<bool, AllocError>
     ensures { IfOk result (λ r. IsTrue r ↔ IsFaithfulAlone (view b.now)) }
 {
     match b {
@@ -95,7 +95,10 @@ fn stays_as_it_came(
 fn is_unknown_tag(tag: &BigUint) -> bool
     ensures { IsTrue result ↔ IsUnknownTag tag.now }
 {
-    !is_known(tag)
+    match tag.to_u64() {
+        Some(tag) => !is_known(tag),
+        None => true,
+    }
 }
 
 // Whether the octets are one block.

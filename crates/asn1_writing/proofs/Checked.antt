@@ -8,7 +8,7 @@ use Rattle.asn1_headers.specs.declared.error.LocatedErr.{LocatedErr}
 use Rattle.asn1_blocks.specs.Grammar.{FirstFaultAt, IsDocument}
 use Rattle.asn1_blocks.specs.Tree.{Trees}
 use Rattle.asn1_blocks.proofs.OneReading.{EncodesAll-unique}
-use Rattle.asn1_blocks.proofs.Readings.{IsPlaced, IsDocument-no_fault, IsPlaced-out_of_memory, IsPlaced-same_place}
+use Rattle.asn1_blocks.proofs.Readings.{IsLocated, IsDocument-no_fault, IsLocated-out_of_memory, IsLocated-same_place}
 use Rattle.asn1_writing.specs.Canonical.{all_canonical}
 
 -- the octets are a document
@@ -17,19 +17,19 @@ IsSomeDocument octets = (bs : Trees ℕ) × IsDocument octets bs
 
 -- a check of a document fails for want of memory alone
 pub IsDocument-accepted_located : {A : Type 0} (octets : List ℕ) (r : Result A LocatedErr) → length octets < 2 ^ 64 →
-    IfErr r (IsPlaced octets)
+    IfErr r (IsLocated octets)
     → (bs : Trees ℕ) → IsDocument octets bs → IfErr r (λ e. e.error ≡ OutOfMemory)
 IsDocument-accepted_located octets (Ok v) small err bs d = tt
-IsDocument-accepted_located octets (Err e) small err bs d = IsPlaced-out_of_memory octets bs e small d err
+IsDocument-accepted_located octets (Err e) small err bs d = IsLocated-out_of_memory octets bs e small d err
 
 -- a check of octets with a first fault reports it at its place
 pub FirstFaultAt-refused : {A : Type 0} (octets : List ℕ) (r : Result A LocatedErr) → length octets < 2 ^ 64 →
     IfOk r (λ v. IsSomeDocument octets)
-    → IfErr r (IsPlaced octets) → (fault : DecodeFault) (o : ℕ) → FirstFaultAt octets fault o
+    → IfErr r (IsLocated octets) → (fault : DecodeFault) (o : ℕ) → FirstFaultAt octets fault o
     → IsErrAnd r (λ e. OutOfMemoryOr (λ f. (f ≡ fault) × (e.offset ≡ o)) e.error)
 FirstFaultAt-refused octets (Ok v) small (bs, d) err fault o p =
     absurd (IsDocument-no_fault octets bs fault small d (o, p))
-FirstFaultAt-refused octets (Err e) small ok err fault o p = IsPlaced-same_place octets e fault o small err p
+FirstFaultAt-refused octets (Err e) small ok err fault o p = IsLocated-same_place octets e fault o small err p
 
 -- octets that were checked are a document
 pub IfOk-checked_document : {A : Type 0} (octets : List ℕ) (r : Result A LocatedErr) → OnOk r (IsSomeDocument octets) →
@@ -52,8 +52,8 @@ IfOk-written_document octets (Err e) ok = tt
 pub IsDocument-written_accepted : (octets : List ℕ) (r : Result (Option (Vec ℕ Global)) LocatedErr) →
     length octets < 2 ^ 64
     → IfOk r (λ written. (bs : Trees ℕ) × IsDocument octets bs × IsWritten octets bs written) →
-    IfErr r (IsPlaced octets)
+    IfErr r (IsLocated octets)
     → (bs : Trees ℕ) → IsDocument octets bs → MatchResult r (IsWritten octets bs) (λ e. e.error ≡ OutOfMemory)
 IsDocument-written_accepted octets (Ok v) small (cs, e, is) err bs d =
     subst (λ z. IsWritten octets z v) (EncodesAll-unique 0 octets cs bs e.blocks d.blocks) is
-IsDocument-written_accepted octets (Err e) small ok err bs d = IsPlaced-out_of_memory octets bs e small d err
+IsDocument-written_accepted octets (Err e) small ok err bs d = IsLocated-out_of_memory octets bs e small d err

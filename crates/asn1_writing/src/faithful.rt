@@ -1,5 +1,5 @@
 // Writing blocks that are read back as they are, and no others.
-ghost use Rattle.std.specs.Prelude.{◌≡◌, ◌↔◌, ◌⊎◌, ℕ, IfErr, IfOk, IsErrAnd, IsTrue, MatchOption, OnOk};
+ghost use Rattle.std.specs.Prelude.{◌≡◌, ◌⊎◌, ℕ, IfErr, IfOk, IsErrAnd, MatchOption, OnOk};
 ghost use Rattle.asn1_blocks.specs.Faithful.{IsFaithful};
 ghost use Rattle.asn1_blocks.specs.Inner.FaithfulWalk.{IsFaithfulAlone};
 ghost use Rattle.asn1_blocks.specs.View.{view};
@@ -13,7 +13,7 @@ ghost use Rattle.asn1_writing.specs.declared.faithful.UnfaithfulErr.{UnfaithfulE
 use crate::write::to_der;
 use asn1_blocks::block::ASN1Block;
 use asn1_blocks::block::parts::all_blocks;
-use asn1_blocks::contents::is_faithful_leaf;
+use asn1_blocks::faithful::is_faithful_alone;
 use asn1_headers::header::ASN1Class;
 use std::alloc::{AllocError, AllocFailed, Global};
 use std::slice;
@@ -153,21 +153,10 @@ fn failure_of(alloc: Global, b: &ASN1Block) -> Result<Option<UnfaithfulErr>, All
         (IsFaithfulAlone (view b.now))
         (FailsBy (view b.now))) }
 {
-    if comes_back_alone(alloc, b)? {
+    if is_faithful_alone(alloc, b)? {
         return Ok(None);
     }
     Ok(failure_by_kind(b))
-}
-
-// Whether the block is faithful as far as those inside it are.
-fn comes_back_alone(alloc: Global, b: &ASN1Block) -> Result<bool, AllocError>
-    ensures { IfOk result (λ yes. IsTrue yes ↔ IsFaithfulAlone (view b.now)) }
-{
-    match b {
-        ASN1Block::Explicit(class, _, _, _) => Ok(!matches!(class, ASN1Class::Universal)),
-        ASN1Block::Unknown(_, _, _, _, _) => b.is_faithful(alloc),
-        _ => Ok(is_faithful_leaf(b)),
-    }
 }
 
 // What a block of its kind can fail in.

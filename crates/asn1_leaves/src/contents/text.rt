@@ -11,7 +11,7 @@ use asn1_numbers::sink::Sink;
 use std::alloc::{AllocError, Global};
 
 // What contents octets hold for a character: its UTF-8, an octet of a PrintableString, any octet.
-#[derive(Drop)]
+#[derive(Clone, Copy)]
 pub enum TextForm {
     Utf8,
     Printable,
