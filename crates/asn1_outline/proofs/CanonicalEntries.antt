@@ -1,6 +1,6 @@
 -- A document is canonical where each of its blocks, at whatever depth, has the shortest header and, as a leaf, the
 -- contents octets that are written, for the functions of `canonical`.
-use Rattle.std.proofs.Common.{◌≡◌, ◌≢◌, ℕ, suc, ◌+◌, ◌-◌, ◌<◌, ◌≤◌, ◌^◌, Bool, true, false, List, [], ◌∷◌, ◌++◌, ◌⊎◌, inl, inr, length, take, drop, get_or, refl, sym, ap, ap₂, ◌∙◌, subst, arith, length-append, append_assoc, append-nil}
+use Rattle.std.proofs.Common.{◌≡◌, ◌≢◌, ℕ, suc, ◌+◌, ◌-◌, ◌<◌, ◌≤◌, ◌^◌, Bool, true, false, List, [], ◌∷◌, ◌++◌, inl, inr, length, take, drop, get_or, refl, sym, ap, ap₂, ◌∙◌, subst, arith, length-append, append_assoc, append-nil}
 use Rattle.std.specs.Prelude.{All}
 use Rattle.std.specs.List.{slice_range}
 use Rattle.std.proofs.lemmas.Bool.{cases_lt, cond_below}
@@ -14,8 +14,7 @@ use Rattle.asn1_headers.specs.declared.whole_header.Header.{Header}
 use Rattle.asn1_headers.specs.declared.header.ASN1Class.{ASN1Class}
 use Rattle.asn1_headers.specs.declared.header.ASN1Class.TheVariants.{Universal}
 use Rattle.asn1_headers.proofs.Prefixes.{Encoding-unique, Encoding-not_empty}
-use Rattle.asn1_headers.specs.declared.tags.TheConstants.{SEQUENCE, SET}
-use Rattle.asn1_blocks.specs.declared.block.GroupKind.TheVariants.{Sequence, Set}
+use Rattle.asn1_blocks.specs.declared.block.GroupKind.{GroupKind}
 use Rattle.asn1_blocks.specs.Contents.{group_tag, leaf_contents, leaf_tag}
 use Rattle.asn1_blocks.specs.Grammar.{Encodes, EncodesAll, IsDocument}
 use Rattle.asn1_blocks.specs.Places.{EncodingAt}
@@ -300,7 +299,7 @@ HasCanonicalAt-shortest x r s is = record {
 }
 
 -- a SEQUENCE or SET with the shortest header is canonical
-pub HasCanonicalAt-group : (x : List ℕ) (r : Entry) → HasShortestAt x r → (r.tag ≡ SEQUENCE) ⊎ (r.tag ≡ SET) →
+pub HasCanonicalAt-group : (x : List ℕ) (r : Entry) → HasShortestAt x r → (g : GroupKind) × (r.tag ≡ group_tag g) →
     r.constructed ≡ true →
     HasCanonicalAt x r.offset
 HasCanonicalAt-group x r s is constructed = HasCanonicalAt-shortest x r s (record {
@@ -312,10 +311,7 @@ HasCanonicalAt-group x r s is constructed = HasCanonicalAt-shortest x r s (recor
   where
     -- the tag number of a SEQUENCE or SET is no leaf's
     of : (l : Leaf) → r.tag ≡ leaf_tag l → ⊥
-    of l t = elim is [
-      | inl sequence ↦ leaf_tag-not_group_tag l Sequence (sym t ∙ sequence)
-      | inr set ↦ leaf_tag-not_group_tag l Set (sym t ∙ set)
-    ]
+    of l t = leaf_tag-not_group_tag l is.0 (sym t ∙ is.1)
 
 -- a leaf with the shortest header and canonical contents octets is canonical
 pub HasCanonicalAt-leaf :

@@ -9,7 +9,8 @@ pub mod Values
 mod Fields
 mod Lent
 mod BlockRefs
-mod Inside
+mod IteratedTrees
+mod InsideStrings
 mod Roots
 mod Built
 mod BuildSteps

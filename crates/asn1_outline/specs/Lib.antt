@@ -9,5 +9,7 @@ pub mod Walking
 pub mod Iterated
 pub mod Building
 pub mod Triple
+pub mod InStrings
+pub mod Insides
 pub mod TripleHeaders
 pub mod Inner

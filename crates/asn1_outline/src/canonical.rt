@@ -1,6 +1,6 @@
 // A quick look at whether a document is canonical, over its entries: at each header, and at the contents octets of each
 // leaf.
-ghost use Rattle.std.specs.Prelude.{◌≡◌, ◌⊎◌, ℕ, IsTrue};
+ghost use Rattle.std.specs.Prelude.{◌≡◌, ℕ, IsTrue};
 ghost use Rattle.asn1_blocks.specs.Grammar.{IsDocument};
 ghost use Rattle.asn1_blocks.specs.Tree.{Trees};
 ghost use Rattle.asn1_outline.specs.Entries.{HasHeaderAt, IsOutline};
@@ -8,8 +8,8 @@ ghost use Rattle.asn1_writing.specs.Canonical.{all_canonical};
 ghost use Rattle.asn1_outline.specs.Inner.InEntries.{HasCanonicalAt, HasShortestAt};
 
 use crate::entry::Entry;
+use asn1_blocks::contents::is_group_tag;
 use asn1_headers::header::{ASN1Class, length_size};
-use asn1_headers::tags::{SEQUENCE, SET};
 use asn1_writing::frequent::begin_with_frequent;
 use asn1_writing::in_place::are_leaf_contents_canonical;
 
@@ -72,14 +72,6 @@ fn is_canonical_universal(octets: &[u8], entry: &Entry) -> bool
         return false;
     }
     are_leaf_contents_canonical(entry.tag, entry.contents_in(octets))
-}
-
-// Whether the tag number is that of a SEQUENCE or SET.
-#[inline(always)]
-fn is_group_tag(tag: u64) -> bool
-    ensures { IsTrue result → (tag ≡ SEQUENCE) ⊎ (tag ≡ SET) }
-{
-    matches!(tag, SEQUENCE | SET)
 }
 
 // Whether the header of the entry has its shortest form, and a tag number below 31. 80 is as short as 00.

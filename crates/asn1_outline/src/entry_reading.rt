@@ -1,10 +1,11 @@
 // What an entry says of its block, and where its octets lie in the document.
-ghost use Rattle.std.specs.Prelude.{◌≡◌, ◌≢◌, ◌↔◌, IsTrue, MatchOption, option_map};
+ghost use Rattle.std.specs.Prelude.{◌≡◌, ◌≢◌, ◌↔◌, ◌+◌, ◌<◌, ◌^◌, IsTrue, MatchOption, option_map};
 ghost use Rattle.asn1_headers.specs.Names.{type_name as name_of_type};
 ghost use Rattle.asn1_headers.specs.declared.header.ASN1Class.TheVariants.{Universal};
 ghost use Rattle.asn1_leaves.specs.Contents.Text.{text_form};
 ghost use Rattle.asn1_leaves.specs.StringKind.{StringKind};
 ghost use Rattle.asn1_blocks.specs.Contents.{string_tag};
+ghost use Rattle.asn1_outline.specs.InStrings.{later};
 ghost use Rattle.asn1_outline.specs.Shapes.{IsWithin, contents_octets, encoding_octets};
 
 use crate::entry::Entry;
@@ -71,5 +72,16 @@ impl Entry {
     {
         let start = self.offset + self.header;
         &document[start..start + self.contents]
+    }
+
+    // The entry with an offset that is greater by so much.
+    pub(crate) fn later(&self, start: usize) -> Entry
+        requires { start + self.now.offset < 2 ^ 64 }
+        ensures { result ≡ later start self.now }
+    {
+        Entry {
+            offset: start + self.offset,
+            ..*self
+        }
     }
 }

@@ -1,8 +1,9 @@
-// The iterators of an outline.
+// The iterators of an outline, and of one inside a string.
 ghost use Rattle.std.specs.Prelude.{◌≡◌, ◌+◌, ◌^◌, ◌<◌, All, length, map};
-ghost use Rattle.std.specs.Iterator.{YieldsFirstBy, item_count};
+ghost use Rattle.std.specs.Iterator.{YieldsFirst, YieldsFirstBy, item_count};
 ghost use Rattle.std.specs.List.{enumerate_from};
 ghost use Rattle.asn1_blocks.specs.Tree.{trees_of};
+ghost use Rattle.asn1_outline.specs.InStrings.{later};
 ghost use Rattle.asn1_outline.specs.Iterated.{HasEntryIn, still_to_come};
 ghost use Rattle.asn1_outline.specs.Outlines.{entries_in, octets_in};
 ghost use Rattle.asn1_outline.specs.Structure.{IsStructure, Nodes, node_at, node_items, nodes_trees, tree_at};
@@ -66,6 +67,57 @@ impl<'a> Entries<'a> {
         ensures { result ≡ still_to_come all index rest.now }
     {
         Entries { rest, index, all }
+    }
+}
+
+/// The entries of an [`Inside`] in order, each with its offset from the start of the document around, as
+/// [`Inside::entries`] returns them.
+///
+/// [`Inside`]: crate::inside::Inside
+/// [`Inside::entries`]: crate::inside::Inside::entries
+#[derive(Debug, Drop)]
+pub struct EntriesInside<'a> {
+    // The next entry, and those after it.
+    rest: &'a [Entry],
+    // How much greater their offsets are.
+    start: usize,
+}
+
+impl<'a> Model for EntriesInside<'a> {
+    ghost use Rattle.std.specs.Prelude.{ℕ, ◌+◌, ◌^◌, ◌<◌, All, List, map};
+    ghost use Rattle.asn1_outline.specs.InStrings.{later};
+    ghost use Rattle.asn1_outline.specs.declared.entry.Entry.{Entry};
+
+    ghost Value = { List Entry };
+
+    ghost view = { λ it. map (later it.start) it.rest.now };
+
+    ghost invariant = { λ it. All (λ r. it.start + r.offset < 2 ^ 64) it.rest.now };
+}
+
+impl<'a> Iterator for EntriesInside<'a> {
+    type Item = Entry;
+
+    ghost next_gives = { YieldsFirst (λ rest. rest) };
+
+    ghost remaining = { item_count (λ rest. rest) };
+
+    fn next(&mut self) -> Option<Entry> {
+        let (entry, rest) = self.rest.split_first()?;
+        self.rest = rest;
+        Some(entry.later(self.start))
+    }
+}
+
+impl<'a> FusedIterator for EntriesInside<'a> {}
+
+impl<'a> EntriesInside<'a> {
+    // An iterator over these entries, each with an offset that is greater by so much.
+    pub(crate) fn over(rest: &'a [Entry], start: usize) -> EntriesInside<'a>
+        requires { All (λ r. start + r.offset < 2 ^ 64) rest.now }
+        ensures { result ≡ map (later start) rest.now }
+    {
+        EntriesInside { rest, start }
     }
 }
 

@@ -1,5 +1,7 @@
 -- For `canonical::is_canonical_universal`: what it returns is right, and the contents octets lie in the
 -- document.
+use Rattle.std.proofs.Common.{sym, ◌∙◌}
+use Rattle.asn1_blocks.proofs.Leaves.{is_group_tag-group}
 use Rattle.asn1_outline.proofs.CanonicalEntries.{HasCanonicalAt-group, HasCanonicalAt-leaf, HasHeaderAt-within}
 use Rattle.asn1_outline.proofs.canonical.is_canonical_universal.Goals as goal
 
@@ -7,7 +9,7 @@ pub returns-then-is_group_tag : goal.returns-then-is_group_tag
 returns-then-is_group_tag c constructed =
     let r = c.args.entry.now in
     HasCanonicalAt-group c.args.octets.now r c.requires.shortest
-    (c.is_group_tag.ensures c.if-is_group_tag.true) constructed
+    (is_group_tag-group r.tag (sym c.is_group_tag.ensures ∙ c.if-is_group_tag.true)) constructed
 
 pub returns : goal.returns
 returns c is_true =

@@ -5,7 +5,7 @@ use Rattle.asn1_blocks.specs.Tree.{trees_of}
 use Rattle.asn1_outline.specs.Iterated.{HasEntryIn, side_by_side}
 use Rattle.asn1_outline.specs.Structure.{tree_at}
 use Rattle.asn1_outline.specs.declared.entry.Entry.{Entry}
-use Rattle.asn1_outline.proofs.Inside.{outermost_trees}
+use Rattle.asn1_outline.proofs.IteratedTrees.{outermost_trees}
 use Rattle.asn1_outline.proofs.Iterating.{All-side_by_side}
 use Rattle.asn1_outline.proofs.outline.Outline.blocks.Goals as goal
 

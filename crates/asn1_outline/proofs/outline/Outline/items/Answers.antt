@@ -8,7 +8,7 @@ use Rattle.asn1_outline.specs.Entries.{no_entry}
 use Rattle.asn1_outline.specs.Iterated.{HasEntryIn, side_by_side}
 use Rattle.asn1_outline.specs.Structure.{node_items, nodes_trees, tree_at}
 use Rattle.asn1_outline.specs.declared.entry.Entry.{Entry}
-use Rattle.asn1_outline.proofs.Inside.{inside_trees}
+use Rattle.asn1_outline.proofs.IteratedTrees.{inside_trees}
 use Rattle.asn1_outline.proofs.Iterating.{All-side_by_side}
 use Rattle.asn1_outline.proofs.Lent.{get_or-looked_up, next-within, node_at-past}
 use Rattle.asn1_outline.proofs.outline.Outline.items.Goals as goal
