@@ -1,53 +1,19 @@
 // Whether the encodings that records spell are found to be canonical, by a quick look at each record.
-ghost use Rattle.std.specs.Prelude.{◌≡◌, IsTrue};
-ghost use Rattle.asn1_blocks.specs.Contents.{group_tag, is_known_tag};
-ghost use Rattle.asn1_blocks.specs.declared.block.GroupKind.{GroupKind};
+ghost use Rattle.std.specs.Prelude.{IsTrue};
 ghost use Rattle.simple_asn1.specs.Canonical.{shortest_encoding};
 ghost use Rattle.asn1_records.specs.Inner.InRecords.{AreWrittenOfLeaf, HoldsBlocks, IsCanonicalBlock};
 
+use asn1_blocks::contents::{is_group_tag, is_known};
 use asn1_headers::tags::{
     BIT_STRING, BMP_STRING, BOOLEAN, GENERALIZED_TIME, IA5_STRING, INTEGER, NULL,
-    OBJECT_IDENTIFIER, OCTET_STRING, PRINTABLE_STRING, SEQUENCE, SET, TELETEX_STRING,
-    UNIVERSAL_STRING, UTC_TIME, UTF8_STRING,
+    OBJECT_IDENTIFIER, OCTET_STRING, PRINTABLE_STRING, TELETEX_STRING, UNIVERSAL_STRING, UTC_TIME,
+    UTF8_STRING,
 };
 use asn1_leaves::contents::text::TextForm;
 use asn1_leaves::contents::{
     bit_string, boolean, generalized_time, integer, object_identifier, text, utc_time,
 };
 use simple_asn1::ASN1Class;
-
-// Whether contents octets of class Universal with this tag number have a rule.
-#[inline(always)]
-fn is_known(tag: u64) -> bool
-    ensures { result ≡ is_known_tag tag }
-{
-    matches!(
-        tag,
-        BOOLEAN..=OBJECT_IDENTIFIER
-            | UTF8_STRING
-            | SEQUENCE
-            | SET
-            | PRINTABLE_STRING
-            | TELETEX_STRING
-            | IA5_STRING
-            | UTC_TIME
-            | GENERALIZED_TIME
-            | UNIVERSAL_STRING
-            | BMP_STRING
-    )
-}
-
-// Whether the tag number is that of a SEQUENCE or SET.
-#[inline(always)]
-fn is_group_tag(tag: u64) -> bool
-    ensures { IsTrue result → (g : GroupKind) × (tag ≡ group_tag g) }
-{
-    match tag {
-        SEQUENCE => true,
-        SET => true,
-        _ => false,
-    }
-}
 
 // Whether contents octets with this tag number are found to be those that are written of a leaf.
 #[inline(always)]

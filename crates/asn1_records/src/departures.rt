@@ -1,13 +1,13 @@
 // The departures of octets from DER, each by the number of its rule.
-ghost use Rattle.std.specs.Prelude.{◌≡◌, ◌↔◌, [], IfErr, IfOk, map};
+ghost use Rattle.std.specs.Prelude.{◌≡◌, ◌↔◌, [], IfErr, IfOk};
 ghost use Rattle.asn1_der.specs.Departures.{AreDepartures};
 ghost use Rattle.asn1_der.specs.Der.{IsDer};
-ghost use Rattle.asn1_records.specs.Departures.{IsNoEncodings, departure_record, rule_number};
-ghost use Rattle.asn1_records.specs.Room.{ArePut, OrNoMemory};
+ghost use Rattle.asn1_records.specs.Departures.{IsNoEncodings, rule_number};
+ghost use Rattle.asn1_records.specs.Room.{OrNoMemory};
 
 use crate::document_entries::{Fault, fault_at};
-use crate::putting::{all_put, not_enough};
-use crate::record::{DepartureRecord, Outcome};
+use crate::putting::Recorded;
+use crate::record::DepartureRecord;
 use simple_asn1::{Departure, Rule, departures};
 use std::alloc::Global;
 
@@ -23,26 +23,18 @@ pub fn list_departures(alloc: Global, octets: &[u8]) -> Result<Vec<Departure>, F
     }
 }
 
-// Puts the records of the departures at the front.
-pub fn put_departures(found: &[Departure], room: &mut [DepartureRecord]) -> Outcome
-    ensures { ArePut (map departure_record found.now) room.old room.new result }
-{
-    let count = found.len();
-    if room.len() < count {
-        return not_enough(count);
-    }
-    for k in 0..count {
-        room[k] = departure_record(&found[k]);
-    }
-    all_put(count)
-}
+impl Recorded for Departure {
+    ghost use Rattle.asn1_records.specs.Departures.{departure_record};
 
-fn departure_record(departure: &Departure) -> DepartureRecord
-    ensures { result ≡ departure_record departure.now }
-{
-    DepartureRecord {
-        offset: departure.offset,
-        rule: rule_number(departure.rule),
+    type Record = DepartureRecord;
+
+    ghost recorded = { departure_record };
+
+    fn record(&self) -> DepartureRecord {
+        DepartureRecord {
+            offset: self.offset,
+            rule: rule_number(self.rule),
+        }
     }
 }
 

@@ -23,16 +23,38 @@ pub fn put_front<T: Copy>(values: &[T], room: &mut [T]) -> Outcome
     all_put(count)
 }
 
-// Puts the records of the entries at the front.
-pub fn put_records(entries: &[Entry], room: &mut [Block]) -> Outcome
-    ensures { ArePut (map block_of entries.now) room.old room.new result }
+// What has a record in C.
+pub trait Recorded {
+    type Record: Copy;
+
+    ghost recorded: { Self → Self.Record };
+
+    fn record(&self) -> Self::Record
+        ensures { result ≡ recorded self.now };
+}
+
+impl Recorded for Entry {
+    ghost use Rattle.asn1_records.specs.Records.{block_of};
+
+    type Record = Block;
+
+    ghost recorded = { block_of };
+
+    fn record(&self) -> Block {
+        block_of(self)
+    }
+}
+
+// Puts the records of these at the front.
+pub fn put_records<T: Recorded>(values: &[T], room: &mut [T::Record]) -> Outcome
+    ensures { ArePut (map T.recorded values.now) room.old room.new result }
 {
-    let count = entries.len();
+    let count = values.len();
     if room.len() < count {
         return not_enough(count);
     }
     for k in 0..count {
-        room[k] = block_of(&entries[k]);
+        room[k] = values[k].record();
     }
     all_put(count)
 }

@@ -65,23 +65,13 @@ pub fn put_raw_identifier(alloc: Global, components: &[u64], room: &mut [u8]) ->
     }
 }
 
-fn same_form(form: &TextForm) -> TextForm
-    ensures { result ≡ form.now }
-{
-    match form {
-        TextForm::Utf8 => TextForm::Utf8,
-        TextForm::Printable => TextForm::Printable,
-        TextForm::Octets => TextForm::Octets,
-    }
-}
-
 // Puts those of a string with text in this form.
 fn put_formed(alloc: Global, form: TextForm, text: &str, room: &mut [u8]) -> Outcome
     ensures { ArePutIf (text_write_fault form (chars text.now) ≡ None) (text_contents form (chars text.now))
         out_of_range room.old room.new result
         ⊎ IsNotPut no_memory room.old room.new result }
 {
-    let Ok(size) = text::size(same_form(&form), text) else {
+    let Ok(size) = text::size(form, text) else {
         return nothing_put(OUT_OF_RANGE, 0);
     };
     let Ok(mut contents) = Vec::with_capacity(alloc, size) else {

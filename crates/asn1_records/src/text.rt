@@ -15,9 +15,9 @@ use asn1_leaves::contents::text::TextForm;
 use std::alloc::Global;
 
 // Whether contents octets are found to be the text that they mean, in UTF-8.
-fn are_own_text(form: &TextForm, contents: &[u8]) -> bool
+fn are_own_text(form: TextForm, contents: &[u8]) -> bool
     ensures utf8 { IsTrue result → IsUtf8 contents.now }
-    ensures meant { IsTrue result → TextContents form.now (chars contents.now) contents.now }
+    ensures meant { IsTrue result → TextContents form (chars contents.now) contents.now }
 {
     match form {
         TextForm::Utf8 => str::from_utf8(contents).is_ok(),
@@ -37,7 +37,7 @@ pub fn text_at(alloc: Global, octets: &[u8], offset: usize, room: &mut [u8]) -> 
     let Some(form) = form_of(tag) else {
         return nothing_put(NO_SUCH_VALUE, offset);
     };
-    if are_own_text(&form, contents) {
+    if are_own_text(form, contents) {
         return put_front(contents, room);
     }
     match text::read(alloc, form, contents) {

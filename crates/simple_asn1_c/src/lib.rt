@@ -18,7 +18,7 @@ ghost use Rattle.asn1_records.specs.Values.{AnswersBits, AnswersIdentifier, Answ
 
 use asn1_records::bits::{bits_at, put_bits, put_boolean};
 use asn1_records::components::{component_at, put_components, put_dotted, put_shortest};
-use asn1_records::departures::{list_departures, put_departures};
+use asn1_records::departures::list_departures;
 use asn1_records::document_entries::{
     canonical_octets, check, find_headers, find_records, find_records_strict,
 };
@@ -29,7 +29,7 @@ use asn1_records::integer::{integer_at, put_integer};
 use asn1_records::moment::{moment_at, put_moment};
 use asn1_records::paths::find_values;
 use asn1_records::put_encodings::{put_encoding, put_spelled};
-use asn1_records::putting::{all_put, not_enough, nothing_put, put_found, put_front};
+use asn1_records::putting::{all_put, not_enough, nothing_put, put_found, put_front, put_records};
 use asn1_records::raw::{put_raw_bits, put_raw_identifier, put_raw_moment, put_raw_text};
 use asn1_records::record::{
     BitStringAnswer, Block, DepartureRecord, IntegerAnswer, MomentAnswer, Outcome, Path,
@@ -157,7 +157,7 @@ pub extern "C" fn simple_asn1_departures(
     ensures none { result.status ≡ done → (result.count ≡ 0) ↔ IsDer octets.now }
 {
     match list_departures(alloc, octets) {
-        Ok(found) => put_departures(&found, records),
+        Ok(found) => put_records(found.as_slice(), records),
         Err(fault) => nothing_put(fault.status, fault.offset),
     }
 }

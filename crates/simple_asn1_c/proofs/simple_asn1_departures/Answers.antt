@@ -9,13 +9,13 @@ use Rattle.simple_asn1_c.proofs.simple_asn1_departures.Goals as goal
 pub returns-in-Ok-clause-answer : goal.returns-in-Ok-clause-answer
 returns-in-Ok-clause-answer c =
     let listed = c.in-Ok.ensures in
-    was_found (map departure_record c.deref.result.now)
-    (c.in-Ok.found.items, listed.listed, listed.none, ap (map departure_record) c.deref.ensures.value)
-    c.put_departures.ensures
+    was_found (map departure_record c.as_slice.result.now)
+    (c.in-Ok.found.items, listed.listed, listed.none, ap (map departure_record) c.as_slice.ensures.value)
+    c.put_records.ensures
 
 pub returns-in-Ok-clause-none : goal.returns-in-Ok-clause-none
 returns-in-Ok-clause-none c =
-    count-none_iff_der c.args.octets.now c.args.records.now c.put_departures.new.room c.put_departures.result
+    count-none_iff_der c.args.octets.now c.args.records.now c.put_records.new.room c.put_records.result
     (returns-in-Ok-clause-answer c)
 
 pub returns-in-Err-clause-answer : goal.returns-in-Err-clause-answer

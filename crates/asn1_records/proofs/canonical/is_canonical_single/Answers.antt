@@ -2,7 +2,7 @@
 use Rattle.std.proofs.Common.{◌<◌, ◌^◌, length, ap, sym, ◌∙◌, arith}
 use Rattle.std.specs.Prelude.{not}
 use Rattle.std.proofs.lemmas.Grind.{common_steps}
-use Rattle.asn1_blocks.proofs.Leaves.{IsUnknownTag-iff_not_known}
+use Rattle.asn1_blocks.proofs.Leaves.{IsUnknownTag-iff_not_known, is_group_tag-group}
 use Rattle.asn1_records.proofs.CanonicalRecords.{IsCanonicalBlock-empty_group, nil-no_length, IsCanonicalBlock-primitive, IsCanonicalBlock-unknown_tag, IsCanonicalBlock-universal_leaf}
 use Rattle.asn1_records.proofs.canonical.is_canonical_single.Goals as goal
 
@@ -16,7 +16,7 @@ returns-then-not-is_known c is_true =
 
 pub returns-then-is_group_tag : goal.returns-then-is_group_tag
 returns-then-is_group_tag c is_true =
-    let (g, is) = c.is_group_tag.ensures c.if-is_group_tag.true in
+    let (g, is) = is_group_tag-group c.args.tag (sym c.is_group_tag.ensures ∙ c.if-is_group_tag.true) in
     IsCanonicalBlock-empty_group c.args.class c.args.constructed c.args.tag c.args.contents.now c.in-Universal.is
     c.if-constructed.true g is (nil-no_length c.args.contents.now (sym c.is_empty.ensures ∙ is_true))
 
