@@ -11,7 +11,7 @@ pub fn fault_in_text(text: &[u8]) -> FormFault {
     let in_columns = is_in_columns(text);
     let is_source = contains(b"= {", text) || contains(b"= \"", text);
     let is_read = |line: &[u8]| {
-        has_digits_alone(digits_part(in_columns, line))
+        Symbols(digits_part(in_columns, line)).all(|symbol| symbol.is_ascii_hexdigit())
             || has_symbols_alone(line)
             || (is_source && may_be_in_source(line))
     };
@@ -20,11 +20,6 @@ pub fn fault_in_text(text: &[u8]) -> FormFault {
         Some(line) if leaves_out(line) => FormFault::LeftOut(lines.count),
         _ => FormFault::Text(lines.count),
     }
-}
-
-// Whether hex digits, and what may stand between them, are all of the line.
-fn has_digits_alone(line: &[u8]) -> bool {
-    Symbols(line).all(|symbol| symbol.is_ascii_hexdigit())
 }
 
 // Whether symbols of base64 or base64url, and white space, are all of the line.

@@ -160,14 +160,14 @@ impl Dumper<'_> {
             // where it has no name, that of its type, if that of its tag does not say as much
             field: named.and_then(|named| named.field.or((!named.is_of_tag).then_some(named.of))),
             type_name: &texts.type_name,
-            value: self.value_of(piece, named, texts),
+            value: self.row_value(piece, named, texts),
             fault: fault_of(piece),
             rules,
         }
     }
 
     // What a piece with these names holds.
-    fn value_of<'a>(
+    fn row_value<'a>(
         &'a self,
         piece: &'a Piece<'_>,
         named: Option<Named>,
@@ -187,18 +187,15 @@ impl Dumper<'_> {
                 Some(nested) if nested.is_guess => Inside::Guess,
                 Some(_) => Inside::Encodings,
             },
-            identifier: self.identifier_of(piece),
+            identifier: piece
+                .value()
+                .and_then(|value| value.identifier())
+                .and_then(|identifier| self.names.of(identifier.dotted.as_deref()?)),
             meaning: texts
                 .bits
                 .as_deref()
                 .or(named.and_then(|named| named.value)),
         }
-    }
-
-    // The name of the object identifier that a piece is, if it has one, and the standard that has it.
-    fn identifier_of<'a>(&'a self, piece: &'a Piece<'_>) -> Option<(&'a str, &'a str)> {
-        self.names
-            .of(piece.value()?.identifier()?.dotted.as_deref()?)
     }
 }
 

@@ -30,11 +30,7 @@ pub fn value_text(alloc: Global, piece: &Piece<'_>) -> Result<String, AllocError
     let mut text = String::new(alloc);
     let is_full = piece.place.style.is_full;
     match (piece.value(), &piece.kind) {
-        (Some(value), _) => {
-            let contents = piece.contents();
-            let is_opened = piece.nested.is_some();
-            write_value(alloc, &mut text, contents, value, is_opened, is_full)?;
-        }
+        (Some(value), _) => write_value(alloc, &mut text, piece, value)?,
         (None, PieceKind::Cut(header, _)) if holds_encodings(header) => {}
         (None, PieceKind::Cut(_, octets) | PieceKind::Unreadable(octets))
         | (None, PieceKind::Leaf(_, octets, _)) => write_hex(&mut text, octets, is_full)?,
@@ -46,11 +42,11 @@ pub fn value_text(alloc: Global, piece: &Piece<'_>) -> Result<String, AllocError
 fn write_value(
     alloc: Global,
     out: &mut String,
-    contents: &[u8],
+    piece: &Piece<'_>,
     value: &LeafValue,
-    is_opened: bool,
-    is_full: bool,
 ) -> Result<(), AllocError> {
+    let is_full = piece.place.style.is_full;
+    let is_opened = piece.nested.is_some();
     match value {
         LeafValue::Boolean(is_true) => write!(out, "{is_true}"),
         LeafValue::Integer(number) => write_integer(out, number, is_full),
@@ -59,7 +55,7 @@ fn write_value(
         LeafValue::Octets(text)
         | LeafValue::Other(text)
         | LeafValue::NoText(text)
-        | LeafValue::Tagged(text) => write_octets(out, contents, text, is_full),
+        | LeafValue::Tagged(text) => write_octets(out, piece.contents(), text, is_full),
         LeafValue::Null => Ok(()),
         LeafValue::Identifier(identifier) => match &identifier.dotted {
             Some(dotted) => write_components(out, dotted, is_full),

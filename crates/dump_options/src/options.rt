@@ -4,7 +4,7 @@ use crate::command::command;
 use crate::options_fault::OptionsFault;
 use clap::ArgMatches;
 use clap::parser::ValueSource;
-use std::alloc::{AllocError, Global};
+use std::alloc::Global;
 use std::convert::AsStr;
 
 // Arguments, each with those that do not go with it: one at most says what is written in place of lines.
@@ -127,12 +127,15 @@ pub fn options_of<'a, S: AsStr>(
     let matches = command(alloc)?.try_get_matches_from(arguments)?;
     refuse_exclusions(&matches)?;
     Ok(Options {
-        inputs: inputs_of(alloc, &matches)?,
+        inputs: Vec::from_slice(alloc, matches.get_strs("FILE").unwrap_or(&["-"]))?,
         task: task_of(&matches)?,
         is_strict: matches.get_flag("strict"),
         is_full: matches.get_flag("full"),
         is_flat: matches.get_flag("flat"),
-        output: output_of(&matches),
+        output: OUTPUTS
+            .iter()
+            .find(|(name, _)| matches.get_flag(name))
+            .map_or(Output::Lines, |(_, output)| *output),
         most_depth: number_of(&matches, "depth")?,
         oids: matches.get_str("oids"),
         is_plain: matches.get_flag("plain"),
@@ -154,22 +157,6 @@ fn refuse_exclusions<'a>(matches: &ArgMatches<'_>) -> Result<(), OptionsFault<'a
         }
     }
     Ok(())
-}
-
-// As what documents are written.
-fn output_of(matches: &ArgMatches<'_>) -> Output {
-    let given = OUTPUTS.iter().find(|(name, _)| matches.get_flag(name));
-    given.map_or(Output::Lines, |(_, output)| *output)
-}
-
-// The names of the inputs.
-fn inputs_of<'a>(alloc: Global, matches: &ArgMatches<'a>) -> Result<Vec<&'a str>, AllocError> {
-    let mut inputs = Vec::new(alloc);
-    match matches.get_strs("FILE") {
-        Some(names) => inputs.extend_from_slice(names)?,
-        None => inputs.push("-")?,
-    }
-    Ok(inputs)
 }
 
 // What is done with each input.

@@ -9,8 +9,6 @@ pub struct Form {
     pub types: &'static [&'static str],
     pub title: &'static str,
     pub rows: &'static [Row],
-    // the labels of rows that a document may have nothing for
-    pub optional: &'static [&'static str],
     // of what is signed, where the values of its extensions stand; a digest of it is shown
     pub signed: Option<&'static str>,
 }
@@ -89,6 +87,9 @@ pub fn begins_with(path: &str, names: &[&str]) -> bool {
     front.eq(names.iter().copied())
 }
 
+// The labels of rows that a document may have nothing for.
+pub const OPTIONAL: &[&str] = &["next update"];
+
 // How accounts show documents of the type with this name.
 pub fn form_of(type_name: &str) -> Option<&'static Form> {
     FORMS.iter().find(|form| form.types.contains(&type_name))
@@ -108,7 +109,6 @@ const FORMS: &[Form] = &[
             ("tbsCertificate.subjectPublicKeyInfo", "public key", KEY),
             SIGNATURE,
         ],
-        optional: &[],
         signed: Some("tbsCertificate.extensions.Extensions.Extension.extnValue"),
     },
     // RFC 2986, 4
@@ -120,7 +120,6 @@ const FORMS: &[Form] = &[
             ("certificationRequestInfo.subjectPKInfo", "public key", KEY),
             SIGNATURE,
         ],
-        optional: &[],
         signed: Some(
             "certificationRequestInfo.attributes.Attribute.values.Extensions.Extension.extnValue",
         ),
@@ -136,7 +135,6 @@ const FORMS: &[Form] = &[
             ("tbsCertList.revokedCertificates", "revoked", REVOKED),
             SIGNATURE,
         ],
-        optional: &["next update"],
         signed: Some("tbsCertList.crlExtensions.Extensions.Extension.extnValue"),
     },
     // RFC 5280, 4.1
@@ -144,7 +142,6 @@ const FORMS: &[Form] = &[
         types: &["SubjectPublicKeyInfo"],
         title: "public key",
         rows: &[("", "key", KEY)],
-        optional: &[],
         signed: None,
     },
     // RFC 5208, 5, and RFC 5958, 2
@@ -152,7 +149,6 @@ const FORMS: &[Form] = &[
         types: &["PrivateKeyInfo", "OneAsymmetricKey"],
         title: "private key",
         rows: &[("", "key", PRIVATE_KEY)],
-        optional: &[],
         signed: None,
     },
     // RFC 5958, 3
@@ -160,7 +156,6 @@ const FORMS: &[Form] = &[
         types: &["EncryptedPrivateKeyInfo"],
         title: "encrypted private key",
         rows: &[("encryptionAlgorithm", "encryption", ALGORITHM)],
-        optional: &[],
         signed: None,
     },
     // RFC 5915, 3, and RFC 8017, appendix A.1.2
@@ -168,7 +163,6 @@ const FORMS: &[Form] = &[
         types: &["ECPrivateKey", "RSAPrivateKey"],
         title: "private key",
         rows: &[("", "key", TRADITIONAL_KEY)],
-        optional: &[],
         signed: None,
     },
 ];

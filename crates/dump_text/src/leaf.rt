@@ -1,7 +1,7 @@
 // What single pieces say, in a few words.
 use crate::forms::Part;
 use crate::open_line::AUTHORITY;
-use asn1_headers::tags;
+use asn1_headers::tags::PRINTABLE_STRING;
 use dump_names::Names;
 use dump_values::Time;
 use dump_values::tag::universal_tag;
@@ -9,8 +9,6 @@ use dump_values::value::LeafValue;
 use dump_walk::piece::{Piece, PieceKind};
 use jiff::civil::DateTime;
 use std::alloc::{AllocError, Global};
-
-const PRINTABLE_STRING: u8 = tags::PRINTABLE_STRING as u8;
 
 const SECONDS_OF_DAY: i64 = 86_400;
 
@@ -78,8 +76,10 @@ pub fn characters_of<'p>(piece: &'p Piece<'_>) -> Option<&'p str> {
             _,
             Some(LeafValue::Text(text) | LeafValue::WideText(_, text) | LeafValue::OtherText(text)),
         ) => Some(text),
-        (PieceKind::Leaf(header, _, None), _) if universal_tag(header) == Some(PRINTABLE_STRING) =>
-            { piece.fault.as_ref()?.text.as_deref() }
+        (PieceKind::Leaf(header, _, None), _)
+            if universal_tag(header).map(u64::from) == Some(PRINTABLE_STRING) => {
+            piece.fault.as_ref()?.text.as_deref()
+        }
         _ => None,
     }
 }

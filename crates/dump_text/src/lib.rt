@@ -68,7 +68,11 @@ pub fn account_of(
 ) -> Result<Option<Account>, AllocError>
     ensures { IfOk result (λ found. IfSome found (λ account. AreLines (string_bytes account.text))) }
 {
-    let Some(shape) = type_of(alloc, names, known, octets)? else {
+    let shape = match known {
+        Some(shape) => Some(shape),
+        None => fitting(alloc, &names.shapes, octets)?,
+    };
+    let Some(shape) = shape else {
         return Ok(None);
     };
     let Some(form) = names.shapes.name_of(shape).and_then(|name| form_of(name)) else {
@@ -78,17 +82,4 @@ pub fn account_of(
     let mut reader = Reader::new(alloc, names, form, now);
     read_pieces(&mut reader, octets, place)?;
     reader.finish(octets)
-}
-
-// The shape of a document: the one that is known, or else the one that fits.
-fn type_of(
-    alloc: Global,
-    names: &Names,
-    known: Option<usize>,
-    octets: &[u8],
-) -> Result<Option<usize>, AllocError> {
-    match known {
-        Some(shape) => Ok(Some(shape)),
-        None => fitting(alloc, &names.shapes, octets),
-    }
 }

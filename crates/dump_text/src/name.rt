@@ -105,17 +105,11 @@ fn push_escaped(characters: &str, text: &mut String) -> Result<(), AllocError> {
         }
         if is_shown(c) {
             text.push(c)?;
-        } else {
-            push_hidden(c, text)?;
+            continue;
         }
-    }
-    Ok(())
-}
-
-fn push_hidden(c: char, text: &mut String) -> Result<(), AllocError> {
-    let mut room = [0; 4];
-    for octet in c.encode_utf8(&mut room).as_bytes() {
-        write!(text, "\\{octet:02X}")?;
+        for octet in c.encode_utf8(&mut [0; 4]).as_bytes() {
+            write!(text, "\\{octet:02X}")?;
+        }
     }
     Ok(())
 }

@@ -89,11 +89,7 @@ impl OpenLine {
     // Pushes an item, behind a comma if it is not the first.
     fn push_item(&mut self, text: &str) -> Result<(), AllocError> {
         self.push_name()?;
-        if self
-            .text
-            .as_ref()
-            .is_some_and(|shown: &String| !shown.is_empty())
-        {
+        if !matches!(self.text.as_deref(), None | Some("")) {
             self.push(", ")?;
         }
         self.push(text)
@@ -116,12 +112,8 @@ impl OpenLine {
 
     // How many others may stand below an authority, where the number is not too large to be meant.
     fn push_path_length(&mut self, most: &BigInt) -> Result<(), AllocError> {
-        let is_authority = self
-            .text
-            .as_ref()
-            .is_some_and(|shown: &String| shown.as_str() == AUTHORITY);
         match most.to_i128() {
-            Some(most) if is_authority => {
+            Some(most) if self.text.as_deref() == Some(AUTHORITY) => {
                 self.push(&format!(in self.alloc; ", with {most} below it at most")?)
             }
             _ => Ok(()),

@@ -3,7 +3,7 @@ ghost use Rattle.std.specs.Prelude.{◌<◌, IfOk, IfSome, string_bytes};
 ghost use Rattle.dump_text.specs.Shown.{AreLines};
 
 use crate::Account;
-use crate::forms::{Form, Part, Row, begins_with, is_path};
+use crate::forms::{Form, OPTIONAL, Part, Row, begins_with, is_path};
 use crate::lines::{Line, joined};
 use crate::open_line::OpenLine;
 use dump_names::Names;
@@ -207,7 +207,7 @@ impl<'a> Reader<'a> {
         for (place, (_, label, parts)) in self.form.rows.iter().enumerate() {
             let is_there = self.lines.iter().any(|line: &Line| line.label == *label);
             match parts {
-                _ if is_there || self.form.optional.contains(label) => {}
+                _ if is_there || OPTIONAL.contains(label) => {}
                 [(_, Part::Count), ..] => {
                     self.push(place, label, String::from_str(self.alloc, "0")?)?;
                 }

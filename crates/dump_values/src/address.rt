@@ -15,16 +15,14 @@ impl Address {
     /// The address of octets: of four octets IPv4, of sixteen IPv6, of twice as many an address and its mask. `None` of
     /// another number of octets.
     pub fn of(octets: &[u8]) -> Option<Address> {
-        if octets.len() == 8 || octets.len() == 32 {
-            let (address, mask) = octets.split_at(octets.len() / 2);
-            return Some(Address {
-                address: one_address(address)?,
-                mask: Some(one_address(mask)?),
-            });
-        }
+        let size = match octets.len() {
+            8 | 32 => octets.len() / 2,
+            size => size,
+        };
+        let (address, mask) = octets.split_at(size);
         Some(Address {
-            address: one_address(octets)?,
-            mask: None,
+            address: one_address(address)?,
+            mask: one_address(mask),
         })
     }
 

@@ -56,15 +56,12 @@ pub fn leaf_fault(
     let mut message = String::new(alloc);
     write_message(&mut message, universal, contents, error)?;
     write!(message, " ({name})")?;
-    let text = match text_beside(universal, contents) {
-        Some(text) => Some(String::from_str(alloc, text)?),
-        None => None,
-    };
+    let text = text_beside(universal, contents).map(|text| String::from_str(alloc, text));
     Ok(Fault {
         offset,
         code: Some(name),
         message,
-        text,
+        text: text.transpose()?,
     })
 }
 

@@ -29,54 +29,49 @@ pub fn write_hex(out: &mut String, octets: &[u8], is_full: bool) -> Result<(), A
     Ok(())
 }
 
-// Puts the text at the end in quotation marks, all of it or as many characters as are written at most.
+// Puts the text at the end in quotation marks, with what is no printed character escaped: all of it, or as many
+// characters as are written at most.
 pub fn write_text(out: &mut String, text: &str, is_full: bool) -> Result<(), AllocError> {
-    match front_of(text, text.char_indices().nth(MOST_CHARACTERS)) {
-        Some(front) if !is_full => {
-            write_quoted(out, front)?;
-            write_characters(out, text)
-        }
-        _ => write_quoted(out, text),
-    }
+    let front = front_of(text, is_full);
+    out.push_str("\"")?;
+    push_escaped(front, out)?;
+    out.push_str("\"")?;
+    write_rest(out, text, front)
 }
 
 // Puts a value that needs no quotation marks at the end, all of it or as many characters as are written at most.
 pub fn write_notation(out: &mut String, text: &str, is_full: bool) -> Result<(), AllocError> {
-    match front_of(text, text.char_indices().nth(MOST_CHARACTERS)) {
-        Some(front) if !is_full => {
-            out.push_str(front)?;
-            write_characters(out, text)
-        }
-        _ => out.push_str(text),
+    let front = front_of(text, is_full);
+    out.push_str(front)?;
+    write_rest(out, text, front)
+}
+
+// As many characters of a text as are written: all of them, or the first ones.
+fn front_of(text: &str, is_full: bool) -> &str {
+    match text.char_indices().nth(MOST_CHARACTERS) {
+        Some((end, _)) if !is_full => text.get(..end).unwrap_or(text),
+        _ => text,
     }
 }
 
-// Puts how many characters there are behind the first ones of a text.
-fn write_characters(out: &mut String, text: &str) -> Result<(), AllocError> {
+// Puts how many characters a text has, where its front alone was written.
+fn write_rest(out: &mut String, text: &str, front: &str) -> Result<(), AllocError> {
+    if front.len() == text.len() {
+        return Ok(());
+    }
     write!(out, ".. ({} characters)", text.chars().count())
 }
 
 // Puts the components of an object identifier at the end, all of them or as many as are written at most.
 pub fn write_components(out: &mut String, dotted: &str, is_full: bool) -> Result<(), AllocError> {
-    match front_of(dotted, dotted.match_indices('.').nth(MOST_COMPONENTS - 1)) {
-        Some(front) if !is_full => {
-            out.push_str(front)?;
-            write!(out, ".. ({} components)", dotted.matches('.').count() + 1)
+    match dotted.match_indices('.').nth(MOST_COMPONENTS - 1) {
+        Some((end, _)) if !is_full => {
+            let front = dotted.get(..end).unwrap_or(dotted);
+            let count = dotted.matches('.').count() + 1;
+            write!(out, "{front}.. ({count} components)")
         }
         _ => out.push_str(dotted),
     }
-}
-
-// What stands in a text before a place, if there is one.
-fn front_of<T: Drop>(text: &str, place: Option<(usize, T)>) -> Option<&str> {
-    text.get(..place?.0)
-}
-
-// Puts the text at the end in quotation marks, with what is no printed character escaped.
-fn write_quoted(out: &mut String, text: &str) -> Result<(), AllocError> {
-    out.push_str("\"")?;
-    push_escaped(text, out)?;
-    out.push_str("\"")
 }
 
 // The octets as text, where they are printed characters of ASCII, or spaces.

@@ -79,10 +79,7 @@ fn real_text(alloc: Global, contents: &[u8]) -> Result<Option<String>, AllocErro
         [form @ 0x80..=0xFF, octets @ ..] => return binary_text(alloc, *form, octets),
         _ => None,
     };
-    match text {
-        Some(text) => Ok(Some(String::from_str(alloc, text)?)),
-        None => Ok(None),
-    }
+    text.map(|text| String::from_str(alloc, text)).transpose()
 }
 
 fn binary_text(alloc: Global, form: u8, octets: &[u8]) -> Result<Option<String>, AllocError> {
@@ -125,17 +122,12 @@ fn binary_number(form: u8, octets: &[u8]) -> Option<(u128, i64)> {
 fn relative_text(alloc: Global, contents: &[u8]) -> Result<Option<String>, AllocError> {
     let mut whole = Vec::from_slice(alloc, &[0])?;
     whole.extend_from_slice(contents)?;
-    let dotted = match if_right(identifier_of(alloc, &whole))? {
-        Some(identifier) => identifier.dotted,
-        None => None,
-    };
-    match dotted
+    let read = if_right(identifier_of(alloc, &whole))?;
+    let dotted = read.and_then(|identifier| identifier.dotted);
+    let text = dotted
         .as_deref()
-        .and_then(|dotted| dotted.strip_prefix("0.0"))
-    {
-        Some(text) => Ok(Some(String::from_str(alloc, text)?)),
-        None => Ok(None),
-    }
+        .and_then(|dotted| dotted.strip_prefix("0.0"));
+    text.map(|text| String::from_str(alloc, text)).transpose()
 }
 
 // The characters of a time with what its encoding leaves out.
