@@ -133,7 +133,7 @@ REFUSED = [
     ((21, "blocks"), []), ((21, "blocks"), {}), ((21, "blocks", 0, "value"), ""), ((21, "blocks", 0, "type"), MISSING),
     ((21, "constructed"), True), ((21, "fault"), {"offset": 0, "text": ""}), ((22, "blocks"), [{}]),
     ((22, "name"), ""), ((22, "name"), 1), ((2, "name"), "five"), ((7, "shown"), "A"), ((2, "shown"), ""),
-    ((2, "field"), "version"), ((2, "of"), ""), ((2, "of"), 1), ((12, "name"), "five"),
+    ((2, "field"), "version"), ((2, "path"), "version"), ((2, "of"), ""), ((2, "of"), 1), ((12, "name"), "five"),
     ((23, "value"), 0), ((23, "value"), ""), ((24, "value"), 1985), ((24, "type"), None), ((24, "type"), "TIME"),
     ((25, "value"), "1"),
 ]

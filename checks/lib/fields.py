@@ -1,5 +1,8 @@
 """Whether each block of each certificate has a name in JSON, and those of a Certificate the names of RFC 5280, 4.1.
 
+Of each block the path is looked at as well, down to the values of extensions: PARTS has the types of RFC 5280 and, of
+keys, of RFC 8017, A.1.1.
+
     checks/run fields [-- FOLDER]    of the certificates of this folder, /etc/ssl/certs unless given
 """
 import json
@@ -15,6 +18,26 @@ TAGGED = {0: ("version", "Version"), 1: ("issuerUniqueID", "UniqueIdentifier"),
 PLAIN = [("serialNumber", "CertificateSerialNumber"), ("signature", "AlgorithmIdentifier"), ("issuer", "Name"),
          ("validity", "Validity"), ("subject", "Name"), ("subjectPublicKeyInfo", "SubjectPublicKeyInfo")]
 OUTER = [("tbsCertificate", "TBSCertificate"), ("signatureAlgorithm", "AlgorithmIdentifier"), ("signatureValue", None)]
+
+# the fields of a SEQUENCE, each with its tag, a number of class Universal or in brackets, and its type; what a SEQUENCE
+# OF or SET OF has; what stands in an explicit tag or in octets of a string
+ANY = object()
+PARTS = {
+    "Certificate": [("tbsCertificate", 16, "TBSCertificate"), ("signatureAlgorithm", 16, "AlgorithmIdentifier"),
+                    ("signatureValue", 3, "")],
+    "TBSCertificate": [("version", [0], {"alone": ""}), ("serialNumber", 2, ""),
+                       ("signature", 16, "AlgorithmIdentifier"), ("issuer", 16, "Name"), ("validity", 16, "Validity"),
+                       ("subject", 16, "Name"), ("subjectPublicKeyInfo", 16, "SubjectPublicKeyInfo"),
+                       ("issuerUniqueID", [1], ""), ("subjectUniqueID", [2], ""),
+                       ("extensions", [3], {"alone": {"each": "Extension"}})],
+    "AlgorithmIdentifier": [("algorithm", 6, ""), ("parameters", ANY, None)],
+    "Name": {"each": {"each": "AttributeTypeAndValue"}},
+    "AttributeTypeAndValue": [("type", 6, ""), ("value", ANY, None)],
+    "Validity": [("notBefore", ANY, ""), ("notAfter", ANY, "")],
+    "SubjectPublicKeyInfo": [("algorithm", 16, "AlgorithmIdentifier"), ("subjectPublicKey", 3, {"alone": "Key"})],
+    "Key": [("modulus", 2, ""), ("publicExponent", 2, "")],
+    "Extension": [("extnID", 6, ""), ("critical", 1, ""), ("extnValue", 4, {"alone": None})],
+}
 
 
 def names(block):
@@ -45,17 +68,61 @@ def wrong(blocks):
                 yield block["offset"], f"{names(block)} is not {want}"
 
 
+def part_of(parts, block):
+    """The fields from that on which the block is."""
+    tag = block["tag"] if block["class"] == "universal" else [block["tag"]]
+    return next((parts[at:] for at, (_, wanted, _) in enumerate(parts) if wanted is ANY or wanted == tag), [])
+
+
+def trees(blocks):
+    """The blocks that no other is around, each with those inside it, in the same way."""
+    found = []
+    for block in blocks:
+        around = found
+        for _ in range(block["depth"] - blocks[0]["depth"]):
+            around = around[-1][1]
+        around.append((block, trees(block["blocks"]) if "blocks" in block else []))
+    return found
+
+
+def paths(tree, path, kind):
+    """The blocks of a tree of this type with their paths, down to what is of no type that is looked at."""
+    block, inside = tree
+    yield block, path
+    kind = PARTS.get(kind, kind) if isinstance(kind, str) else kind
+    if isinstance(kind, list):
+        left = kind
+        for it in inside:
+            (name, _, of), *left = part_of(left, it[0])
+            yield from paths(it, f"{path}.{name}".lstrip("."), of)
+    elif kind and "each" in kind:
+        for at, it in enumerate(inside):
+            yield from paths(it, f"{path}[{at}]", kind["each"])
+    elif kind:
+        for it in inside:
+            yield from paths(it, path, kind["alone"])
+
+
+def wrong_paths(blocks):
+    """What is wrong with the paths of a certificate: offsets and words; and how many were looked at."""
+    found = list(paths(trees(blocks)[0], "", "Certificate"))
+    return len(found), [(block["offset"], f"{block.get('path')} is not {path}")
+                        for block, path in found if block.get("path", "") != path]
+
+
 def main(words):
     program, found = builds.program("der_dump"), certificates(*words)
-    blocks, bad = 0, 0
+    blocks, looked_at, bad = 0, 0, 0
     for number, octets in enumerate(found):
         ran = subprocess.run([program, "--json"], input=octets, capture_output=True, check=True)
         document = json.loads(ran.stdout)["blocks"]
         blocks += sum(1 for _ in all_blocks(document))
-        for offset, what in wrong(document):
+        count, strayed = wrong_paths(document)
+        looked_at += count
+        for offset, what in [*wrong(document), *strayed]:
             bad += 1
             print(f"fields: certificate {number}, offset {offset}: {what}")
-    print(f"fields: {len(found)} certificates, {blocks} blocks, {bad} wrong")
+    print(f"fields: {len(found)} certificates, {blocks} blocks, {looked_at} paths, {bad} wrong")
     return 1 if bad or not found else 0
 
 

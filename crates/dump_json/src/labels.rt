@@ -20,13 +20,13 @@ pub fn name_of<'a>(
     if let Some(text) = piece.bits_text(alloc, &names.shapes)? {
         return Ok(Some(Value::Made(text)));
     }
-    let name = match piece.value().and_then(|value| value.identifier()) {
-        Some(identifier) => identifier
-            .dotted
-            .as_deref()
-            .and_then(|dotted| names.of(dotted))
-            .map(|(name, _)| name),
-        None => named.and_then(|named| named.alternative.or(named.value)),
+    let name = match piece.value() {
+        Some(LeafValue::Identifier(identifier)) => {
+            let dotted = identifier.dotted.as_deref();
+            let found = dotted.and_then(|dotted| names.of(dotted));
+            found.map(|(name, _)| name)
+        }
+        _ => named.and_then(|named| named.alternative.or(named.value)),
     };
     Ok(name.map(Value::Text))
 }
@@ -35,10 +35,8 @@ pub fn name_of<'a>(
 pub fn shown_of<'a>(alloc: Global, piece: &'a Piece<'_>) -> Result<Option<Value<'a>>, AllocError> {
     match &piece.kind {
         PieceKind::Cut(header, contents) => {
-            let there = contents.len();
-            let announced = header.announced;
-            let text = format!(in alloc; "truncated: {there} of {announced} bytes")?;
-            Ok(Some(Value::Made(text)))
+            let (there, announced) = (contents.len(), header.announced);
+            Ok(Some(Value::Made(format!(in alloc; "truncated: {there} of {announced} bytes")?)))
         }
         PieceKind::Leaf(header, contents, Some(value)) if is_universal(header) => {
             Ok(shown_value(contents, value))

@@ -49,10 +49,9 @@ fn identifier_value<'a>(
     if contents.len() > MOST_DECIMAL {
         return Ok(Value::Null);
     }
-    let components = &identifier.components;
     match &identifier.dotted {
         Some(dotted) => Ok(Value::Text(dotted)),
-        None => Ok(Value::Made(format!(in alloc; "{components}")?)),
+        None => Ok(Value::Made(format!(in alloc; "{}", identifier.components)?)),
     }
 }
 

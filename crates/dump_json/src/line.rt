@@ -8,12 +8,14 @@ ghost use Rattle.dump_json.specs.Lines.{AreLines, IsLine, Turns};
 use crate::json::Json;
 use crate::members::{Member, push_members};
 use crate::piece::fault_object;
+use crate::rows::Seen;
 use crate::value::Value;
 use asn1_headers::error::ASN1DecodeErr;
 use der_io::{StreamFault, write_part};
 use dump_names::Names;
 use dump_shapes::Around;
 use dump_values::faults::{Fault, fault_at};
+use dump_walk::path::Paths;
 use dump_walk::place::outermost;
 use dump_walk::style::Style;
 use std::alloc::{AllocError, Global};
@@ -78,9 +80,12 @@ impl Dumper<'_> {
             self.write_line("fault", fault_object(self.alloc, &fault, 0)?, out)?;
             return Ok(false);
         }
-        let mut departures = Vec::new(self.alloc);
-        let first = self.write_blocks(style, octets, &mut departures, out)?;
-        let not_der = Json::array(self.alloc, &departures)?;
+        let mut seen = Seen {
+            departures: Vec::new(self.alloc),
+            paths: Paths::none(self.alloc),
+        };
+        let first = self.write_blocks(style, octets, &mut seen, out)?;
+        let not_der = Json::array(self.alloc, &seen.departures)?;
         let is_right = first.is_none() && not_der.is_none();
         let fault = match &first {
             Some(fault) => Some(fault_object(self.alloc, fault, fault.offset)?),
@@ -96,7 +101,7 @@ impl Dumper<'_> {
         &self,
         style: Style,
         octets: &[u8],
-        departures: &mut Vec<Json>,
+        seen: &mut Seen,
         out: &mut W,
     ) -> Result<Option<Fault>, StreamFault>
         ensures { OnOk result (IsWritten IsLine (W.contents out.old) (W.contents out.new)) }
@@ -104,8 +109,15 @@ impl Dumper<'_> {
         let mut end = Vec::new(self.alloc);
         self.push_end(true, &mut end)?;
         write_part(out, b"{\"blocks\":")?;
-        let place = outermost(all_of(style), self.around);
-        let first = self.write_rows(octets, place, departures, out)?;
+        // all of the document
+        let style = Style {
+            is_full: true,
+            is_flat: false,
+            most_depth: None,
+            ..style
+        };
+        let place = outermost(style, self.around);
+        let first = self.write_rows(octets, place, seen, out)?;
         write_part(out, &end)?;
         Ok(first)
     }
@@ -156,15 +168,5 @@ impl Dumper<'_> {
         push_members(&self.origin.members(), is_later, line)?;
         line.extend_from_slice(b"}\n")?;
         Ok(())
-    }
-}
-
-// All of a document, with the names of fields as in the style.
-fn all_of(style: Style) -> Style {
-    Style {
-        is_full: true,
-        is_flat: false,
-        most_depth: None,
-        ..style
     }
 }

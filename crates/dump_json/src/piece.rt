@@ -10,22 +10,23 @@ use crate::leaf::{tag_value, value_in};
 use crate::members::push_members;
 use crate::value::Value;
 use dump_names::Names;
+use dump_shapes::Named;
 use dump_values::faults::Fault;
-use dump_values::tag;
-use dump_values::tag::{holds_encodings, is_universal};
+use dump_values::tag::{self, holds_encodings, is_universal};
 use dump_values::value::LeafValue;
 use dump_walk::marks::BrokenRule;
 use dump_walk::piece::{Piece, PieceKind};
 use dump_walk::sum::checked_sum;
 use std::alloc::{AllocError, Global};
 
-// Puts the members of the object of a piece but for `blocks`: it stands at the offset of the document, and breaks these
-// rules. Returns whether one stands in it then.
+// Puts the members of the object of a piece but for `blocks`: it has these names and this path, and breaks these rules.
+// Returns whether one stands in it then.
 pub fn push_piece<'a>(
     alloc: Global,
     names: &'a Names,
     piece: &'a Piece<'_>,
-    offset: usize,
+    named: Option<Named>,
+    path: Option<&'a str>,
     rules: Option<Json>,
     out: &mut Vec<u8>,
 ) -> Result<bool, AllocError>
@@ -33,7 +34,7 @@ pub fn push_piece<'a>(
         out.old.items out.new.items) }
 {
     let (class, constructed, number, type_name) = tag_of(alloc, &piece.kind)?;
-    let named = piece.names(&names.shapes);
+    let offset = piece.document_offset()?;
     let fault = match &piece.fault {
         Some(fault) => Some(Value::Written(fault_object(alloc, fault, offset)?)),
         None => None,
@@ -43,7 +44,7 @@ pub fn push_piece<'a>(
         None => None,
     };
     let size = size_of(&piece.kind)?;
-    let value = value_of(alloc, piece)?;
+    let value = json_value(alloc, piece)?;
     let name = name_of(alloc, names, piece, named)?;
     let shown = shown_of(alloc, piece)?;
     let members = [
@@ -60,6 +61,7 @@ pub fn push_piece<'a>(
             "field",
             named.and_then(|named| named.field).map(Value::Text),
         ),
+        ("path", path.map(Value::Text)),
         ("of", named.map(|named| Value::Text(named.of))),
         ("name", name),
         ("shown", shown),
@@ -113,7 +115,7 @@ fn tag_of<'a>(
 }
 
 // The value of a piece.
-fn value_of<'a>(alloc: Global, piece: &'a Piece<'_>) -> Result<Value<'a>, AllocError> {
+fn json_value<'a>(alloc: Global, piece: &'a Piece<'_>) -> Result<Value<'a>, AllocError> {
     match &piece.kind {
         PieceKind::Unreadable(octets) => Ok(Value::Octets(octets)),
         PieceKind::Cut(header, contents) if !holds_encodings(header) => Ok(Value::Octets(contents)),

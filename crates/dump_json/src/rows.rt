@@ -10,6 +10,7 @@ use crate::members::comma;
 use crate::piece::{push_piece, rule_object};
 use der_io::{StreamFault, write_part};
 use dump_values::faults::Fault;
+use dump_walk::path::Paths;
 use dump_walk::piece::Piece;
 use dump_walk::place::Place;
 use dump_walk::sum::checked_sum;
@@ -17,18 +18,26 @@ use dump_walk::walk::Walk;
 use std::alloc::AllocError;
 use std::io::Write;
 
+// What was seen of a document.
+#[derive(Drop)]
+pub struct Seen {
+    // the rules that are broken, also inside octets of strings, where octets have to be DER
+    pub departures: Vec<Json>,
+    // the path of the last piece
+    pub paths: Paths,
+}
+
 // Room for most objects.
 const OBJECT_ROOM: usize = 400;
 
 impl Dumper<'_> {
-    // Writes the objects of octets, as an array, and adds the rules that are broken, also inside octets of strings,
-    // where octets have to be DER. Returns the first fault.
+    // Writes the objects of octets, as an array, which are seen then. Returns the first fault.
     #[cycle(rows)]
     pub fn write_rows<W: Write>(
         &self,
         octets: &[u8],
         place: Place,
-        departures: &mut Vec<Json>,
+        seen: &mut Seen,
         out: &mut W,
     ) -> Result<Option<Fault>, StreamFault>
         ensures { OnOk result (IsWritten IsValue (W.contents out.old) (W.contents out.new)) }
@@ -39,7 +48,7 @@ impl Dumper<'_> {
         let mut walk = Walk::over(self.alloc, &self.names.shapes, octets, place)?;
         'pieces: while let Some(piece) = walk.next(self.alloc)? {
             write_part(out, comma(is_later))?;
-            first = first.or(self.write_row(piece, departures, out)?);
+            first = first.or(self.write_row(piece, seen, out)?);
             is_later = true;
         }
         write_part(out, b"]")?;
@@ -51,14 +60,14 @@ impl Dumper<'_> {
     fn write_row<W: Write>(
         &self,
         piece: Piece<'_>,
-        departures: &mut Vec<Json>,
+        seen: &mut Seen,
         out: &mut W,
     ) -> Result<Option<Fault>, StreamFault>
         requires { IfSome piece.nested (λ _. 0 < piece.place.documents) }
         ensures { OnOk result (IsWritten IsValue (W.contents out.old) (W.contents out.new)) }
     {
-        let is_later = self.write_members(&piece, departures, out)?;
-        self.write_end(&piece, is_later, departures, out)?;
+        let is_later = self.write_members(&piece, seen, out)?;
+        self.write_end(&piece, is_later, seen, out)?;
         Ok(piece.fault)
     }
 
@@ -66,16 +75,18 @@ impl Dumper<'_> {
     fn write_members<W: Write>(
         &self,
         piece: &Piece<'_>,
-        departures: &mut Vec<Json>,
+        seen: &mut Seen,
         out: &mut W,
     ) -> Result<bool, StreamFault>
         ensures { IfOk result (λ later. IsWritten (IsOpenObject later) (W.contents out.old) (W.contents out.new)) }
     {
         let offset = piece.document_offset()?;
-        let rules = self.rules_of(piece, offset, departures)?;
+        let rules = self.rules_of(piece, offset, &mut seen.departures)?;
         let mut text = Vec::with_capacity(self.alloc, OBJECT_ROOM)?;
         text.extend_from_slice(b"{")?;
-        let is_later = push_piece(self.alloc, self.names, piece, offset, rules, &mut text)?;
+        let named = piece.names(&self.names.shapes);
+        let path = seen.paths.next(piece, named)?;
+        let is_later = push_piece(self.alloc, self.names, piece, named, path, rules, &mut text)?;
         write_part(out, &text)?;
         Ok(is_later)
     }
@@ -103,7 +114,7 @@ impl Dumper<'_> {
         &self,
         piece: &Piece<'_>,
         is_later: bool,
-        departures: &mut Vec<Json>,
+        seen: &mut Seen,
         out: &mut W,
     ) -> Result<(), StreamFault>
         requires { IfSome piece.now.nested (λ _. 0 < piece.now.place.documents) }
@@ -118,7 +129,7 @@ impl Dumper<'_> {
         let inside = piece.place.inside(checked_sum(before, nested.before)?)?;
         write_part(out, comma(is_later))?;
         write_part(out, b"\"blocks\":")?;
-        self.write_rows(nested.octets, inside, departures, out)?;
+        self.write_rows(nested.octets, inside, seen, out)?;
         write_part(out, b"}")?;
         Ok(())
     }

@@ -1,10 +1,8 @@
 // Bits that are set, by the names that their type has for them.
 use crate::named::LeafType;
 use crate::shapes::Shapes;
-use asn1_headers::tags;
+use asn1_headers::tags::BIT_STRING;
 use std::alloc::{AllocError, Global};
-
-const BIT_STRING: u8 = tags::BIT_STRING as u8;
 
 // Of how many bits the names are told at most: types with names have some dozens of bits, and a document may have
 // millions.
@@ -25,7 +23,7 @@ impl Shapes {
         count: usize,
         octets: &[u8],
     ) -> Result<Option<String>, AllocError> {
-        let has_names = leaf.tag == BIT_STRING && !self.parts_of(leaf.shape).is_empty();
+        let has_names = u64::from(leaf.tag) == BIT_STRING && !self.parts_of(leaf.shape).is_empty();
         if !has_names || count > MOST_BITS || count.div_ceil(8) < octets.len() {
             return Ok(None);
         }

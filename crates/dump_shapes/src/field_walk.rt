@@ -2,11 +2,8 @@
 use crate::identifier::number_of;
 use crate::shapes::{CONSTRUCTED, Inside, NOTHING, Order, Shapes};
 use crate::spot::Spot;
-use asn1_headers::tags;
+use asn1_headers::tags::OBJECT_IDENTIFIER;
 use std::alloc::{AllocError, Global};
-
-// The tag of an OBJECT IDENTIFIER (X.690 8.19).
-const OBJECT_IDENTIFIER: u8 = tags::OBJECT_IDENTIFIER as u8;
 
 /// What says which fields elements are.
 #[derive(Clone, Copy, Debug, Default, Drop, PartialEq)]
@@ -118,7 +115,7 @@ impl<'a> FieldWalk<'a> {
         self.inner = Level {
             inside,
             is_own: own.is_some(),
-            is_identifier: spot.is_some() && tag == OBJECT_IDENTIFIER,
+            is_identifier: spot.is_some() && u64::from(tag) == OBJECT_IDENTIFIER,
             next: 0,
             is_sure: true,
             // in a record of fields no identifier was seen yet
@@ -177,14 +174,9 @@ impl<'a> FieldWalk<'a> {
 
     // Whether the innermost element that is open lacks a field that has to be in it.
     fn lacks_field(&self) -> bool {
-        let Level {
-            inside,
-            next,
-            is_sure,
-            ..
-        } = self.inner;
-        let left = self.shapes.parts.get(inside.first.max(next)..inside.end);
+        let Inside { first, end, order } = self.inner.inside;
+        let left = self.shapes.parts.get(self.inner.next.max(first)..end);
         let is_left = left.unwrap_or(&[]).iter().any(|field| !field.is_optional);
-        !matches!(inside.order, Order::Each) && (!is_sure || is_left)
+        !matches!(order, Order::Each) && (!self.inner.is_sure || is_left)
     }
 }

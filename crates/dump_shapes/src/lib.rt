@@ -40,4 +40,4 @@ mod tables;
 pub use field_walk::{Around, FieldWalk};
 pub use named::{Held, LeafType, Named};
 pub use shapes::{Candidate, Shapes, ValueRule};
-pub use spot::Spot;
+pub use spot::{Lead, Spot};

@@ -1,11 +1,7 @@
 // The names of an element, by which field it is, and what its type says of its contents octets.
 use crate::shapes::{Shapes, ValueRule};
 use crate::spot::Spot;
-use asn1_headers::tags;
-
-const INTEGER: u8 = tags::INTEGER as u8;
-
-const ENUMERATED: u8 = tags::ENUMERATED as u8;
+use asn1_headers::tags::{ENUMERATED, INTEGER};
 
 /// The names of an element.
 #[derive(Clone, Copy, Debug, Drop, PartialEq)]
@@ -47,17 +43,15 @@ impl Shapes {
     /// Whether a primitive element that is the field may have these contents octets: of a version a number that has a
     /// name.
     pub fn may_have(&self, spot: Spot, contents: &[u8]) -> bool {
-        match spot.leaf {
-            Some(leaf) if matches!(leaf.rule, ValueRule::Closed) => {
-                self.value_name(leaf, contents).is_some()
-            }
-            _ => true,
-        }
+        let closed = spot
+            .leaf
+            .filter(|leaf| matches!(leaf.rule, ValueRule::Closed));
+        closed.is_none_or(|leaf| self.value_name(leaf, contents).is_some())
     }
 
     /// The name of the number that contents octets of a type are.
     pub fn value_name(&self, leaf: LeafType, contents: &[u8]) -> Option<&'static str> {
-        match leaf.tag {
+        match u64::from(leaf.tag) {
             INTEGER | ENUMERATED => { self.numbered(leaf.shape, small_number(contents)?)?.name }
             _ => None,
         }

@@ -1,13 +1,7 @@
 // Shapes: which fields a type of ASN.1 has, and what the octets of a string hold.
 use crate::named::LeafType;
 use crate::tables::LABELS;
-use asn1_headers::tags;
-
-const EXTERNAL: u8 = tags::EXTERNAL as u8;
-
-const EMBEDDED_PDV: u8 = tags::EMBEDDED_PDV as u8;
-
-const CHARACTER_STRING: u8 = tags::CHARACTER_STRING as u8;
+use asn1_headers::tags::{CHARACTER_STRING, EMBEDDED_PDV, EXTERNAL};
 
 // The bit of a leading octet that says that an encoding is constructed (X.690 8.1.2.5). What is left of the octet
 // without it is a tag here: its class, and its number. With 31 as its number it stands for all tags of more octets,
@@ -162,7 +156,7 @@ impl Shapes {
     // What stands inside an element by its tag alone: an EXTERNAL, an EMBEDDED PDV or a CHARACTER STRING (X.680 36, 37
     // and 44). `None` for any other tag.
     pub(crate) fn own_inside(&self, tag: u8) -> Option<Inside> {
-        let name = match tag {
+        let name = match u64::from(tag) {
             EXTERNAL => "EXTERNAL",
             EMBEDDED_PDV => "EMBEDDED PDV",
             CHARACTER_STRING => "CHARACTER STRING",

@@ -20,6 +20,28 @@ pub struct Spot {
     pub(crate) identifier: Option<u128>,
 }
 
+/// What tells an element from others that stand in the same one.
+#[derive(Clone, Copy, Debug, Drop, PartialEq)]
+pub enum Lead {
+    /// The name of the field that it is.
+    Name,
+    /// Its number, as an item of a SEQUENCE OF or SET OF.
+    Number,
+    /// Nothing: it is the only one.
+    Nothing,
+}
+
+impl Spot {
+    /// What tells an element inside it from others there.
+    pub fn lead(&self) -> Lead {
+        match self.inside.order {
+            Order::Fields => Lead::Name,
+            Order::Each => Lead::Number,
+            Order::Whole => Lead::Nothing,
+        }
+    }
+}
+
 impl Shapes {
     // What an element with the tag is as a field, where the identifier was seen. `None` where the field takes none
     // with this tag.
