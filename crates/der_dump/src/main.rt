@@ -13,7 +13,6 @@ use jiff::Timestamp;
 use jiff::civil::DateTime;
 use jiff::tz::TimeZone;
 use std::alloc::{AllocError, Global};
-use std::io;
 use std::io::{BufWriter, ErrorKind, Write};
 use std::process::ExitCode;
 use std::time::SystemTime;
@@ -72,7 +71,10 @@ fn print_fault(rt: &HostRuntime, fault: &StreamFault) {
 
 // Does what the arguments ask for, and returns the exit status.
 fn answer(rt: &HostRuntime) -> Result<u8, Refusal> {
-    let arguments = arguments(rt).map_err(|e| no_arguments(&e))?;
+    let arguments = arguments(rt).map_err(|e| match e.kind() {
+        ErrorKind::OutOfMemory => Refusal::Stream(StreamFault::Memory),
+        _ => Refusal::NotUtf8,
+    })?;
     let mut options = match options_of(rt.alloc(), &arguments) {
         Ok(options) => options,
         Err(fault) => return print_answer(rt, &fault),
@@ -81,10 +83,7 @@ fn answer(rt: &HostRuntime) -> Result<u8, Refusal> {
     if let Some(name) = options.type_name {
         refuse_unknown(rt, name)?;
     }
-    let own = match options.oids {
-        Some(file) => Some(own_names(rt, file)?),
-        None => None,
-    };
+    let own = options.oids.map(|file| own_names(rt, file)).transpose()?;
     let mut sources = sources(rt, &options.inputs)?;
     let writer = HostWriter {
         rt,
@@ -105,14 +104,6 @@ fn answer(rt: &HostRuntime) -> Result<u8, Refusal> {
         }
     }
     Ok(status(&outcome))
-}
-
-// Why there are no arguments.
-fn no_arguments(why: &io::Error) -> Refusal {
-    match why.kind() {
-        ErrorKind::OutOfMemory => Refusal::Stream(StreamFault::Memory),
-        _ => Refusal::NotUtf8,
-    }
 }
 
 // Help and the version go to standard output.

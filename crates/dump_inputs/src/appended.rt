@@ -2,8 +2,7 @@
 ghost use Rattle.std.specs.Prelude.{ℕ, List, None, Option};
 ghost use Rattle.dump_inputs.specs.Growing.{Grows};
 
-use std::io;
-use std::io::Write;
+use std::io::{self, Write};
 use std::marker::{Brand, PhantomData};
 
 // What a writer holds at some time, for proofs.

@@ -107,7 +107,7 @@ impl Show<'_> {
         let style = Style {
             is_flat: false,
             most_depth: None,
-            ..self.style()
+            ..self.style
         };
         let around = self.around_labelled(document.label.as_deref());
         let place = outermost(style, around);

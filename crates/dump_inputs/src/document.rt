@@ -2,7 +2,7 @@
 
 use asn1_blocks::encoding::encoding_at;
 use asn1_der::{Rule, departures};
-use asn1_headers::error::{ASN1DecodeErr, LocatedErr};
+use asn1_headers::error::ASN1DecodeErr;
 use std::alloc::{AllocError, Global};
 
 // How many octets a document has at least.
@@ -38,12 +38,7 @@ fn are_encodings(alloc: Global, octets: &[u8]) -> Result<bool, AllocError> {
                 Rule::NotEncodings | Rule::ReservedTag
             )),
         ),
-        Err(
-            LocatedErr {
-                error: ASN1DecodeErr::OutOfMemory,
-                offset: _,
-            },
-        ) => Err(AllocError),
+        Err(e) if matches!(e.error, ASN1DecodeErr::OutOfMemory) => Err(AllocError),
         Err(_) => Ok(false),
     }
 }

@@ -155,17 +155,14 @@ impl Search {
         if word.is_empty() {
             return Ok(());
         }
-        if !self.is_idle() || may_spell(word) {
+        // no words were read that may spell a document with this one
+        let is_idle = self.digits.words == 0 && self.symbols.words == 0;
+        if !is_idle || may_spell(word) {
             self.read_symbols_of(word)?;
         }
         self.is_blank = false;
         self.is_at_start = false;
         Ok(())
-    }
-
-    // Whether no words were read that may spell a document with the next one.
-    fn is_idle(&self) -> bool {
-        self.digits.words == 0 && self.symbols.words == 0
     }
 
     fn read_symbols_of(&mut self, word: &[u8]) -> Result<(), AllocError> {
@@ -245,10 +242,7 @@ impl Search {
     }
 
     fn push_found(&mut self, octets: Vec<u8>, line: usize) -> Result<(), AllocError> {
-        let found = Found { line, octets };
-        match self.found.push(found) {
-            Ok(()) => Ok(()),
-            Err(_) => Err(AllocError),
-        }
+        self.found.push(Found { line, octets })?;
+        Ok(())
     }
 }

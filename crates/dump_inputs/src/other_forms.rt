@@ -49,8 +49,7 @@ const OTHER_FORMS: [(&[u8], &str); 12] = [
 
 // What octets may be, if they begin as another form does.
 pub fn other_form(octets: &[u8]) -> Option<&'static str> {
-    OTHER_FORMS
-        .iter()
-        .find(|(front, _)| octets.starts_with(front))
-        .map(|(_, form)| *form)
+    let mut forms = OTHER_FORMS.iter();
+    let (_, form) = forms.find(|(front, _)| octets.starts_with(front))?;
+    Some(*form)
 }

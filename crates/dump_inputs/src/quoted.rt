@@ -1,11 +1,9 @@
 // PEM whose lines have marks around them: those of quoted mail, of comments, and of strings in sources.
 
+use crate::spelled::BEGIN;
 use der_digits::lines::Lines;
 use der_forms::Objects;
 use std::alloc::{AllocError, Global};
-
-// How a line begins that begins an object.
-const BEGIN: &[u8] = b"-----BEGIN ";
 
 // The text without the marks around its lines, where the first line inside an object begins with one, and the object is
 // base64 without them.
@@ -45,11 +43,8 @@ fn inside_marks(line: &[u8]) -> &[u8] {
         .position(|b| !is_around(b))
         .unwrap_or(line.len());
     let (_, rest) = line.split_at(begin);
-    let end = rest
-        .iter()
-        .position(|b| matches!(*b, b'"' | b'\''))
-        .unwrap_or(rest.len());
-    let (inside, _) = rest.split_at(end);
+    let mut parts = rest.split(|b| matches!(*b, b'"' | b'\''));
+    let inside = parts.next().unwrap_or(rest);
     let size = inside
         .iter()
         .rposition(|b| !is_around(b))

@@ -13,13 +13,16 @@ use dump_json::Origin;
 use dump_lines::{Dumper, Style, Verdict, push_refusal};
 use dump_names::{Names, OwnNames};
 use dump_options::{Color, Options, Output};
-use dump_rows::{Look, Printer, push_foot, push_head};
+use dump_rows::{Look, Printer, foot, head};
 use dump_shapes::{Around, Shapes, Spot};
 use dump_text::account_of;
 use jiff::civil::DateTime;
 use std::alloc::{AllocError, Global};
 use std::io::Write;
 use std::{mem, str};
+
+// What comes of showing documents.
+type Shown = Result<Verdict, StreamFault>;
 
 // What is said of octets that have no account.
 const NO_ACCOUNT: &str =
@@ -51,6 +54,7 @@ impl<'l, 'a> Document<'l, 'a> {
 pub struct Show<'o> {
     pub alloc: Global,
     pub names: Names,
+    pub style: Style,
     options: &'o Options<'o>,
     // the name of each input is shown
     is_named: bool,
@@ -80,6 +84,12 @@ impl<'o> Show<'o> {
         Ok(Show {
             alloc,
             names,
+            style: Style {
+                is_full: options.is_full,
+                is_flat: options.is_flat,
+                most_depth: options.most_depth,
+                is_plain: options.is_plain,
+            },
             options,
             is_named: matches!(options.output, Output::Json) || count > 1,
             named_type,
@@ -94,42 +104,23 @@ impl<'o> Show<'o> {
         name: &str,
         input: Vec<u8>,
         printer: &mut Printer<W>,
-    ) -> Result<Verdict, StreamFault> {
-        let file = self.push_file(name, printer)?;
+    ) -> Shown {
+        let shown = self.push_file(name, printer)?;
         let text = text_in(self.alloc, input)?;
         let verdict = match form_of(self.alloc, &text)? {
-            InputForm::Pem => self.push_pem(file, &text, printer)?,
-            InputForm::Unread(FormFault::Text(line)) => {
-                self.push_words(file, line, &text, printer)?
-            }
-            InputForm::Unread(fault) => self.push_fault(file, None, &fault, printer)?,
+            InputForm::Pem => shown.push_pem(&text, printer)?,
+            InputForm::Unread(FormFault::Text(line)) => shown.push_words(line, &text, printer)?,
+            InputForm::Unread(fault) => shown.push_fault(None, &fault, printer)?,
             InputForm::Spelled(octets) | InputForm::LaidOut(octets) => {
-                self.push(file, Document::of(None, Ok(&octets)), printer)?
+                shown.push(Document::of(None, Ok(&octets)), printer)?
             }
-            InputForm::Der => self.push(file, Document::of(None, Ok(&text)), printer)?,
+            InputForm::Der => shown.push(Document::of(None, Ok(&text)), printer)?,
         };
         if let (Verdict::Refused, Some(form)) = (verdict, other_form(&text)) {
-            self.push_other_form(form, printer)?;
+            let why = format!(in self.alloc; "this may be {form}")?;
+            self.push_note(true, &why, printer)?;
         }
         Ok(verdict)
-    }
-
-    // Writes which other form an input may be of, for people.
-    fn push_other_form<W: Write>(
-        &self,
-        form: &str,
-        printer: &mut Printer<W>,
-    ) -> Result<(), StreamFault> {
-        let why = format!(in self.alloc; "this may be {form}")?;
-        match self.options.output {
-            Output::Json => Ok(()),
-            Output::Lines | Output::Accounts => printer.push_refusal(&why),
-            Output::Page => {
-                printer.begin_section()?;
-                printer.push_refusal(&why)?;
-                printer.end_section(&[])
-            }
-        }
     }
 
     // Writes a document, or why it is not read, behind the name of its input where names are shown.
@@ -138,177 +129,51 @@ impl<'o> Show<'o> {
         name: &str,
         document: Document<'_, '_>,
         printer: &mut Printer<W>,
-    ) -> Result<Verdict, StreamFault> {
-        let file = self.push_file(name, printer)?;
-        self.push(file, document, printer)
+    ) -> Shown {
+        let shown = self.push_file(name, printer)?;
+        shown.push(document, printer)
     }
 
-    // Writes the name of an input, and returns it, where names are shown. JSON has it in each line. What is printed of
-    // the input looks as the options want.
+    // Writes the name of an input, where names are shown. What is printed of the input looks as the options want.
     fn push_file<'a, W: Write>(
-        &self,
+        &'a self,
         name: &'a str,
         printer: &mut Printer<W>,
-    ) -> Result<Option<&'a str>, StreamFault> {
+    ) -> Result<ShownInput<'a>, StreamFault> {
         printer.look = match (self.options.output, self.options.color) {
             (Output::Page, _) => Look::Page,
             (_, Color::Always) => Look::Colored,
             (_, Color::Auto | Color::Never) => Look::Plain,
         };
-        if !self.is_named {
-            return Ok(None);
+        if self.is_named {
+            self.push_note(false, name, printer)?;
         }
-        self.push_title(name.as_bytes(), printer)?;
-        Ok(Some(name))
+        Ok(ShownInput {
+            show: self,
+            file: self.is_named.then_some(name),
+        })
     }
 
-    // Writes a title of documents. JSON has none.
-    fn push_title<W: Write>(
+    // Writes a title of documents, or what is wrong, on a page in a section of its own. JSON has neither.
+    fn push_note<W: Write>(
         &self,
-        title: &[u8],
+        is_fault: bool,
+        text: &str,
         printer: &mut Printer<W>,
     ) -> Result<(), StreamFault> {
-        match self.options.output {
-            Output::Json => Ok(()),
-            Output::Lines | Output::Accounts => printer.push_title(title),
-            Output::Page => {
-                printer.begin_section()?;
-                printer.push_title(title)?;
-                printer.end_section(&[])
-            }
+        if matches!(self.options.output, Output::Json) {
+            return Ok(());
         }
-    }
-
-    // Writes each document that stands among the words of a text; or where none does, that this line of it is in no
-    // form.
-    fn push_words<W: Write>(
-        &self,
-        file: Option<&str>,
-        line: usize,
-        text: &[u8],
-        printer: &mut Printer<W>,
-    ) -> Result<Verdict, StreamFault> {
-        let documents = documents_in(self.alloc, text)?;
-        if documents.is_empty() {
-            return self.push_fault(file, None, &FormFault::Text(line), printer);
+        printer.begin_section()?;
+        match is_fault {
+            true => printer.push_refusal(text)?,
+            false => printer.push_title(text.as_bytes())?,
         }
-        let mut verdict = Verdict::AllRead;
-        for found in documents {
-            if let Verdict::Refused = self.push_found(file, found, printer)? {
-                verdict = Verdict::Refused;
-            }
-        }
-        Ok(verdict)
-    }
-
-    // Writes a document that stands among words, with the line in which it begins.
-    fn push_found<W: Write>(
-        &self,
-        file: Option<&str>,
-        found: Found,
-        printer: &mut Printer<W>,
-    ) -> Result<Verdict, StreamFault> {
-        let place = format!(in self.alloc; "line {}", found.line)?;
-        let place = place.as_bytes();
-        if is_pem(&found.octets) {
-            self.push_title(place, printer)?;
-            let text = text_of(self.alloc, found.octets)?;
-            return self.push_pem(file, &text, printer);
-        }
-        let document = Document::of(Some(place), Ok(&found.octets));
-        self.push(file, document, printer)
-    }
-
-    // Writes each object of PEM, whose lines may have marks around them.
-    fn push_pem<W: Write>(
-        &self,
-        file: Option<&str>,
-        text: &[u8],
-        printer: &mut Printer<W>,
-    ) -> Result<Verdict, StreamFault> {
-        match without_marks(self.alloc, text)? {
-            Some(plain) => self.push_objects(file, &plain, printer),
-            None => self.push_objects(file, text, printer),
-        }
-    }
-
-    // Writes each object of PEM, before the next is decoded.
-    fn push_objects<W: Write>(
-        &self,
-        file: Option<&str>,
-        text: &[u8],
-        printer: &mut Printer<W>,
-    ) -> Result<Verdict, StreamFault> {
-        let mut verdict = Verdict::AllRead;
-        for object in Objects::of(self.alloc, text) {
-            if let Verdict::Refused = self.push_object(file, &object?, printer)? {
-                verdict = Verdict::Refused;
-            }
-        }
-        Ok(verdict)
-    }
-
-    // Writes an object, and how it ends, if not as it should.
-    fn push_object<W: Write>(
-        &self,
-        file: Option<&str>,
-        object: &PemObject<'_>,
-        printer: &mut Printer<W>,
-    ) -> Result<Verdict, StreamFault> {
-        let label = Some(object.label);
-        let verdict = match &object.octets {
-            Ok(octets) => self.push(file, Document::of(label, Ok(octets)), printer)?,
-            Err(fault) => self.push_fault(file, label, fault, printer)?,
-        };
-        match object.bad_end {
-            Some((line, how)) => {
-                self.push_fault(file, None, &FormFault::BadEnd(line, how), printer)
-            }
-            None => Ok(verdict),
-        }
-    }
-
-    // Writes why a document is not read.
-    fn push_fault<W: Write>(
-        &self,
-        file: Option<&str>,
-        label: Option<&[u8]>,
-        fault: &FormFault,
-        printer: &mut Printer<W>,
-    ) -> Result<Verdict, StreamFault> {
-        let why = format!(in self.alloc; "{fault}")?;
-        self.push(file, Document::of(label, Err(&why)), printer)
-    }
-
-    // Writes a document, or why it is not read. JSON has the name of the file.
-    fn push<W: Write>(
-        &self,
-        file: Option<&str>,
-        document: Document<'_, '_>,
-        printer: &mut Printer<W>,
-    ) -> Result<Verdict, StreamFault> {
-        match self.options.output {
-            Output::Lines => self.push_dump(document, printer),
-            Output::Json => self.push_json(file, document, &mut printer.out),
-            Output::Page => {
-                printer.begin_section()?;
-                let verdict = self.push_dump(document, printer)?;
-                printer.end_section(document.octets.unwrap_or(&[]))?;
-                Ok(verdict)
-            }
-            Output::Accounts => {
-                printer.look = Look::Plain;
-                self.push_account(document, printer)
-            }
-        }
+        printer.end_section(&[])
     }
 
     // Writes a dump under the line of its label, if it has one.
-    fn push_dump<W: Write>(
-        &self,
-        document: Document<'_, '_>,
-        printer: &mut Printer<W>,
-    ) -> Result<Verdict, StreamFault> {
+    fn push_dump<W: Write>(&self, document: Document<'_, '_>, printer: &mut Printer<W>) -> Shown {
         if let Some(label) = document.label {
             printer.push_title(label)?;
         }
@@ -319,51 +184,11 @@ impl<'o> Show<'o> {
             is_strict: self.options.is_strict,
         };
         let verdict = match document.octets {
-            Ok(octets) => dumper.push_document(self.style(), octets, printer)?,
+            Ok(octets) => dumper.push_document(self.style, octets, printer)?,
             Err(why) => push_refusal(why, printer)?,
         };
         printer.end_folds()?;
         Ok(verdict)
-    }
-
-    // Writes the lines of JSON of a document.
-    fn push_json<W: Write>(
-        &self,
-        file: Option<&str>,
-        document: Document<'_, '_>,
-        out: &mut W,
-    ) -> Result<Verdict, StreamFault> {
-        let label = match document.label {
-            Some(label) => Some(String::from_utf8_lossy(self.alloc, label)?),
-            None => None,
-        };
-        let label = label.as_deref();
-        self.push_json_from(Origin { file, label }, document, out)
-    }
-
-    fn push_json_from<W: Write>(
-        &self,
-        origin: Origin<'_>,
-        document: Document<'_, '_>,
-        out: &mut W,
-    ) -> Result<Verdict, StreamFault> {
-        let dumper = dump_json::Dumper {
-            alloc: self.alloc,
-            names: &self.names,
-            around: self.around_of(document),
-            origin,
-            is_strict: self.options.is_strict,
-        };
-        match document.octets {
-            Ok(octets) => {
-                let is_right = dumper.push_document(self.style(), octets, out)?;
-                Ok(verdict_of(is_right))
-            }
-            Err(why) => {
-                dumper.push_refusal(why, out)?;
-                Ok(Verdict::Refused)
-            }
-        }
     }
 
     // Writes the account of a document, or that it has none. It is rejected if it is no whole encodings, and strictly
@@ -372,7 +197,7 @@ impl<'o> Show<'o> {
         &self,
         document: Document<'_, '_>,
         printer: &mut Printer<W>,
-    ) -> Result<Verdict, StreamFault> {
+    ) -> Shown {
         let octets = match document.octets {
             Ok(octets) => octets,
             Err(why) => return push_refusal(why, printer),
@@ -389,16 +214,6 @@ impl<'o> Show<'o> {
         Ok(verdict_of(!self.options.is_strict || is_der(self.alloc, octets)?))
     }
 
-    // How documents are shown.
-    pub fn style(&self) -> Style {
-        Style {
-            is_full: self.options.is_full,
-            is_flat: self.options.is_flat,
-            most_depth: self.options.most_depth,
-            is_plain: self.options.is_plain,
-        }
-    }
-
     // What says which fields a document is and has.
     fn around_of(&self, document: Document<'_, '_>) -> Around {
         match document.field {
@@ -409,28 +224,22 @@ impl<'o> Show<'o> {
 
     // What says which fields a document with the label has.
     pub fn around_labelled(&self, label: Option<&[u8]>) -> Around {
-        match self.type_labelled(label) {
-            Some(shape) => Around::Shape(shape),
-            None => Around::Unknown,
-        }
+        self.type_labelled(label)
+            .map_or(Around::Unknown, Around::Shape)
     }
 
     // The shape of the type that a document is known to be of: the one that is named, or else the one that its label
     // says.
     fn type_labelled(&self, label: Option<&[u8]>) -> Option<usize> {
-        self.named_type.or_else(|| self.type_of_label(label?))
-    }
-
-    fn type_of_label(&self, label: &[u8]) -> Option<usize> {
-        self.names.shapes.labelled(str::from_utf8(label).ok()?)
+        let shapes = &self.names.shapes;
+        self.named_type
+            .or_else(|| shapes.labelled(str::from_utf8(label?).ok()?))
     }
 
     // Writes what stands before all documents, if it is not there yet: the head of a page.
     pub fn begin<W: Write>(&self, is_begun: &mut bool, out: &mut W) -> Result<(), StreamFault> {
         if !*is_begun && matches!(self.options.output, Output::Page) {
-            let mut head = Vec::new(self.alloc);
-            push_head(&mut head)?;
-            write_part(out, &head)?;
+            write_part(out, head())?;
         }
         *is_begun = true;
         Ok(())
@@ -441,11 +250,125 @@ impl<'o> Show<'o> {
         ensures { OnOk result (is_begun ≡ false → W.contents out.new ≡ W.contents out.old) }
     {
         if is_begun && matches!(self.options.output, Output::Page) {
-            let mut foot = Vec::new(self.alloc);
-            push_foot(&mut foot)?;
-            write_part(out, &foot)?;
+            write_part(out, foot())?;
         }
         Ok(())
+    }
+}
+
+// An input that is shown.
+#[derive(Clone, Copy)]
+struct ShownInput<'a> {
+    show: &'a Show<'a>,
+    // its name, where names are shown: JSON has it in each line
+    file: Option<&'a str>,
+}
+
+impl ShownInput<'_> {
+    // Writes each document that stands among the words of a text; or where none does, that this line of it is in no
+    // form.
+    fn push_words<W: Write>(self, line: usize, text: &[u8], printer: &mut Printer<W>) -> Shown {
+        let documents = documents_in(self.show.alloc, text)?;
+        if documents.is_empty() {
+            return self.push_fault(None, &FormFault::Text(line), printer);
+        }
+        let mut is_right = true;
+        for found in documents {
+            is_right &= self.push_found(found, printer)? == Verdict::AllRead;
+        }
+        Ok(verdict_of(is_right))
+    }
+
+    // Writes a document that stands among words, with the line in which it begins.
+    fn push_found<W: Write>(self, found: Found, printer: &mut Printer<W>) -> Shown {
+        let alloc = self.show.alloc;
+        let place = format!(in alloc; "line {}", found.line)?;
+        if is_pem(&found.octets) {
+            self.show.push_note(false, &place, printer)?;
+            let text = text_of(alloc, found.octets)?;
+            return self.push_pem(&text, printer);
+        }
+        let document = Document::of(Some(place.as_bytes()), Ok(&found.octets));
+        self.push(document, printer)
+    }
+
+    // Writes each object of PEM, whose lines may have marks around them, before the next is decoded.
+    fn push_pem<W: Write>(self, text: &[u8], printer: &mut Printer<W>) -> Shown {
+        let alloc = self.show.alloc;
+        let plain = without_marks(alloc, text)?;
+        let mut is_right = true;
+        for object in Objects::of(alloc, plain.as_deref().unwrap_or(text)) {
+            is_right &= self.push_object(&object?, printer)? == Verdict::AllRead;
+        }
+        Ok(verdict_of(is_right))
+    }
+
+    // Writes an object, and how it ends, if not as it should.
+    fn push_object<W: Write>(self, object: &PemObject<'_>, printer: &mut Printer<W>) -> Shown {
+        let label = Some(object.label);
+        let verdict = match &object.octets {
+            Ok(octets) => self.push(Document::of(label, Ok(octets)), printer)?,
+            Err(fault) => self.push_fault(label, fault, printer)?,
+        };
+        match object.bad_end {
+            Some((line, how)) => self.push_fault(None, &FormFault::BadEnd(line, how), printer),
+            None => Ok(verdict),
+        }
+    }
+
+    // Writes why a document is not read.
+    fn push_fault<W: Write>(
+        self,
+        label: Option<&[u8]>,
+        fault: &FormFault,
+        printer: &mut Printer<W>,
+    ) -> Shown {
+        let why = format!(in self.show.alloc; "{fault}")?;
+        self.push(Document::of(label, Err(&why)), printer)
+    }
+
+    // Writes a document, or why it is not read.
+    fn push<W: Write>(self, document: Document<'_, '_>, printer: &mut Printer<W>) -> Shown {
+        match self.show.options.output {
+            Output::Lines => self.show.push_dump(document, printer),
+            Output::Json => self.push_json(document, &mut printer.out),
+            Output::Page => {
+                printer.begin_section()?;
+                let verdict = self.show.push_dump(document, printer)?;
+                printer.end_section(document.octets.unwrap_or(&[]))?;
+                Ok(verdict)
+            }
+            Output::Accounts => {
+                printer.look = Look::Plain;
+                self.show.push_account(document, printer)
+            }
+        }
+    }
+
+    // Writes the lines of JSON of a document.
+    fn push_json<W: Write>(self, document: Document<'_, '_>, out: &mut W) -> Shown {
+        let show = self.show;
+        let label = match document.label {
+            Some(label) => Some(String::from_utf8_lossy(show.alloc, label)?),
+            None => None,
+        };
+        let dumper = dump_json::Dumper {
+            alloc: show.alloc,
+            names: &show.names,
+            around: show.around_of(document),
+            origin: Origin {
+                file: self.file,
+                label: label.as_deref(),
+            },
+            is_strict: show.options.is_strict,
+        };
+        match document.octets {
+            Ok(octets) => Ok(verdict_of(dumper.push_document(show.style, octets, out)?)),
+            Err(why) => {
+                dumper.push_refusal(why, out)?;
+                Ok(Verdict::Refused)
+            }
+        }
     }
 }
 

@@ -10,10 +10,8 @@ use der_digits::hex_text::{Symbols, spelling_in};
 use der_digits::search::contains;
 use std::alloc::{AllocError, Global};
 
-// How a text of PEM begins, and how a line of it that ends an object does.
-const BEGIN: &[u8] = b"-----BEGIN ";
-
-const END: &[u8] = b"-----END ";
+// How a text of PEM begins.
+pub const BEGIN: &[u8] = b"-----BEGIN ";
 
 // The front of this in base64.
 const BEGIN_IN_BASE64: &[u8] = b"LS0tLS1CRUdJTi";
@@ -23,7 +21,7 @@ const LEAST_SYMBOLS: usize = 11;
 
 // Whether the octets are a text of PEM, in which an object ends.
 pub fn is_pem(octets: &[u8]) -> bool {
-    octets.starts_with(BEGIN) && contains(END, octets)
+    octets.starts_with(BEGIN) && contains(b"-----END ", octets)
 }
 
 // Whether the octet is a symbol of base64 or base64url.

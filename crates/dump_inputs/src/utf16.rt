@@ -8,12 +8,13 @@ const FIRST_UNITS: usize = 8;
 
 const LEAST_UNITS: usize = 4;
 
-// The byte order marks, with the octet of less weight first, and with that of more weight.
-const MARKS: [&[u8]; 2] = [b"\xFF\xFE", b"\xFE\xFF"];
+// The byte order marks, each with whether the octet of more weight comes first.
+const MARKS: [(&[u8], bool); 2] = [(b"\xFF\xFE", false), (b"\xFE\xFF", true)];
 
 // What `text_of` reads of an input, also where it is text in UTF-16 without a byte order mark.
 pub fn text_in(alloc: Global, input: Vec<u8>) -> Result<Vec<u8>, AllocError> {
-    let Some(mark) = missing_mark(&input) else {
+    let mut marks = MARKS.iter();
+    let Some((mark, _)) = marks.find(|(_, is_first)| are_units(&input, *is_first)) else {
         return text_of(alloc, input);
     };
     let mut marked = Vec::from_slice(alloc, mark)?;
@@ -23,18 +24,6 @@ pub fn text_in(alloc: Global, input: Vec<u8>) -> Result<Vec<u8>, AllocError> {
         return text_of(alloc, input);
     }
     Ok(text)
-}
-
-// The byte order mark that octets lack which are text in UTF-16 by their first units.
-fn missing_mark(octets: &[u8]) -> Option<&'static [u8]> {
-    let [low, high] = MARKS;
-    if are_units(octets, false) {
-        Some(low)
-    } else if are_units(octets, true) {
-        Some(high)
-    } else {
-        None
-    }
 }
 
 // Whether octets are units, of which the first or the second octet has more weight: the first of them are characters of

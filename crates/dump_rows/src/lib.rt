@@ -16,7 +16,7 @@
 //! value, what is wrong with it, and what of DER it breaks. Other lines are about documents: `=` and a title, or `!`
 //! and what is wrong. No line has a control character or one that is invisible: `\u{..}` stands in its place.
 //!
-//! A page begins by [`push_head`] and ends by [`push_foot`]. Nothing of a document stands on it but escaped, or in
+//! A page begins with [`head`] and ends with [`foot`]. Nothing of a document stands on it but escaped, or in
 //! digits.
 //!
 //! The errors are that memory ran out, and that a write failed. What was written before stays.
@@ -27,7 +27,7 @@ mod part;
 mod printer;
 mod row;
 
-pub use page::{push_foot, push_head};
+pub use page::{foot, head};
 pub use part::Look;
 pub use printer::Printer;
 pub use row::{Inside, Row, RowFault, RowValue};

@@ -1,8 +1,6 @@
 // The beginning and the end of a page, the same of every dump. The beginning allows the script at the end by its hash,
 // which `checks/run page` compares.
 
-use std::alloc::AllocError;
-
 const HEAD: &str = "<!DOCTYPE html>
 <html lang=\"en\"><head><meta charset=\"utf-8\"><title>DER</title>
 <meta name=\"viewport\" content=\"width=device-width, initial-scale=1\">
@@ -380,18 +378,12 @@ const FOOT: &str = "<script>
 </script></body></html>
 ";
 
-/// Pushes the beginning of a page.
-///
-/// # Errors
-/// Memory ran out.
-pub fn push_head(out: &mut Vec<u8>) -> Result<(), AllocError> {
-    out.extend_from_slice(HEAD.as_bytes())
+/// The beginning of a page.
+pub fn head() -> &'static [u8] {
+    HEAD.as_bytes()
 }
 
-/// Pushes the end of a page, with its script.
-///
-/// # Errors
-/// Memory ran out.
-pub fn push_foot(out: &mut Vec<u8>) -> Result<(), AllocError> {
-    out.extend_from_slice(FOOT.as_bytes())
+/// The end of a page, with its script.
+pub fn foot() -> &'static [u8] {
+    FOOT.as_bytes()
 }
