@@ -33,7 +33,8 @@ BEGIN, END = "<!-- made by checks/run calling -->\n", "<!-- end -->\n"
 SECTIONS = [
     ("Reading into blocks", "simple_asn1", "Document from_der from_der_located from_der_strict from_der_counted"
      " HeaderCount"),
-    ("Reading without blocks", "simple_asn1", "check_document Outline BlockRef Entry Entries Headers"),
+    ("Reading without blocks", "simple_asn1", "check_document Outline BlockRef Inside Entry Entries"
+     " EntriesInside Headers"),
     ("DER or not", "simple_asn1", "is_der departures Departure Rule"),
     ("Blocks", "simple_asn1", "ASN1Block ASN1Class items_of Items all_blocks discard encoding_at sequence_items"),
     ("Making blocks", "simple_asn1", "build::*"),

@@ -26,7 +26,7 @@ STRICTLY = ("0101ff\nzz\n050001012a", "ok 0101FF\nbadhex\nrefused NotCanonical 2
 # calls that read an `Outline` or `Headers`, which guess room for their entries, and ask for less where that much is
 # refused. Where the first guess is too small for the entries of a line, they guess once more. As many refused
 # allocations of such a line may leave the answer as it is
-GUESSING = ("Outline::", "BlockRef::", "Entry::", "Headers::", "first")
+GUESSING = ("Outline::", "BlockRef::", "Entry::", "Headers::", "Inside::", "first")
 GUESSES = 2
 # of the allocations of one line, so many are refused one by one, and behind them each of so many
 FIRST, STEP = 256, 64
