@@ -496,17 +496,17 @@ def openssl(*words, given=None):
 
 
 def certificate_facts(path):
-    """What openssl shows of a certificate: names, times, places of object identifiers, and other names."""
+    """What openssl shows of a certificate: its end, its names, and other names."""
     text = openssl("x509", "-in", path, "-noout", "-subject", "-issuer", "-nameopt", "utf8,sep_multiline,lname",
-                   "-startdate", "-enddate", "-dateopt", "iso_8601", "-ext", "subjectAltName")
+                   "-enddate", "-dateopt", "iso_8601", "-ext", "subjectAltName")
     facts = {"file": path.name}
     for name in ("issuer", "subject"):
         lines = re.search(rf"^{name}=\n((?:    .*\n)*)", text, re.M)[1].splitlines()
         facts[name] = [it.partition("=")[2] for it in lines if it.startswith("    commonName=")]
-    facts["validity"] = [it.replace(" ", "T") for it in re.findall(r"^not(?:Before|After)=(.*)$", text, re.M)]
+    end = re.search(r"^notAfter=(.*)$", text, re.M)[1].replace(" ", "T")
     others = re.search(r"Alternative Name:.*\n +(.*)", text)
     others = re.findall(r"(?:^|, )(?:DNS|email|URI):([^,]*)", others[1]) if others else []
-    return facts, others
+    return end, facts, others
 
 
 class Identifiers:
@@ -541,8 +541,8 @@ def check_examples(program, work, roots):
     # an example that begins with `printf` has its output behind it; the others read certificates
     printed = [pair for pair in zip(paragraphs, paragraphs[1:]) if "jq -" in pair[0] and pair[0].startswith("printf ")]
     examples = [it for it in paragraphs if "jq -" in it and not it.startswith("printf ")]
-    if len(examples) != 3:
-        fail(f"docs/DUMP.md has {len(examples)} examples for jq in place of 3")
+    if len(examples) != 4:
+        fail(f"docs/DUMP.md has {len(examples)} examples for jq in place of 4")
         return
     folder, each, tools = work / "certificates", work / "each", work / "tools"
     for it in (folder, each, tools):
@@ -561,17 +561,19 @@ def check_examples(program, work, roots):
         if run(example, folder) != output:
             fail(f"docs/DUMP.md: {example.strip()} gives {run(example, folder)}")
     names = r"(?<=^der_dump --json )[^|]*(?= \|)"
-    files = ("*.pem", "certificate.pem", "certificate.pem")
+    files = ("*.pem", "*.pem", "certificate.pem", "certificate.pem")
     examples = [re.sub(names, each_files, example) for example, each_files in zip(examples, files)]
     paths = sorted(folder.glob("*.pem"))
-    lines = {line["file"]: line for line in map(json.loads, run(examples[0], folder).splitlines())}
-    identifiers, right, named = Identifiers(), [0, 0, 0], 0
+    ends = dict(line.split(" ") for line in run(examples[0], folder).splitlines())
+    lines = {line["file"]: line for line in map(json.loads, run(examples[1], folder).splitlines())}
+    identifiers, right, named = Identifiers(), [0, 0, 0, 0], 0
     for path in paths:
-        facts, others = certificate_facts(path)
+        end, facts, others = certificate_facts(path)
         named += bool(others)
         shutil.copy(path, each / "certificate.pem")
-        shown = (lines.get(path.name), identifiers.shown(run(examples[1], each)), run(examples[2], each).splitlines())
-        wanted = (facts, identifiers.wanted(path), others)
+        shown = (ends.get(path.name), lines.get(path.name), identifiers.shown(run(examples[2], each)),
+                 run(examples[3], each).splitlines())
+        wanted = (end, facts, identifiers.wanted(path), others)
         for place, (given, it) in enumerate(zip(shown, wanted)):
             right[place] += given == it
             if given != it:

@@ -23,10 +23,11 @@ TOGETHER = ("0280\n3000\nzz\n0489\n",
             "ok 020100\nok 3000\nbadhex\nrefused LengthTooLarge 9\nrefused EmptyBuffer")
 # such lines, where they are read strictly
 STRICTLY = ("0101ff\nzz\n050001012a", "ok 0101FF\nbadhex\nrefused NotCanonical 2")
-# calls that read an `Outline` or `Headers`, which guess room for their entries, and ask for less where that much is
-# refused. Where the first guess is too small for the entries of a line, they guess once more. As many refused
-# allocations of such a line may leave the answer as it is
-GUESSING = ("Outline::", "BlockRef::", "Entry::", "Headers::", "Inside::", "first")
+# calls that read an `Outline` or `Headers`, or so many, which guess room for their entries, and ask for less where that
+# much is refused. Where the first guess is too small for the entries, they guess once more. As many refused allocations
+# of each may leave the answer of a line as it is
+GUESSING = {"Outline::": 1, "BlockRef::": 1, "Entry::": 1, "Headers::": 1, "Inside::inside": 4, "Inside::": 2,
+            "first": 1}
 GUESSES = 2
 # of the allocations of one line, so many are refused one by one, and behind them each of so many
 FIRST, STEP = 256, 64
@@ -75,7 +76,8 @@ def refused_in_turn(at, line, answer):
     """How many allocations were refused, and what was wrong."""
     number, some, wrong, mark = 0, 0, [], f"{work}/refused{at}"
     right = (0, f"{answer}\n".encode(), b"")
-    guesses = GUESSES if called(line, answer).startswith(GUESSING) else 0
+    call = called(line, answer)
+    guesses = GUESSES * next((count for name, count in GUESSING.items() if call.startswith(name)), 0)
     while True:
         number += 1 if number < FIRST else STEP
         ended, met = ran(line, number, mark)
