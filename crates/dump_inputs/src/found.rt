@@ -4,7 +4,8 @@
 // together: hex digits with commas and the like between them, and base64 in lines.
 
 use crate::spelled::{
-    digits_in, document_in_digits, document_in_symbols, is_symbol, may_begin, may_spell,
+    digits_in, document_in_digits, document_in_symbols, escaped_symbol, is_line_end, is_symbol,
+    may_begin, may_spell,
 };
 use der_digits::lines::Lines;
 use std::alloc::{AllocError, Global};
@@ -78,7 +79,7 @@ struct Search {
     is_blank: bool,
     // no word was read behind the last line break, which may be spelled
     is_at_start: bool,
-    // what stands directly before the next word
+    // what stands directly before the next word; of `&#` the first of both
     mark: u8,
     digits: Run,
     symbols: Run,
@@ -129,10 +130,14 @@ impl Search {
 
     // Reads what stands between words: it may end those that spell a document together.
     fn read_mark(&mut self, mark: u8) -> Result<(), AllocError> {
-        self.mark = mark;
-        let is_between = mark.is_ascii_whitespace()
-            || matches!(mark, b'"' | b'\'' | b'\\')
+        let is_reference = self.mark == b'&' && matches!(mark, b'#' | b';');
+        let is_between = is_reference
+            || mark.is_ascii_whitespace()
+            || matches!(mark, b'"' | b'\'' | b'\\' | b'&')
             || (self.is_at_start && matches!(mark, b'>' | b'#' | b'*'));
+        if mark != b'#' || !is_reference {
+            self.mark = mark;
+        }
         if !is_between {
             self.end_symbols()?;
         }
@@ -142,7 +147,7 @@ impl Search {
         Ok(())
     }
 
-    // Reads a word, which may begin with what a backslash spells.
+    // Reads a word, which may begin with what a backslash spells, or be a line end of XML.
     fn read_word(&mut self, word: &[u8]) -> Result<(), AllocError> {
         let word = match (self.mark, word) {
             (b'\\', [b'n' | b'r', rest @ ..]) => {
@@ -150,6 +155,10 @@ impl Search {
                 rest
             }
             (b'\\', [b'x', rest @ ..]) => rest,
+            (b'&', word) if is_line_end(word) => {
+                self.is_at_start = true;
+                return Ok(());
+            }
             _ => word,
         };
         if word.is_empty() {
@@ -203,17 +212,22 @@ impl Search {
             self.size = 0;
         }
         self.size = self.size.saturating_add(word.len());
-        self.symbols.push(word, self.line)
+        let escaped = escaped_symbol(word).filter(|_| self.mark == b'\\');
+        let Some((symbol, rest)) = escaped else {
+            return self.symbols.push(word, self.line);
+        };
+        self.symbols.push(&[symbol], self.line)?;
+        self.symbols.push(rest, self.line)
     }
 
     // Whether the word goes on with base64: in the next line, if the line before it is no shorter than the one before
-    // that; or with a slash as strings of JSON spell it.
+    // that; or with a symbol as strings of JSON spell it.
     fn goes_on(&self, word: &[u8]) -> bool {
         self.symbols.words > 0
             && if self.is_at_start {
                 self.size >= self.size_before
             } else {
-                self.mark == b'\\' && word.starts_with(b"/")
+                self.mark == b'\\' && escaped_symbol(word).is_some()
             }
     }
 

@@ -29,6 +29,24 @@ pub fn is_symbol(b: u8) -> bool {
     b.is_ascii_alphanumeric() || matches!(b, b'+' | b'/' | b'-' | b'_')
 }
 
+// The symbol of base64 that an escape of JSON spells, behind its backslash, and what stands behind it.
+pub fn escaped_symbol(word: &[u8]) -> Option<(u8, &[u8])> {
+    match word {
+        [b'/', rest @ ..] => Some((b'/', rest)),
+        [b'u', b'0', b'0', b'2', b'F' | b'f', rest @ ..] => Some((b'/', rest)),
+        [b'u', b'0', b'0', b'2', b'B' | b'b', rest @ ..] => Some((b'+', rest)),
+        _ => None,
+    }
+}
+
+// Whether what stands between `&#` and `;` is the number of a line end, as XML spells it.
+pub fn is_line_end(word: &[u8]) -> bool {
+    matches!(
+        word,
+        [b'1', b'0' | b'3'] | [b'x', b'A' | b'a' | b'D' | b'd']
+    )
+}
+
 // Whether a word may be the first of those that spell a document, which most words of a text are not.
 pub fn may_spell(word: &[u8]) -> bool {
     match word {
