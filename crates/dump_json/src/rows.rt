@@ -30,6 +30,9 @@ pub struct Seen {
 // Room for most objects.
 const OBJECT_ROOM: usize = 400;
 
+// How many octets a path has at most that is told. Of types that hold themselves, it grows with each level.
+const MOST_PATH: usize = 1024;
+
 impl Dumper<'_> {
     // Writes the objects of octets, as an array, which are seen then. Returns the first fault.
     #[cycle(rows)]
@@ -86,6 +89,7 @@ impl Dumper<'_> {
         text.extend_from_slice(b"{")?;
         let named = piece.names(&self.names.shapes);
         let path = seen.paths.next(piece, named)?;
+        let path = path.filter(|path| path.len() <= MOST_PATH);
         let is_later = push_piece(self.alloc, self.names, piece, named, path, rules, &mut text)?;
         write_part(out, &text)?;
         Ok(is_later)
