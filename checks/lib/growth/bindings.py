@@ -20,7 +20,7 @@ import tempfile
 
 from bounds import RUNS, SIZES, is_well
 from shapes import ALGORITHM, LIST_FRONT, REVOKED, SIGNATURE
-from x690 import encoding, header
+from x690 import Nest, encoding, header
 
 
 def long_number(size):
@@ -37,6 +37,17 @@ def signed(size):
     return encoding(0x30, bytes.fromhex("3003020101") + algorithm + bytes.fromhex("03020099"))
 
 
+def messages(size):
+    """Messages of CMP (RFC 4210, 5.1), each in the body of another: a path to one leads through all around it."""
+    head = bytes.fromhex("300b 020102 a4023000 a4023000")
+    nest = Nest(encoding(0x30, head + bytes.fromhex("b3020500")))
+    while nest.size < size:
+        nest.around(0x30)
+        nest.around(0xB4)
+        nest.around(0x30, head)
+    return nest.octets()
+
+
 SHAPES = {
     "a long component": long_component,
     "many long components": lambda size: encoding(0x06, b"\x2a" + long_number(10) * (size // 10)),
@@ -47,6 +58,7 @@ SHAPES = {
     "many items": lambda size: encoding(0x30, bytes.fromhex("0500") * (size // 2)),
     "many blocks": lambda size: bytes.fromhex("0500") * (size // 2),
     "a long algorithm": signed,
+    "messages in messages": messages,
 }
 
 # the status that is right, and the calls
