@@ -5,7 +5,7 @@ use Rattle.asn1_headers.specs.declared.header.ASN1Class.{ASN1Class}
 use Rattle.asn1_headers.specs.declared.header.ASN1Class.TheVariants.{Universal}
 use Rattle.asn1_blocks.specs.declared.block.GroupKind.{GroupKind}
 use Rattle.asn1_headers.specs.Fault.{DecodeFault}
-use Rattle.asn1_headers.specs.Header.{Encoding, IsLength}
+use Rattle.asn1_headers.specs.Header.{Encoding, IsLength, IsSomeIdentifier}
 use Rattle.asn1_blocks.specs.Tree.{Leaf, Trees, no_trees, more_trees}
 use Rattle.asn1_blocks.specs.Contents.{leaf_tag, group_tag, IsUnknownTag, LeafContents, LeafFault}
 use Rattle.asn1_blocks.specs.Places.{IsEncoding}
@@ -13,7 +13,7 @@ use Rattle.asn1_headers.specs.HeaderFault.{HeaderFault, no_identifier, no_length
 use Rattle.asn1_blocks.specs.Grammar.{IsBlock, of_not_universal, of_unknown_tag, of_leaf, of_group, AreBlocks, no_blocks, more_blocks, EncodesAll, BlocksFaultAt, in_header, in_contents, in_item}
 use Rattle.asn1_blocks.specs.Inner.BlockFault.{BlockFaultAt, at_header, at_leaf, at_item}
 use Rattle.asn1_blocks.proofs.Leaves.{leaf_tag-not_group_tag, LeafContents-no_fault, LeafFault-is_leaf_tag, is_known_tag-is_leaf_tag, is_leaf_tag-not_group_tag, is_known_tag-unknown}
-use Rattle.asn1_headers.proofs.Prefixes.{Encoding-unique, IsIdentifier-unique, IsLength-unique}
+use Rattle.asn1_headers.proofs.Prefixes.{BeginsWithNo-append, Encoding-unique, IsIdentifier-unique, IsLength-unique}
 use Rattle.asn1_blocks.proofs.FaultyBlocks.{Encoding-append_not_empty}
 use Rattle.asn1_blocks.proofs.OneReading.{IsBlock-not_empty, IsBlock-encodes}
 use Rattle.asn1_blocks.proofs.BlockLists.{tree_count}
@@ -119,14 +119,13 @@ pub HeaderFault-not_encoding : (offset : ℕ) (octets x rest : List ℕ) (e : De
     → HeaderFault offset octets e → offset + length octets < 2 ^ 64 → octets ≡ x ++ rest →
     Encoding x c' k' n' contents h' → ⊥
 HeaderFault-not_encoding offset octets x rest e c' k' n' contents h' (no_identifier missing) small d f =
-    let (a, r, l) = IsLength-first f.len (length contents) f.length_octets in
-    missing f.identifier (r ++ (contents ++ rest)) c' k' n' a f.identifier_octets
-    (append-encoding_parts octets x rest _ _ _ _ _ f d ∙ ap (λ z. f.identifier ++ (z ++ (contents ++ rest))) l)
-HeaderFault-not_encoding offset octets x rest e c' k' n' contents h' (no_length s a r c k n t g missing h) small d f =
-    let q = IsIdentifier-unique s f.identifier (a ∷ r) (f.len ++ (contents ++ rest)) c c' k k' n n' t
+    BeginsWithNo-append IsSomeIdentifier octets f.identifier (f.len ++ (contents ++ rest)) n' missing
+    (append-encoding_parts octets x rest _ _ _ _ _ f d) (c', k', f.identifier_octets)
+HeaderFault-not_encoding offset octets x rest e c' k' n' contents h' (no_length s r n (c, k, t) g missing h) small d f =
+    let q = IsIdentifier-unique s f.identifier r (f.len ++ (contents ++ rest)) c c' k k' n n' t
     f.identifier_octets (sym g ∙ append-encoding_parts octets x rest _ _ _ _ _ f d) in
-    missing f.len (contents ++ rest) (length contents) f.length_octets q.rest
-HeaderFault-not_encoding offset octets x rest e c' k' n' contents h' (too_far s l r c k n m t u g far h) small d f =
+    BeginsWithNo-append IsLength r f.len (contents ++ rest) (length contents) missing q.rest f.length_octets
+HeaderFault-not_encoding offset octets x rest e c' k' n' contents h' (too_far s l r n m (c, k, t) u g far h) small d f =
     let q = IsIdentifier-unique s f.identifier (l ++ r) (f.len ++ (contents ++ rest)) c c' k k' n n' t
     f.identifier_octets (sym g ∙ append-encoding_parts octets x rest _ _ _ _ _ f d) in
     let v = IsLength-unique l f.len r (contents ++ rest) m (length contents) u f.length_octets q.rest in
@@ -142,7 +141,7 @@ HeaderFault-not_encoding offset octets x rest e c' k' n' contents h' (too_far s 
       length-append contents rest,
     )
 HeaderFault-not_encoding offset octets x rest e c' k' n' contents h'
-    (too_long s l r c k n m t u g near long) small d f =
+    (too_long s l r n m (c, k, t) u g near long) small d f =
     let q = IsIdentifier-unique s f.identifier (l ++ r) (f.len ++ (contents ++ rest)) c c' k k' n n' t
     f.identifier_octets (sym g ∙ append-encoding_parts octets x rest _ _ _ _ _ f d) in
     let v = IsLength-unique l f.len r (contents ++ rest) m (length contents) u f.length_octets q.rest in

@@ -1,92 +1,78 @@
 -- Octets have at most one first fault, for all that returns it, and for `laws::law_one_reading` and
 -- `laws::law_fault_place` of `simple_asn1`.
-use Rattle.std.proofs.Common.{◌≡◌, ℕ, ◌+◌, ◌<◌, ◌^◌, Bool, List, [], ◌∷◌, ◌++◌, inl, inr, length, refl, sym, ap, ◌∙◌, subst, arith, length-append, append_assoc}
-use Rattle.asn1_headers.specs.declared.header.ASN1Class.{ASN1Class}
+use Rattle.std.proofs.Common.{◌≡◌, ℕ, ◌+◌, ◌<◌, ◌^◌, Bool, List, [], ◌++◌, inl, inr, length, refl, sym, ap, ◌∙◌, subst, arith, length-append, append_assoc}
 use Rattle.asn1_headers.specs.declared.header.ASN1Class.TheVariants.{Universal}
 use Rattle.asn1_headers.specs.Fault.{DecodeFault, length_too_large}
-use Rattle.asn1_headers.specs.Header.{Encoding, IsIdentifier, IsLength, length_fault}
+use Rattle.asn1_headers.specs.Header.{BeginsWithNo, Encoding, IsLength, IsSomeIdentifier, length_fault}
 use Rattle.asn1_headers.specs.HeaderFault.{HeaderFault, no_identifier, no_length, too_far, too_long}
 use Rattle.asn1_blocks.specs.Grammar.{IsBlock, AreBlocks, no_blocks, more_blocks, BlocksFaultAt, in_header, in_contents, in_item, FirstFaultAt, FirstFault}
 use Rattle.asn1_blocks.specs.Inner.BlockFault.{BlockFaultAt, at_header, at_leaf, at_item}
 use Rattle.asn1_blocks.specs.Contents.{LeafFault, group_tag}
 use Rattle.asn1_blocks.specs.declared.block.GroupKind.{GroupKind}
 use Rattle.asn1_blocks.proofs.Leaves.{LeafFault-is_leaf_tag, LeafFault-unique, is_leaf_tag-not_group_tag}
-use Rattle.asn1_headers.proofs.Prefixes.{Encoding-unique, IsIdentifier-unique, IsLength-unique}
+use Rattle.asn1_headers.proofs.Prefixes.{BeginsWithNo-append, Encoding-unique, IsIdentifier-unique, IsLength-unique}
 use Rattle.asn1_blocks.proofs.FaultyBlocks.{BlocksFaultAt-faulty_block}
-use Rattle.asn1_blocks.proofs.Faults.{IsBlock-unique, length-contents_le, HeaderFault-not_encoding, BlockFaultAt-not_block, IsLength-first}
+use Rattle.asn1_blocks.proofs.Faults.{IsBlock-unique, length-contents_le, HeaderFault-not_encoding, BlockFaultAt-not_block}
 
--- no identifier and length octets stand where an octet after the identifier octets is missing
-IsLength-not_without_identifier : (octets s l rest : List ℕ) (c : ASN1Class) (k : Bool) (n m : ℕ)
-    → ((s rest : List ℕ) (c : ASN1Class) (k : Bool) (n b : ℕ) → IsIdentifier s c k n → octets ≡ s ++ b ∷ rest → ⊥)
-    → IsIdentifier s c k n → IsLength l m
-    → octets ≡ s ++ (l ++ rest) → ⊥
-IsLength-not_without_identifier octets s l rest c k n m missing t u g =
-    let (a, r, e) = IsLength-first l m u in
-    missing s (r ++ rest) c k n a t (g ∙ ap (λ z. s ++ (z ++ rest)) e)
+-- identifier octets stand at the front in one way
+IsSomeIdentifier-unique : (octets s s' rest rest' : List ℕ) (n n' : ℕ) → IsSomeIdentifier s n → octets ≡ s ++ rest →
+    IsSomeIdentifier s' n' → octets ≡ s' ++ rest' → (s ≡ s') × (rest ≡ rest')
+IsSomeIdentifier-unique octets s s' rest rest' n n' (c, k, t) g (c', k', t') g' =
+    let q = IsIdentifier-unique s s' rest rest' c c' k k' n n' t t' (sym g ∙ g') in (q.octets, q.rest)
 
--- no identifier and length octets stand where there are no length octets
-IsLength-not_without_length : (octets s s' l rest rest' : List ℕ) (b : ℕ) (c c' : ASN1Class) (k k' : Bool)
-    (n n' m : ℕ) →
-    IsIdentifier s c k n
-    → octets ≡ s ++ b ∷ rest
-    → ((l r : List ℕ) (m : ℕ) → IsLength l m → b ∷ rest ≡ l ++ r → ⊥) → IsIdentifier s' c' k' n' → IsLength l m
-    → octets ≡ s' ++ (l ++ rest') → ⊥
-IsLength-not_without_length octets s s' l rest rest' b c c' k k' n n' m t g missing t' u g' =
-    missing l rest' m u (IsIdentifier-unique s s' (b ∷ rest) (l ++ rest') c c' k k' n n' t t' (sym g ∙ g')).rest
+-- no identifier and length octets stand where no length octets follow identifier octets
+IsLength-not_without_length : (octets s s' l rest rest' : List ℕ) (n n' m : ℕ) → IsSomeIdentifier s n →
+    octets ≡ s ++ rest → BeginsWithNo IsLength rest → IsSomeIdentifier s' n' → IsLength l m →
+    octets ≡ s' ++ (l ++ rest') → ⊥
+IsLength-not_without_length octets s s' l rest rest' n n' m t g none t' u g' =
+    BeginsWithNo-append IsLength rest l rest' m none
+    (IsSomeIdentifier-unique octets s s' rest (l ++ rest') n n' t g t' g').1 u
 
 -- two headers at the front of one list are of one size and have one length
-IsLength-same_header : (octets s s' l l' rest rest' : List ℕ) (c c' : ASN1Class) (k k' : Bool) (n n' m m' : ℕ) →
-    IsIdentifier s c k n → IsLength l m
-    → octets ≡ s ++ (l ++ rest) → IsIdentifier s' c' k' n' → IsLength l' m' → octets ≡ s' ++ (l' ++ rest')
-    → (length s + length l ≡ length s' + length l')
-    × (m ≡ m')
-IsLength-same_header octets s s' l l' rest rest' c c' k k' n n' m m' t u g t' u' g' =
-    let q = IsIdentifier-unique s s' (l ++ rest) (l' ++ rest') c c' k k' n n' t t' (sym g ∙ g') in
-    let v = IsLength-unique l l' rest rest' m m' u u' q.rest in
-    (omega (arith, ap length q.octets, ap length v.octets), v.number)
+IsLength-same_header : (octets s s' l l' rest rest' : List ℕ) (n n' m m' : ℕ) → IsSomeIdentifier s n → IsLength l m →
+    octets ≡ s ++ (l ++ rest) → IsSomeIdentifier s' n' → IsLength l' m' → octets ≡ s' ++ (l' ++ rest') →
+    (length s + length l ≡ length s' + length l') × (m ≡ m')
+IsLength-same_header octets s s' l l' rest rest' n n' m m' t u g t' u' g' =
+    let q = IsSomeIdentifier-unique octets s s' (l ++ rest) (l' ++ rest') n n' t g t' g' in
+    let v = IsLength-unique l l' rest rest' m m' u u' q.1 in
+    (omega (arith, ap length q.0, ap length v.octets), v.number)
 
 -- a header has at most one fault
 pub HeaderFault-unique : (offset : ℕ) (octets : List ℕ) (e d : DecodeFault) → HeaderFault offset octets e →
     HeaderFault offset octets d → e ≡ d
 HeaderFault-unique offset octets e d (no_identifier none) (no_identifier none') = refl
-HeaderFault-unique offset octets e d (no_identifier none) (no_length s b r c k n t g shut h) =
-    absurd (none s r c k n b t g)
-HeaderFault-unique offset octets e d (no_identifier none) (too_far s l r c k n m t u g far h) =
-    absurd (IsLength-not_without_identifier octets s l r c k n m none t u g)
-HeaderFault-unique offset octets e d (no_identifier none) (too_long s l r c k n m t u g near long) =
-    absurd (IsLength-not_without_identifier octets s l r c k n m none t u g)
-HeaderFault-unique offset octets e d (no_length s b r c k n t g shut h) (no_identifier none) =
-    absurd (none s r c k n b t g)
-HeaderFault-unique offset octets e d (no_length s b r c k n t g shut h) (no_length s' b' r' c' k' n' t' g' shut' h') =
-    let q = IsIdentifier-unique s s' (b ∷ r) (b' ∷ r') c c' k k' n n' t t' (sym g ∙ g') in
-    h ∙ ap length_fault q.rest ∙ sym h'
-HeaderFault-unique offset octets e d (no_length s b r c k n t g shut h) (too_far s' l r' c' k' n' m t' u g' far h') =
-    absurd (IsLength-not_without_length octets s s' l r r' b c c' k k' n n' m t g shut t' u g')
-HeaderFault-unique offset octets e d (no_length s b r c k n t g shut h)
-    (too_long s' l r' c' k' n' m t' u g' near long) =
-    absurd (IsLength-not_without_length octets s s' l r r' b c c' k k' n n' m t g shut t' u g')
-HeaderFault-unique offset octets e d (too_far s l r c k n m t u g far h) (no_identifier none) =
-    absurd (IsLength-not_without_identifier octets s l r c k n m none t u g)
-HeaderFault-unique offset octets e d (too_far s' l r' c' k' n' m t' u g' far h') (no_length s b r c k n t g shut h) =
-    absurd (IsLength-not_without_length octets s s' l r r' b c c' k k' n n' m t g shut t' u g')
-HeaderFault-unique offset octets e d (too_far s l r c k n m t u g far h)
-    (too_far s' l' r' c' k' n' m' t' u' g' far' h') =
-    h ∙ ap length_too_large (IsLength-same_header octets s s' l l' r r' c c' k k' n n' m m' t u g t' u' g').1 ∙ sym h'
-HeaderFault-unique offset octets e d (too_far s l r c k n m t u g far h)
-    (too_long s' l' r' c' k' n' m' t' u' g' near long) =
-    let q = IsLength-same_header octets s s' l l' r r' c c' k k' n n' m m' t u g t' u' g' in
+HeaderFault-unique offset octets e d (no_identifier none) (no_length s r n t g shut h) =
+    absurd (BeginsWithNo-append IsSomeIdentifier octets s r n none g t)
+HeaderFault-unique offset octets e d (no_identifier none) (too_far s l r n m t u g far h) =
+    absurd (BeginsWithNo-append IsSomeIdentifier octets s (l ++ r) n none g t)
+HeaderFault-unique offset octets e d (no_identifier none) (too_long s l r n m t u g near long) =
+    absurd (BeginsWithNo-append IsSomeIdentifier octets s (l ++ r) n none g t)
+HeaderFault-unique offset octets e d (no_length s r n t g shut h) (no_identifier none) =
+    absurd (BeginsWithNo-append IsSomeIdentifier octets s r n none g t)
+HeaderFault-unique offset octets e d (no_length s r n t g shut h) (no_length s' r' n' t' g' shut' h') =
+    h ∙ ap length_fault (IsSomeIdentifier-unique octets s s' r r' n n' t g t' g').1 ∙ sym h'
+HeaderFault-unique offset octets e d (no_length s r n t g shut h) (too_far s' l r' n' m t' u g' far h') =
+    absurd (IsLength-not_without_length octets s s' l r r' n n' m t g shut t' u g')
+HeaderFault-unique offset octets e d (no_length s r n t g shut h) (too_long s' l r' n' m t' u g' near long) =
+    absurd (IsLength-not_without_length octets s s' l r r' n n' m t g shut t' u g')
+HeaderFault-unique offset octets e d (too_far s l r n m t u g far h) (no_identifier none) =
+    absurd (BeginsWithNo-append IsSomeIdentifier octets s (l ++ r) n none g t)
+HeaderFault-unique offset octets e d (too_far s' l r' n' m t' u g' far h') (no_length s r n t g shut h) =
+    absurd (IsLength-not_without_length octets s s' l r r' n n' m t g shut t' u g')
+HeaderFault-unique offset octets e d (too_far s l r n m t u g far h) (too_far s' l' r' n' m' t' u' g' far' h') =
+    h ∙ ap length_too_large (IsLength-same_header octets s s' l l' r r' n n' m m' t u g t' u' g').1 ∙ sym h'
+HeaderFault-unique offset octets e d (too_far s l r n m t u g far h) (too_long s' l' r' n' m' t' u' g' near long) =
+    let q = IsLength-same_header octets s s' l l' r r' n n' m m' t u g t' u' g' in
     absurd (omega (arith, far, near, q.0, q.1))
-HeaderFault-unique offset octets e d (too_long s l r c k n m t u g near long) (no_identifier none) =
-    absurd (IsLength-not_without_identifier octets s l r c k n m none t u g)
-HeaderFault-unique offset octets e d (too_long s' l r' c' k' n' m t' u g' near long)
-    (no_length s b r c k n t g shut h) =
-    absurd (IsLength-not_without_length octets s s' l r r' b c c' k k' n n' m t g shut t' u g')
-HeaderFault-unique offset octets e d (too_long s l r c k n m t u g near long)
-    (too_far s' l' r' c' k' n' m' t' u' g' far h) =
-    let q = IsLength-same_header octets s s' l l' r r' c c' k k' n n' m m' t u g t' u' g' in
+HeaderFault-unique offset octets e d (too_long s l r n m t u g near long) (no_identifier none) =
+    absurd (BeginsWithNo-append IsSomeIdentifier octets s (l ++ r) n none g t)
+HeaderFault-unique offset octets e d (too_long s' l r' n' m t' u g' near long) (no_length s r n t g shut h) =
+    absurd (IsLength-not_without_length octets s s' l r r' n n' m t g shut t' u g')
+HeaderFault-unique offset octets e d (too_long s l r n m t u g near long) (too_far s' l' r' n' m' t' u' g' far h) =
+    let q = IsLength-same_header octets s s' l l' r r' n n' m m' t u g t' u' g' in
     absurd (omega (arith, far, near, q.0, q.1))
-HeaderFault-unique offset octets e d (too_long s l r c k n m t u g near long)
-    (too_long s' l' r' c' k' n' m' t' u' g' near' long') = refl
+HeaderFault-unique offset octets e d (too_long s l r n m t u g near long)
+    (too_long s' l' r' n' m' t' u' g' near' long') = refl
 
 -- where there are no octets, no block is at fault
 pub BlocksFaultAt-not_empty : (octets : List ℕ) (e : DecodeFault) (o : ℕ) → BlocksFaultAt octets e o → octets ≡ [] → ⊥

@@ -22,7 +22,7 @@ module _ (rest : List ℕ) (size announced : ℕ) (class : ASN1Class) (construct
   pub HeaderFault-too_far : (before offset : ℕ) → before ≡ offset + size → 2 ^ 64 ≤ before + announced →
       HeaderFault offset rest (length_too_large announced)
   HeaderFault-too_far before offset e far =
-      too_far front.identifier front.len (drop size rest) class constructed tag announced front.fields
+      too_far front.identifier front.len (drop size rest) tag announced (class, constructed, front.fields)
       front.length_octets (append-header_parts rest size announced class constructed tag front)
       (omega (arith, e, length-header_parts rest size announced class constructed tag front, far)) refl
 
@@ -31,7 +31,7 @@ module _ (rest : List ℕ) (size announced : ℕ) (class : ASN1Class) (construct
       length rest - size < announced
       → HeaderFault offset rest incomplete
   HeaderFault-too_long before offset e near long =
-      too_long front.identifier front.len (drop size rest) class constructed tag announced front.fields
+      too_long front.identifier front.len (drop size rest) tag announced (class, constructed, front.fields)
       front.length_octets (append-header_parts rest size announced class constructed tag front)
       (omega (arith, e, length-header_parts rest size announced class constructed tag front, near))
       (omega (arith, length-drop size rest, long))

@@ -1,5 +1,5 @@
 -- What is taken out of a tree: its tag number, what it holds, its value, and its blocks in order.
-use Rattle.std.specs.Prelude.{ℕ, ℤ, Bool, List, [], ◌∷◌, ◌++◌, Option, Some, None}
+use Rattle.std.specs.Prelude.{ℕ, ℤ, Bool, List, [], ◌∷◌, ◌++◌, Option, Some, None, option_and_then}
 use Rattle.asn1_blocks.specs.Contents.{leaf_tag, group_tag}
 use Rattle.asn1_leaves.specs.Contents.Moment.{Moment}
 use Rattle.asn1_blocks.specs.Tree.{Leaf, Tree, Trees, bit_string, boolean, explicit, generalized_time, group, integer, leaf, more_trees, no_trees, object_identifier, octet_string, text, unknown, utc_time}
@@ -18,16 +18,20 @@ tree_items (group o g bs) = Some bs
 tree_items (explicit class o tag b) = Some (more_trees b no_trees)
 tree_items (unknown class constructed o tag contents) = None
 
+-- the leaf that a tree is
+abbrev pub tree_leaf : {O : Type 0} → Tree O → Option Leaf
+tree_leaf (leaf o l) = Some l
+tree_leaf (group o g bs) = None
+tree_leaf (explicit class o tag b) = None
+tree_leaf (unknown class constructed o tag contents) = None
+
 abbrev pub leaf_text : Leaf → Option (List ℕ)
 leaf_text (text kind characters) = Some characters
 leaf_text l = None
 
 -- the characters of a string, of whatever kind
 abbrev pub tree_text : {O : Type 0} → Tree O → Option (List ℕ)
-tree_text (leaf o l) = leaf_text l
-tree_text (group o g bs) = None
-tree_text (explicit class o tag b) = None
-tree_text (unknown class constructed o tag contents) = None
+tree_text b = option_and_then leaf_text (tree_leaf b)
 
 abbrev pub leaf_integer : Leaf → Option ℤ
 leaf_integer (integer number) = Some number
@@ -35,10 +39,7 @@ leaf_integer l = None
 
 -- the number of an INTEGER
 abbrev pub tree_integer : {O : Type 0} → Tree O → Option ℤ
-tree_integer (leaf o l) = leaf_integer l
-tree_integer (group o g bs) = None
-tree_integer (explicit class o tag b) = None
-tree_integer (unknown class constructed o tag contents) = None
+tree_integer b = option_and_then leaf_integer (tree_leaf b)
 
 abbrev pub leaf_octets : Leaf → Option (List ℕ)
 leaf_octets (octet_string octets) = Some octets
@@ -46,10 +47,7 @@ leaf_octets l = None
 
 -- the octets of an OCTET STRING
 abbrev pub tree_octets : {O : Type 0} → Tree O → Option (List ℕ)
-tree_octets (leaf o l) = leaf_octets l
-tree_octets (group o g bs) = None
-tree_octets (explicit class o tag b) = None
-tree_octets (unknown class constructed o tag contents) = None
+tree_octets b = option_and_then leaf_octets (tree_leaf b)
 
 abbrev pub leaf_boolean : Leaf → Option Bool
 leaf_boolean (boolean value) = Some value
@@ -57,8 +55,7 @@ leaf_boolean _ = None
 
 -- the value of a BOOLEAN
 abbrev pub tree_boolean : {O : Type 0} → Tree O → Option Bool
-tree_boolean (leaf o l) = leaf_boolean l
-tree_boolean _ = None
+tree_boolean b = option_and_then leaf_boolean (tree_leaf b)
 
 abbrev pub leaf_bits : Leaf → Option (ℕ × List ℕ)
 leaf_bits (bit_string count octets) = Some (count, octets)
@@ -66,8 +63,7 @@ leaf_bits _ = None
 
 -- the number of bits of a BIT STRING, and the octets that hold them
 abbrev pub tree_bits : {O : Type 0} → Tree O → Option (ℕ × List ℕ)
-tree_bits (leaf o l) = leaf_bits l
-tree_bits _ = None
+tree_bits b = option_and_then leaf_bits (tree_leaf b)
 
 abbrev pub leaf_oid : Leaf → Option (List ℕ)
 leaf_oid (object_identifier components) = Some components
@@ -75,8 +71,7 @@ leaf_oid _ = None
 
 -- the components of an OBJECT IDENTIFIER
 abbrev pub tree_oid : {O : Type 0} → Tree O → Option (List ℕ)
-tree_oid (leaf o l) = leaf_oid l
-tree_oid _ = None
+tree_oid b = option_and_then leaf_oid (tree_leaf b)
 
 abbrev pub leaf_moment : Leaf → Option Moment
 leaf_moment (utc_time moment) = Some moment
@@ -85,8 +80,7 @@ leaf_moment _ = None
 
 -- the moment of a UTCTime or GeneralizedTime
 abbrev pub tree_moment : {O : Type 0} → Tree O → Option Moment
-tree_moment (leaf o l) = leaf_moment l
-tree_moment _ = None
+tree_moment b = option_and_then leaf_moment (tree_leaf b)
 
 abbrev mutual
   -- the tree, and then those that it holds, each followed by its own

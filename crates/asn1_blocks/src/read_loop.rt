@@ -137,6 +137,14 @@ pub struct Reader<B, I> {
     pub fault: ASN1DecodeErr,
 }
 
+// Where a turn of a loop over headers leads: there is more to do, the octets have ended, or the loop stops before that.
+#[derive(Clone, Copy)]
+pub enum Turn {
+    More,
+    End,
+    Stop,
+}
+
 // Room for so many frames is made at once: few documents have more that stand in one another.
 const RESERVED: usize = 8;
 

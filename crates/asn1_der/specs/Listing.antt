@@ -3,7 +3,7 @@ use Rattle.std.specs.Prelude.{◌≡◌, ◌≢◌, ◌&&◌, ◌⊎◌, ◌++�
 use Rattle.asn1_headers.specs.Fault.{DecodeFault}
 use Rattle.asn1_headers.specs.Indefinite.{begins_with_end}
 use Rattle.asn1_der.specs.Departures.{AreEncodings, HeaderFaultBehind, Lists, listed}
-use Rattle.asn1_der.specs.Steps.{work_left}
+use Rattle.asn1_blocks.specs.Inner.ReaderSteps.{work_left}
 use Rattle.asn1_der.specs.declared.rule.Departure.{Departure}
 use Rattle.asn1_der.specs.declared.rule.Rule.TheVariants.{NotEncodings}
 use Rattle.asn1_der.specs.declared.listing.Extent.{Extent}
@@ -58,7 +58,8 @@ ListsAll octets place found all = Completes octets place.index (extents_of place
 pub record GoesOnListing (octets : List ℕ) (old new : Place) (found_old found_new : List Departure) : Type 0 where
   pub placed : HasExtents octets new found_new
   pub all : (all : List Departure) → ListsAll octets new found_new all → ListsAll octets old found_old all
-  pub fewer : work_left octets new.index new.outer.items < work_left octets old.index old.outer.items
+  pub fewer : work_left (length octets) new.index new.outer.items
+      < work_left (length octets) old.index old.outer.items
 
 abbrev pub HasListed : List ℕ → Bool → Place → Place → List Departure → List Departure → Type 0
 HasListed octets true old new found_old found_new = GoesOnListing octets old new found_old found_new

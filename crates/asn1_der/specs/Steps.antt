@@ -1,5 +1,5 @@
 -- What is found step by step. Private contracts alone name these.
-use Rattle.std.specs.Prelude.{◌≡◌, ◌++◌, ◌+◌, ◌*◌, ◌-◌, ◌≤◌, ℕ, Bool, true, List, [], ◌∷◌, length, slice_range, Option, None, Some}
+use Rattle.std.specs.Prelude.{◌≡◌, ◌++◌, ◌+◌, ◌-◌, ◌≤◌, ℕ, Bool, true, List, [], ◌∷◌, length, slice_range, Option, None, Some}
 use Rattle.asn1_numbers.specs.Octets.{AreOctets}
 use Rattle.asn1_headers.specs.Header.{IsIdentifier, IsLength, IsSomeIdentifier, shortest_identifier, shortest_length}
 use Rattle.asn1_headers.specs.Indefinite.{is_indefinite}
@@ -22,10 +22,6 @@ AreDerUpTo octets index (end ∷ ends) = AreDer (slice_range octets index end) �
 abbrev pub AreEnds : ℕ → List ℕ → ℕ → Type 0
 AreEnds index [] whole = index ≡ whole
 AreEnds index (end ∷ ends) whole = (index ≤ end) × AreEnds end ends whole
-
--- a measure of what a loop has left to do at the index: an encoding that is opened takes two octets
-abbrev pub work_left : {A : Type 0} → List ℕ → ℕ → List A → ℕ
-work_left octets index outer = 2 * (length octets - index) + length outer
 
 -- what is asked of an encoding beside its items
 abbrev pub IsDerAlone : List ℕ → ASN1Class → Bool → ℕ → List ℕ → Type 0

@@ -6,7 +6,7 @@ ghost use Rattle.asn1_der.specs.Turns.{HasChecked, HasEnds};
 
 use crate::header_rules::is_der_alone;
 use asn1_blocks::parsed::{PlacedHeader, header_within};
-use asn1_blocks::read_loop::is_out_of_memory;
+use asn1_blocks::read_loop::{Turn, is_out_of_memory};
 use asn1_headers::header::HeaderCount;
 use std::alloc::{AllocError, Global};
 
@@ -62,13 +62,6 @@ struct Place {
     index: usize,
     end: usize,
     outer: Vec<usize>,
-}
-
-#[derive(Clone, Copy, Drop)]
-enum Turn {
-    More,
-    End,
-    Stop,
 }
 
 // Looks at one encoding beside its items, or closes one at its end.

@@ -1,27 +1,25 @@
 -- The header at the front of octets, or that there is none, for `whole_header::any_header` and
 -- `whole_header::short_header`.
-use Rattle.std.proofs.Common.{◌≡◌, ◌&&◌, ℕ, zero, suc, ◌+◌, ◌-◌, ◌%◌, ◌<◌, ◌≤◌, Bool, List, [], ◌∷◌, ◌++◌, inl, inr, length, take, drop, refl, sym, ap, ◌∙◌, subst, arith, append_assoc, length-append}
+use Rattle.std.proofs.Common.{◌≡◌, ◌&&◌, ℕ, zero, suc, ◌+◌, ◌-◌, ◌%◌, ◌<◌, ◌≤◌, Bool, List, [], ◌∷◌, ◌++◌, inl, inr, length, take, drop, sym, ap, ◌∙◌, subst, arith, append_assoc, length-append}
 use Rattle.std.specs.List.{slice_range}
-use Rattle.std.proofs.lemmas.List.{drop_at, length-take-le, take-append-drop, take_at}
+use Rattle.std.proofs.lemmas.List.{drop_at, length-take-le, take-append-drop}
 use Rattle.asn1_headers.specs.declared.error.ASN1DecodeErr.{ASN1DecodeErr}
 use Rattle.asn1_headers.specs.declared.header.ASN1Class.{ASN1Class}
-use Rattle.asn1_headers.specs.Fault.{DecodeFault, OutOfMemoryOr}
+use Rattle.asn1_headers.specs.Fault.{OutOfMemoryOr}
 use Rattle.asn1_headers.specs.declared.whole_header.Header.{Header}
 use Rattle.asn1_headers.specs.Front.{BeginsWithHeader, HasNoHeader, KnowsParts}
 use Rattle.asn1_headers.specs.Indefinite.{is_indefinite}
 use Rattle.asn1_headers.proofs.HeaderSizes.{is_indefinite-append}
-use Rattle.asn1_headers.specs.Header.{BeginsWithNo, IsIdentifier, IsIncomplete, IsLength, IsSomeIdentifier, length_fault}
-use Rattle.asn1_headers.specs.HeaderFault.{HeaderFault, no_identifier, no_length}
-use Rattle.asn1_headers.proofs.Prefixes.{IsIdentifier-unique}
+use Rattle.asn1_headers.specs.Header.{BeginsWithNo, IsIdentifier, IsIncomplete, IsLength, IsSomeIdentifier}
+use Rattle.asn1_headers.specs.HeaderFault.{HeaderFault, no_identifier}
+use Rattle.asn1_headers.proofs.Prefixes.{BeginsWithNo-append, IsIdentifier-unique}
 
 -- what begins with no identifier octets begins with no header
 pub HasNoHeader-no_identifier : (octets : List ℕ) → BeginsWithNo IsSomeIdentifier octets → HasNoHeader octets
 HasNoHeader-no_identifier octets none header rest (identifier, len, is, (tag, i), l) q =
     let whole : octets ≡ identifier ++ (len ++ rest) =
     q ∙ (ap (λ z. z ++ rest) is ∙ append_assoc identifier len rest) in
-    let e : take (length identifier) octets ≡ identifier =
-    ap (take (length identifier)) whole ∙ take_at identifier (len ++ rest) (length identifier) refl in
-    none tag (length identifier) (subst (λ z. IsSomeIdentifier z tag) (sym e) i)
+    BeginsWithNo-append IsSomeIdentifier octets identifier (len ++ rest) tag none whole i
 
 -- octets that have no length octets behind their identifier octets begin with no header
 pub HasNoHeader-no_length :
@@ -36,9 +34,7 @@ HasNoHeader-no_length octets s m fits (c, j, found) none header rest (identifier
     IsIdentifier-unique (take s octets) identifier (drop s octets) (len ++ rest) c d j k m tag found i parts in
     let size : length identifier ≡ s = sym (ap length same.octets) ∙ length-take-le s octets fits in
     let behind : drop s octets ≡ len ++ rest = ap (drop s) whole ∙ drop_at identifier (len ++ rest) s size in
-    let e : take (length len) (drop s octets) ≡ len =
-    ap (take (length len)) behind ∙ take_at len rest (length len) refl in
-    none n (length len) (subst (λ z. IsLength z n) (sym e) l)
+    BeginsWithNo-append IsLength (drop s octets) len rest n none behind l
 
 -- where octets begin with no identifier octets, their header is at fault
 pub HeaderFault-no_identifier : (place : ℕ) (octets : List ℕ) (e : ASN1DecodeErr)
@@ -46,23 +42,7 @@ pub HeaderFault-no_identifier : (place : ℕ) (octets : List ℕ) (e : ASN1Decod
     → OutOfMemoryOr (HeaderFault place octets) e
 HeaderFault-no_identifier place octets e (inl memory) = inl memory
 HeaderFault-no_identifier place octets e (inr (f, missing)) =
-    inr (subst (HeaderFault place octets) (sym f) (no_identifier (λ s rest c k n b t d. missing n (length s) (
-      c,
-      k,
-      subst (λ l. IsIdentifier l c k n) (sym (ap (take (length s)) d ∙ take_at s (b ∷ rest) (length s) refl)) t,
-    ))))
-
--- where no length octets stand behind identifier octets, the header is at fault
-pub HeaderFault-no_length : (place : ℕ) (octets s rest : List ℕ) (c : ASN1Class) (k : Bool) (n : ℕ) (e : DecodeFault)
-    → IsIdentifier s c k n → octets ≡ s ++ rest
-    → ((m j : ℕ) → IsLength (take j rest) m → ⊥) → e ≡ length_fault rest → HeaderFault place octets e
-HeaderFault-no_length place octets s [] c k n e t d missing h =
-    subst (HeaderFault place octets) (sym h)
-    (no_identifier (λ s' r c' k' n' b t' d'. let q = IsIdentifier-unique s s' [] (b ∷ r) c c' k k' n n' t t'
-    (sym d ∙ d') in let f : [] ≡ b ∷ r = q.rest in cc))
-HeaderFault-no_length place octets s (b ∷ rest) c k n e t d missing h =
-    no_length s b rest c k n t d (λ l r m u f. missing m (length l)
-    (subst (λ z. IsLength z m) (sym (ap (take (length l)) f ∙ take_at l r (length l) refl)) u)) h
+    inr (subst (HeaderFault place octets) (sym f) (no_identifier missing))
 
 -- identifier octets up to an index stand at the front
 pub IsIdentifier-take : (octets : List ℕ) (index : ℕ) (c : ASN1Class) (k : Bool) (n : ℕ)

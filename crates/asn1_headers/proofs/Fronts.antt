@@ -10,7 +10,7 @@ use Rattle.asn1_headers.specs.Fault.{DecodeFault, incomplete, length_too_large}
 use Rattle.asn1_numbers.specs.Base128.{IsBase128, IsContinued, low_bits_number}
 use Rattle.asn1_headers.specs.Header.{Encoding, IsIdentifier, IsLength, class_number, constructed_bit, leading_octet, length_fault}
 use Rattle.asn1_headers.specs.HeaderFault.{HeaderFault, no_identifier, no_length, too_far, too_long}
-use Rattle.asn1_headers.proofs.Prefixes.{IsIdentifier-unique, append_assoc-four, constructed_bit-lt, IsIdentifier-not_empty}
+use Rattle.asn1_headers.proofs.Prefixes.{append_assoc-four, constructed_bit-lt, IsIdentifier-not_empty}
 
 -- the octets begin with continued octets, or bit 8 is set in all
 data ContinuedFront (octets : List ℕ) : Type 0 where
@@ -202,9 +202,9 @@ EncodingFront-rest : (place : ℕ) (octets s l rest : List ℕ) (c : ASN1Class) 
     → octets ≡ s ++ (l ++ rest)
     → EncodingFront place octets
 EncodingFront-rest place octets s l rest c k n m t u g = elim (cases_lt (place + (length s + length l) + m) (2 ^ 64)) [
-  | inr far ↦ begins_not (length_too_large m) (too_far s l rest c k n m t u g far refl)
+  | inr far ↦ begins_not (length_too_large m) (too_far s l rest n m (c, k, t) u g far refl)
   | inl near ↦ elim (cases_lt (length rest) m) [
-    | inl long ↦ begins_not incomplete (too_long s l rest c k n m t u g near long)
+    | inl long ↦ begins_not incomplete (too_long s l rest n m (c, k, t) u g near long)
     | inr enough ↦ begins (s ++ (l ++ take m rest)) (drop m rest) c k n (take m rest) (length s + length l)
         (record {
           identifier = s;
@@ -223,17 +223,16 @@ EncodingFront-rest place octets s l rest c k n m t u g = elim (cases_lt (place +
 EncodingFront-length : (place : ℕ) (octets s rest : List ℕ) (c : ASN1Class) (k : Bool) (n : ℕ) → IsIdentifier s c k n
     → octets ≡ s ++ rest
     → EncodingFront place octets
-EncodingFront-length place octets s [] c k n t g = begins_not incomplete (no_identifier (λ s' rest c' k' n' b t' g'.
-    let q = IsIdentifier-unique s s' [] (b ∷ rest) c c' k k' n n' t t' (sym g ∙ g') in
-    omega (arith, ap length q.rest)))
-EncodingFront-length place octets s (b ∷ rest) c k n t g = elim (LengthFront-total (b ∷ rest)) [
-  | not_measured none ↦ begins_not (length_fault (b ∷ rest)) (no_length s b rest c k n t g none refl)
+EncodingFront-length place octets s rest c k n t g = elim (LengthFront-total rest) [
+  | not_measured none ↦ begins_not (length_fault rest) (no_length s rest n (c, k, t) g
+      (λ m j l. none (take j rest) (drop j rest) m l (sym (take-append-drop j rest))) refl)
   | measured l r m u e ↦ EncodingFront-rest place octets s l r c k n m t u (g ∙ ap (λ z. s ++ z) e)
 ]
 
 -- an encoding stands at the front of octets, or their header is at fault
 pub EncodingFront-total : (place : ℕ) (octets : List ℕ) → EncodingFront place octets
 EncodingFront-total place octets = elim (IdentifierFront-total octets) [
-  | not_identified none ↦ begins_not incomplete (no_identifier (λ s rest c k n b t g. none s (b ∷ rest) c k n t g))
+  | not_identified none ↦ begins_not incomplete (no_identifier
+      (λ n j (c, k, t). none (take j octets) (drop j octets) c k n t (sym (take-append-drop j octets))))
   | identified s rest c k n t g ↦ EncodingFront-length place octets s rest c k n t g
 ]

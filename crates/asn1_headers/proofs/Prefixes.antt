@@ -1,11 +1,18 @@
 -- No identifier octets, length octets or encoding begin others, for all that reads headers or encodings.
-use Rattle.std.proofs.Common.{◌≡◌, ℕ, zero, suc, ◌+◌, ◌<◌, Bool, true, false, List, [], ◌∷◌, ◌++◌, inl, inr, length, refl, sym, ap, ◌∙◌, arith, append_assoc, length-append, drop, take}
+use Rattle.std.proofs.Common.{◌≡◌, ℕ, zero, suc, ◌+◌, ◌<◌, Bool, true, false, List, [], ◌∷◌, ◌++◌, inl, inr, length, refl, sym, ap, ◌∙◌, subst, arith, append_assoc, length-append, drop, take}
 use Rattle.std.specs.Int.Digits.{number_from_digits}
 use Rattle.asn1_headers.specs.declared.header.ASN1Class.{ASN1Class}
 use Rattle.asn1_headers.specs.declared.header.ASN1Class.TheVariants.{Universal, Application, ContextSpecific, Private}
 use Rattle.asn1_numbers.specs.Base128.{IsBase128, IsContinued, low_bits_number}
-use Rattle.asn1_headers.specs.Header.{IsIdentifier, IsLength, IsSomeIdentifier, Encoding, class_number, constructed_bit, leading_octet}
+use Rattle.asn1_headers.specs.Header.{BeginsWithNo, IsIdentifier, IsLength, IsSomeIdentifier, Encoding, class_number, constructed_bit, leading_octet}
 use Rattle.std.proofs.lemmas.List.{drop_at, take-append-drop, take_at}
+
+-- octets that begin with none that have a meaning do not begin with some that have it
+pub BeginsWithNo-append : (Means : List ℕ → ℕ → Type 0) (octets s rest : List ℕ) (n : ℕ) → BeginsWithNo Means octets
+    → octets ≡ s ++ rest → Means s n → ⊥
+BeginsWithNo-append Means octets s rest n none e means =
+    none n (length s)
+    (subst (λ z. Means z n) (sym (ap (take (length s)) e ∙ take_at s rest (length s) refl)) means)
 
 -- identifier octets are not empty
 pub IsIdentifier-not_empty : (s : List ℕ) (c : ASN1Class) (k : Bool) (n : ℕ) → IsIdentifier s c k n → 0 < length s

@@ -1,7 +1,7 @@
 -- An entry's contents octets mean the value of its tree, for the methods of `BlockRef`, and for `asn1_records`.
 use Rattle.std.proofs.Common.{◌≡◌, ℕ, ◌+◌, ◌<◌, ◌≤◌, ◌^◌, ◌⊎◌, ◌++◌, Bool, true, false, ◌-◌, List, [], Some, None, inl, inr, drop, get_or, length, take, refl, sym, ap, subst, ◌∙◌, arith, append_assoc, length-append}
 use Rattle.std.specs.List.{list_all, slice_range}
-use Rattle.std.specs.Prelude.{◌==◌, ◌&&◌, if◌then◌else◌, Option, MatchOption}
+use Rattle.std.specs.Prelude.{◌==◌, ◌&&◌, if◌then◌else◌, Option, MatchOption, option_and_then}
 use Rattle.std.proofs.lemmas.Bool.{cases_Bool, cases_lt, false≢true, or_cases}
 use Rattle.std.proofs.lemmas.Bool.Decides.{nat_tests}
 use Rattle.std.proofs.lemmas.List.{length-drop, take-append-drop, take_at}
@@ -11,7 +11,7 @@ use Rattle.asn1_headers.specs.declared.header.ASN1Class.{ASN1Class}
 use Rattle.asn1_headers.specs.declared.header.ASN1Class.TheVariants.{Application, ContextSpecific, Private, Universal}
 use Rattle.asn1_headers.proofs.Prefixes.{SameEncoding, Encoding-unique, Encoding-not_empty, IsIdentifier-unique}
 use Rattle.asn1_leaves.specs.StringKind.{StringKind}
-use Rattle.asn1_blocks.specs.BlockParts.{tree_bits, tree_boolean, tree_integer, tree_moment, tree_octets, tree_oid, tree_tag, tree_text}
+use Rattle.asn1_blocks.specs.BlockParts.{leaf_bits, leaf_boolean, leaf_integer, leaf_moment, leaf_octets, leaf_oid, tree_bits, tree_boolean, tree_integer, tree_leaf, tree_moment, tree_octets, tree_oid, tree_tag, tree_text}
 use Rattle.asn1_blocks.specs.Contents.{LeafContents, LeafFault, group_tag, is_known_tag, is_leaf_tag, leaf_tag, of_generalized_time, of_text, of_utc_time, string_tag}
 use Rattle.asn1_blocks.specs.Inner.LeafBlocks.{IsLeafOf}
 use Rattle.asn1_blocks.proofs.Leaves.{is_known_tag-group_tag, LeafContents-unique, is_known_tag-leaf_tag, LeafContents-no_fault, is_leaf_tag-leaf_tag, is_known_tag-is_leaf_tag, is_leaf_tag-not_group_tag, string_tag-lt, is_known_tag-unknown}
@@ -273,45 +273,53 @@ IsNoLeafWith-entry x b r n e small other o l is tag =
     let number : c.tag ≡ n = sym z.tag ∙ tag in
     other (sym z.class, c.number.0 (omega (arith, number, small)) ∙ number)
 
+-- a tree has no value of a leaf that it is not
+pub tree_leaf-none : {A : Type 0} (value : Leaf → Option A) (b : Tree ℕ)
+    → ((o : ℕ) (l : Leaf) → b ≡ leaf o l → value l ≡ None) → option_and_then value (tree_leaf b) ≡ None
+tree_leaf-none value (leaf o l) none = none o l refl
+tree_leaf-none value (group o g bs) none = refl
+tree_leaf-none value (explicit c o n b) none = refl
+tree_leaf-none value (unknown c k o n v) none = refl
+
 -- a tree that is no leaf with the tag number of BOOLEAN is no BOOLEAN
 pub tree_boolean-none : (b : Tree ℕ) → IsNoLeafWith 1 b → tree_boolean b ≡ None
-tree_boolean-none (leaf o (boolean v)) other = absurd (other o (boolean v) refl refl)
-tree_boolean-none (leaf o l) other = refl
-tree_boolean-none (group o g bs) other = refl
-tree_boolean-none (explicit c o n b) other = refl
-tree_boolean-none (unknown c k o n v) other = refl
+tree_boolean-none b other = tree_leaf-none leaf_boolean b (λ o l is. leaf_boolean-none l (other o l is))
+  where
+    leaf_boolean-none : (l : Leaf) → (leaf_tag l ≡ 1 → ⊥) → leaf_boolean l ≡ None
+    leaf_boolean-none (boolean v) other = absurd (other refl)
+    leaf_boolean-none l other = refl
 
 -- a tree that is no leaf with the tag number of INTEGER is no INTEGER
 pub tree_integer-none : (b : Tree ℕ) → IsNoLeafWith 2 b → tree_integer b ≡ None
-tree_integer-none (leaf o (integer n)) other = absurd (other o (integer n) refl refl)
-tree_integer-none (leaf o l) other = refl
-tree_integer-none (group o g bs) other = refl
-tree_integer-none (explicit c o n b) other = refl
-tree_integer-none (unknown c k o n v) other = refl
+tree_integer-none b other = tree_leaf-none leaf_integer b (λ o l is. leaf_integer-none l (other o l is))
+  where
+    leaf_integer-none : (l : Leaf) → (leaf_tag l ≡ 2 → ⊥) → leaf_integer l ≡ None
+    leaf_integer-none (integer n) other = absurd (other refl)
+    leaf_integer-none l other = refl
 
 -- a tree that is no leaf with the tag number of BIT STRING has no bits of one
 pub tree_bits-none : (b : Tree ℕ) → IsNoLeafWith 3 b → tree_bits b ≡ None
-tree_bits-none (leaf o (bit_string n v)) other = absurd (other o (bit_string n v) refl refl)
-tree_bits-none (leaf o l) other = refl
-tree_bits-none (group o g bs) other = refl
-tree_bits-none (explicit c o n b) other = refl
-tree_bits-none (unknown c k o n v) other = refl
+tree_bits-none b other = tree_leaf-none leaf_bits b (λ o l is. leaf_bits-none l (other o l is))
+  where
+    leaf_bits-none : (l : Leaf) → (leaf_tag l ≡ 3 → ⊥) → leaf_bits l ≡ None
+    leaf_bits-none (bit_string n v) other = absurd (other refl)
+    leaf_bits-none l other = refl
 
 -- a tree that is no leaf with the tag number of OBJECT IDENTIFIER has no components of one
 pub tree_oid-none : (b : Tree ℕ) → IsNoLeafWith 6 b → tree_oid b ≡ None
-tree_oid-none (leaf o (object_identifier ns)) other = absurd (other o (object_identifier ns) refl refl)
-tree_oid-none (leaf o l) other = refl
-tree_oid-none (group o g bs) other = refl
-tree_oid-none (explicit c o n b) other = refl
-tree_oid-none (unknown c k o n v) other = refl
+tree_oid-none b other = tree_leaf-none leaf_oid b (λ o l is. leaf_oid-none l (other o l is))
+  where
+    leaf_oid-none : (l : Leaf) → (leaf_tag l ≡ 6 → ⊥) → leaf_oid l ≡ None
+    leaf_oid-none (object_identifier ns) other = absurd (other refl)
+    leaf_oid-none l other = refl
 
 -- a tree that is no leaf with the tag number of OCTET STRING has no octets of one
 pub tree_octets-none : (b : Tree ℕ) → IsNoLeafWith 4 b → tree_octets b ≡ None
-tree_octets-none (leaf o (octet_string v)) other = absurd (other o (octet_string v) refl refl)
-tree_octets-none (leaf o l) other = refl
-tree_octets-none (group o g bs) other = refl
-tree_octets-none (explicit c o n b) other = refl
-tree_octets-none (unknown c k o n v) other = refl
+tree_octets-none b other = tree_leaf-none leaf_octets b (λ o l is. leaf_octets-none l (other o l is))
+  where
+    leaf_octets-none : (l : Leaf) → (leaf_tag l ≡ 4 → ⊥) → leaf_octets l ≡ None
+    leaf_octets-none (octet_string v) other = absurd (other refl)
+    leaf_octets-none l other = refl
 
 -- a leaf with the tag number of OCTET STRING has its contents octets as octets
 pub tree_octets-leaf : (o : ℕ) (v : List ℕ) (b : Tree ℕ) → IsLeafOf o 4 v b → tree_octets b ≡ Some v
@@ -442,12 +450,14 @@ tree_ascii_text-not_ascii x (explicit c o n b) r e other = refl
 
 -- a tree that is no leaf with the tag number of UTCTime or GeneralizedTime has no moment
 pub tree_moment-none : (b : Tree ℕ) → IsNoLeafWith UTC_TIME b → IsNoLeafWith GENERALIZED_TIME b → tree_moment b ≡ None
-tree_moment-none (leaf o (utc_time m)) other more = absurd (other o (utc_time m) refl refl)
-tree_moment-none (leaf o (generalized_time m)) other more = absurd (more o (generalized_time m) refl refl)
-tree_moment-none (leaf o l) other more = refl
-tree_moment-none (group o g bs) other more = refl
-tree_moment-none (explicit c o n b) other more = refl
-tree_moment-none (unknown c k o n v) other more = refl
+tree_moment-none b other more =
+    tree_leaf-none leaf_moment b (λ o l is. leaf_moment-none l (other o l is) (more o l is))
+  where
+    leaf_moment-none : (l : Leaf) → (leaf_tag l ≡ UTC_TIME → ⊥) → (leaf_tag l ≡ GENERALIZED_TIME → ⊥)
+        → leaf_moment l ≡ None
+    leaf_moment-none (utc_time m) other more = absurd (other refl)
+    leaf_moment-none (generalized_time m) other more = absurd (more refl)
+    leaf_moment-none l other more = refl
 
 -- the tree of an entry of no UTCTime or GeneralizedTime has no moment
 pub tree_moment-no_time : (x : List ℕ) (b : Tree ℕ) (r : Entry) → IsEntryOf x b r →

@@ -14,7 +14,7 @@ use Rattle.asn1_blocks.specs.declared.read_loop.FrameKind.{FrameKind}
 use Rattle.asn1_blocks.specs.declared.read_loop.FrameKind.TheVariants.{Whole, Group, Attempt}
 use Rattle.asn1_blocks.specs.declared.read_loop.OpenFrame.{OpenFrame}
 use Rattle.asn1_blocks.specs.declared.read_loop.Reader.{Reader}
-use Rattle.asn1_outline.specs.declared.header_walk.Turn.{Turn}
+use Rattle.asn1_blocks.specs.declared.read_loop.Turn.{Turn}
 use Rattle.asn1_blocks.proofs.Frames.Advances.{FramePlaces}
 use Rattle.asn1_blocks.proofs.Reader.Popping.{reverse-append_last}
 use Rattle.asn1_outline.specs.Listing.{KeepsOf, with_items_at, with_items}

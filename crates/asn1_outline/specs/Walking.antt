@@ -10,8 +10,8 @@ use Rattle.asn1_blocks.specs.Places.{HeaderFound}
 use Rattle.asn1_blocks.specs.declared.parsed.PlacedHeader.{PlacedHeader}
 use Rattle.asn1_blocks.specs.declared.read_loop.OpenFrame.{OpenFrame}
 use Rattle.asn1_blocks.specs.declared.read_loop.Reader.{Reader}
-use Rattle.asn1_outline.specs.declared.header_walk.Turn.{Turn}
-use Rattle.asn1_outline.specs.declared.header_walk.Turn.TheVariants.{More, End, Stop}
+use Rattle.asn1_blocks.specs.declared.read_loop.Turn.{Turn}
+use Rattle.asn1_blocks.specs.declared.read_loop.Turn.TheVariants.{More, End, Stop}
 use Rattle.asn1_outline.specs.Listing.{KeepsOf}
 use Rattle.asn1_outline.specs.Shapes.{AreShapes, HeadersFaultAt, Shapes, entries_of, shape_count, shape_entry}
 use Rattle.asn1_outline.specs.declared.entry.Entry.{Entry}

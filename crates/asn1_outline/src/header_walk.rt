@@ -14,20 +14,12 @@ use crate::entry_builder::{EntryBuilder, Found};
 use crate::listing::{EntryItems, found_of, header_entry};
 use asn1_blocks::parsed::{PlacedHeader, header_within};
 use asn1_blocks::read_loop::{
-    Extent, FrameKind, OpenFrame, Reader, enter, is_attempt, is_out_of_memory, is_read_inside,
-    kind_of, out_of_memory,
+    Extent, FrameKind, OpenFrame, Reader, Turn, enter, is_attempt, is_out_of_memory,
+    is_read_inside, kind_of, out_of_memory,
 };
 use asn1_headers::error::{ASN1DecodeErr, LocatedErr};
 use asn1_headers::header::HeaderCount;
 use std::alloc::{AllocError, Global};
-
-// Where a turn of the loop leads: there is more to read, the document has ended, or the reader has a fault.
-#[derive(Clone, Copy)]
-enum Turn {
-    More,
-    End,
-    Stop,
-}
 
 /// Checks whether octets are encodings by their headers (X.690 8.1.1), one or more, as [`Headers::from_der`] does, in
 /// linear time. It takes memory for the encodings that are open at a time alone. Stack use does not grow with nesting.

@@ -138,8 +138,9 @@ pub record IsRefused {B I : Type 0} (Holds : Holding B I) (octets : List ℕ)
   pub holds : Holds octets b (inside ++ f ∷ gs) (lost ++ trees ∷ outer)
   pub stopping : IsStopping octets (frame f trees) (frames gs outer) e offset n
 
--- how much is left to do: each turn goes on in the octets, or closes a frame
-abbrev pub work_left : {I : Type 0} → ℕ → ℕ → List (OpenFrame I) → ℕ
+-- how much is left to do: each turn goes on in the octets, or closes a frame, and an encoding that is opened takes two
+-- octets
+abbrev pub work_left : {A : Type 0} → ℕ → ℕ → List A → ℕ
 work_left size index outer = 2 * (size - index) + length outer
 
 -- a fault in the innermost frame, of the block that the reader has come to, with less left to do behind it

@@ -1,8 +1,8 @@
 -- For `listing::list`: what each turn of its loop keeps and what grows less, so that it ends.
-use Rattle.std.specs.Prelude.{List}
+use Rattle.std.specs.Prelude.{List, length}
+use Rattle.asn1_blocks.specs.Inner.ReaderSteps.{work_left}
 use Rattle.asn1_der.specs.Departures.{Lists}
 use Rattle.asn1_der.specs.Listing.{HasExtents, ListsAll}
-use Rattle.asn1_der.specs.Steps.{work_left}
 use Rattle.asn1_der.specs.declared.rule.Departure.{Departure}
 use Rattle.asn1_der.proofs.listing.list.Given as goal
 
@@ -14,4 +14,4 @@ invariant-turns l = record {
 }
 
 abbrev pub decreases-turns : goal.decreases-turns
-decreases-turns l = work_left l.octets l.place.index l.place.outer.items
+decreases-turns l = work_left (length l.octets) l.place.index l.place.outer.items

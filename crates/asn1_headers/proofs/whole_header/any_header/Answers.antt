@@ -4,7 +4,8 @@ use Rattle.std.proofs.Math.Seq.{take-add}
 use Rattle.std.proofs.lemmas.List.{take-append-drop}
 use Rattle.std.proofs.lemmas.Result.{err_from_is_err_and}
 use Rattle.asn1_headers.specs.Fault.{fault_of}
-use Rattle.asn1_headers.proofs.FrontHeaders.{HeaderFault-no_identifier, IsIdentifier-take, HeaderFault-no_length, HasNoHeader-no_identifier, HasNoHeader-no_length, KnowsParts-of}
+use Rattle.asn1_headers.specs.HeaderFault.{no_length}
+use Rattle.asn1_headers.proofs.FrontHeaders.{HeaderFault-no_identifier, IsIdentifier-take, HasNoHeader-no_identifier, HasNoHeader-no_length, KnowsParts-of}
 use Rattle.asn1_headers.specs.Indefinite.{is_indefinite}
 use Rattle.asn1_headers.proofs.IndefiniteForms.{HasIndefiniteForm-is_indefinite, HasIndefiniteForm-not_primitive}
 use Rattle.asn1_headers.proofs.whole_header.any_header.Goals as goal
@@ -41,9 +42,9 @@ returns-in_err-announced-clause-fault c offset =
     let size = c.decode_tag.new.index in
     let is = IsIdentifier-take octets size found.class found.constructed found.tag found.ensures.found in
     let p = err_from_is_err_and c.from_residual-in_err-announced.result c.from_residual-in_err-announced.ensures.1 in
-    rw (p.1, p.2) (inr (HeaderFault-no_length offset octets (take size octets) (drop size octets) found.class
-    found.constructed found.tag (fault_of c.in_err-announced.field-0.0) is
-    (sym (take-append-drop size octets)) (rw (sym c.split_at.ensures.back) c.in_err-announced.ensures.refused)
+    rw (p.1, p.2) (inr (no_length {e = fault_of c.in_err-announced.field-0.0} (take size octets) (drop size octets)
+    found.tag (found.class, found.constructed, is) (sym (take-append-drop size octets))
+    (rw (sym c.split_at.ensures.back) c.in_err-announced.ensures.refused)
     (rw (sym c.split_at.ensures.back) c.in_err-announced.ensures.fault)))
 
 pub returns-clause-found : goal.returns-clause-found
