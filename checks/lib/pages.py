@@ -32,7 +32,7 @@ TOP = pathlib.Path(__file__).resolve().parent.parent.parent
 PAGES = ["README.md", "docs/GUIDE.md", "docs/OWN_TYPES.md", "docs/DIFFERENCES.md", "docs/CALLING.md",
          *sorted(str(it.relative_to(TOP)) for it in TOP.glob("docs/calling/*.md")), "docs/DUMP.md"]
 GUIDE, DUMPED = "docs/GUIDE.md", ["docs/DUMP.md", "README.md"]
-LIBRARIES = ["simple_asn1", "asn1_types", "der_forms", "dump_names", "dump_shapes"]
+LIBRARIES = ["simple_asn1", "asn1_certificate", "asn1_types", "der_forms", "dump_names", "dump_shapes"]
 BLOCK = re.compile(r"^```rust\n(.*?)^```$", re.S | re.M)
 RUN = re.compile(r"^    (.*\brt (?:run|try)\b.*)$")
 ARGUMENTS = re.compile(r"\s*-- ([^|<]*)")

@@ -1,0 +1,2 @@
+mod EntryTrees
+mod Steps

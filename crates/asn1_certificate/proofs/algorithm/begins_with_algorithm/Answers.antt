@@ -1,0 +1,13 @@
+-- For `algorithm::begins_with_algorithm`: what it returns is right.
+use Rattle.asn1_certificate.specs.Reading.{left}
+use Rattle.asn1_certificate.specs.Types.{is_algorithm_identifier}
+use Rattle.asn1_certificate.proofs.Steps.{Tells-first, Tells-none}
+use Rattle.asn1_certificate.proofs.algorithm.begins_with_algorithm.Goals as goal
+
+pub returns-in-Some : goal.returns-in-Some
+returns-in-Some c ns d =
+    Tells-first ns is_algorithm_identifier _ (left c.args.fields.now) c.in-Some.index c.in-Some.ensures
+    (c.is_algorithm.ensures ns d)
+
+pub returns-in-None : goal.returns-in-None
+returns-in-None c ns d = Tells-none ns is_algorithm_identifier _ (left c.args.fields.now) c.in-None.ensures

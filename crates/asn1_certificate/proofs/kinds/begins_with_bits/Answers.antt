@@ -1,0 +1,13 @@
+-- For `kinds::begins_with_bits`: what it returns is right.
+use Rattle.asn1_certificate.specs.Reading.{left}
+use Rattle.asn1_certificate.specs.Sequences.{is_bits}
+use Rattle.asn1_certificate.proofs.Steps.{Tells-first, Tells-none}
+use Rattle.asn1_certificate.proofs.kinds.begins_with_bits.Goals as goal
+
+pub returns-in-Some : goal.returns-in-Some
+returns-in-Some c ns d =
+    Tells-first ns (is_bits c.args.tag) _ (left c.args.fields.now) c.in-Some.index c.in-Some.ensures
+    (c.is_bits.ensures ns d)
+
+pub returns-in-None : goal.returns-in-None
+returns-in-None c ns d = Tells-none ns (is_bits c.args.tag) _ (left c.args.fields.now) c.in-None.ensures
