@@ -1,10 +1,10 @@
 -- What is written of a document.
-use Rattle.std.proofs.Common.{ℕ, Bool, true, false, List, ◌++◌, codes, refl}
+use Rattle.std.proofs.Common.{ℕ, Bool, true, false, List, ◌++◌, ap, append_assoc, codes, refl, subst, sym}
 use Rattle.std.proofs.KnownBytes.{Appends-trans}
 use Rattle.std.specs.Io.KnownBytes.{Appends}
-use Rattle.std.specs.Prelude.{Option}
+use Rattle.std.specs.Prelude.{Option, Some}
 use Rattle.der_io.specs.Output.{IsWritten}
-use Rattle.dump_json.specs.Grammar.{IsMember, IsOpenArray, IsOpenObject, IsString, IsValue, comma_if}
+use Rattle.dump_json.specs.Grammar.{AreChars, IsInt, IsMember, IsNumber, IsOpenArray, IsOpenObject, IsString, IsValue, comma_if}
 use Rattle.dump_json.specs.Lines.{AreLines, IsLine, Turns}
 use Rattle.dump_json.proofs.Chars.{AreChars-plain}
 use Rattle.dump_json.proofs.Texts.{Turns-then}
@@ -21,6 +21,54 @@ pub IsWritten-again :
 IsWritten-again P Q R a b c (s, p, turn) (t, q, again) =
     (s ++ t, Appends-trans a b c s t p q, Turns-then P Q R s t turn again)
 
+-- texts of a kind that is closed under putting one after another
+pub IsWritten-trans :
+    (Is : List ℕ → Type 0) → ((s t : List ℕ) → Is s → Is t → Is (s ++ t)) → (a b c : Option (List ℕ)) →
+    IsWritten Is a b → IsWritten Is b c → IsWritten Is a c
+IsWritten-trans Is closed a b c (s, p, h) (t, q, k) = (s ++ t, Appends-trans a b c s t p q, closed s t h k)
+
+-- a text of a kind is one of another
+pub IsWritten-map :
+    (Is Like : List ℕ → Type 0) → ((t : List ℕ) → Is t → Like t) → (a b : Option (List ℕ)) → IsWritten Is a b →
+    IsWritten Like a b
+IsWritten-map Is Like f a b (t, p, h) = (t, p, f t h)
+
+-- a text of a kind in a vector, and what goes on with it
+pub IsWritten-turned :
+    (P Q : List ℕ → Type 0) (a b : List ℕ) → P a → IsWritten (Turns P Q) (Some a) (Some b) → Q b
+IsWritten-turned P Q a b h (s, e, turn) = subst Q (sym e) (turn a h)
+
+-- characters between quotation marks
+pub IsWritten-string :
+    (a b c d : Option (List ℕ)) → Appends a b (codes "\"") → IsWritten AreChars b c → Appends c d (codes "\"") →
+    IsWritten IsString a d
+IsWritten-string a b c d p (t, q, h) r = (
+  codes "\"" ++ (t ++ codes "\""),
+  Appends-trans a b d (codes "\"") (t ++ codes "\"") p (Appends-trans b c d t (codes "\"") q r),
+  IsString.quoted t h,
+)
+
+-- a comma, if others stand before; a name, a colon and a value
+pub IsWritten-member :
+    (later : Bool) (a b c d e : Option (List ℕ)) → Appends a b (comma_if later) → IsWritten IsString b c →
+    Appends c d (codes ":") → IsWritten IsValue d e → IsWritten (Turns (IsOpenObject later) (IsOpenObject true)) a e
+IsWritten-member later a b c d e p (name, q, h) r (v, s, k) = (
+  comma_if later ++ (name ++ (codes ":" ++ v)),
+  Appends-trans a b e (comma_if later) (name ++ (codes ":" ++ v)) p
+      (Appends-trans b c e name (codes ":" ++ v) q (Appends-trans c d e (codes ":") v r s)),
+  λ t o. IsOpenObject.with_member later t (name ++ (codes ":" ++ v)) o (IsMember.member name v h k),
+)
+
+-- the end of an object, and of its line
+pub IsWritten-end_line :
+    (later : Bool) (a b : Option (List ℕ)) → Appends a b (codes "}\n") →
+    IsWritten (Turns (IsOpenObject later) IsLine) a b
+IsWritten-end_line later a b p = (
+  codes "}\n",
+  p,
+  λ t o. (t ++ codes "}", sym (append_assoc t (codes "}") (codes "\n")), IsValue.object later t o),
+)
+
 -- one more item of an array
 pub IsWritten-item :
     (later : Bool) (a b c : Option (List ℕ)) → Appends a b (comma_if later) → IsWritten IsValue b c →
@@ -34,6 +82,31 @@ IsWritten-item later a b c p (v, q, h) = (
 IsString-blocks : IsString (codes "\"blocks\"")
 IsString-blocks = IsString.quoted (codes "blocks")
     (AreChars-plain (codes "blocks") (refl, (refl, (refl, (refl, (refl, (refl, tt)))))))
+
+IsString-bits : IsString (codes "\"bits\"")
+IsString-bits = IsString.quoted (codes "bits") (AreChars-plain (codes "bits") (refl, (refl, (refl, (refl, tt)))))
+
+IsString-octets : IsString (codes "\"octets\"")
+IsString-octets = IsString.quoted (codes "octets")
+    (AreChars-plain (codes "octets") (refl, (refl, (refl, (refl, (refl, (refl, tt)))))))
+
+-- the object of bits
+pub IsWritten-bits :
+    (a b c d e f : Option (List ℕ)) → Appends a b (codes "{\"bits\":") → IsWritten IsInt b c →
+    Appends c d (codes ",\"octets\":") → IsWritten IsString d e → Appends e f (codes "}") → IsWritten IsValue a f
+IsWritten-bits a b c d e f p (n, q, h) r (o, s, k) u = (
+  codes "{\"bits\":" ++ (n ++ (codes ",\"octets\":" ++ (o ++ codes "}"))),
+  Appends-trans a b f (codes "{\"bits\":") (n ++ (codes ",\"octets\":" ++ (o ++ codes "}"))) p
+      (Appends-trans b c f n (codes ",\"octets\":" ++ (o ++ codes "}")) q
+      (Appends-trans c d f (codes ",\"octets\":") (o ++ codes "}") r (Appends-trans d e f o (codes "}") s u))),
+  subst IsValue
+      (ap (λ z. codes "{\"bits\":" ++ z) (append_assoc n (codes ",\"octets\":" ++ o) (codes "}")))
+      (IsValue.object true ((codes "{\"bits\":" ++ n) ++ (codes ",\"octets\":" ++ o))
+      (IsOpenObject.with_member true (codes "{\"bits\":" ++ n) (codes "\"octets\":" ++ o)
+      (IsOpenObject.with_member false (codes "{") (codes "\"bits\":" ++ n) IsOpenObject.begin_object
+      (IsMember.member (codes "\"bits\"") n IsString-bits (IsValue.number n (IsNumber.positive n h))))
+      (IsMember.member (codes "\"octets\"") o IsString-octets (IsValue.string o k)))),
+)
 
 -- the member of blocks
 pub IsWritten-blocks :

@@ -1,7 +1,7 @@
 // Objects and arrays.
 ghost use Rattle.dump_json.specs.Grammar.{IsValue};
 
-use crate::members::{Member, comma, push_members};
+use crate::members::{Member, comma, write_members};
 use std::alloc::{AllocError, Global};
 use std::marker::Model;
 
@@ -26,7 +26,10 @@ impl Json {
     // The object of the members that have a value.
     pub fn object(alloc: Global, members: &[Member<'_>]) -> Result<Json, AllocError> {
         let mut text = Vec::from_slice(alloc, b"{")?;
-        push_members(members, false, &mut text)?;
+        // a vector has no other fault
+        let Ok(_) = write_members(members, false, &mut text) else {
+            return Err(AllocError);
+        };
         text.push(b'}')?;
         Ok(Json { text })
     }

@@ -1,16 +1,15 @@
 // The values of contents octets.
-use crate::json::Json;
 use crate::value::Value;
 use asn1_numbers::number::big_int::BigInt;
 use asn1_numbers::number::big_uint::BigUint;
-use dump_values::value::{Bits, Identifier, LeafValue};
+use dump_values::value::{Identifier, LeafValue};
 use std::alloc::{AllocError, Global};
 
 // The greatest number that every reader of JSON takes as it is (RFC 7493, section 2.2): 2^53 - 1.
 const GREATEST_NUMBER: u64 = 9_007_199_254_740_991;
 
-// The most octets of a number, or of an object identifier, that are written in decimal: the time for it grows as the
-// square of how many they are.
+/// The most octets of a number, or of an object identifier, that are written in decimal: the time for it grows as the
+/// square of how many they are.
 pub const MOST_DECIMAL: usize = 1024;
 
 // A tag number; null if it has too many octets to be written in decimal.
@@ -31,15 +30,6 @@ fn integer_value<'a>(alloc: Global, number: &BigInt) -> Result<Value<'a>, AllocE
     }
 }
 
-// How many bits there are, and these.
-fn bits_value<'a>(alloc: Global, bits: &Bits) -> Result<Value<'a>, AllocError> {
-    let members = [
-        ("bits", Some(Value::count(bits.count))),
-        ("octets", Some(Value::Octets(&bits.octets))),
-    ];
-    Ok(Value::Written(Json::object(alloc, &members)?))
-}
-
 // Of these contents octets; null if they are too many to be written in decimal.
 fn identifier_value<'a>(
     alloc: Global,
@@ -55,7 +45,7 @@ fn identifier_value<'a>(
     }
 }
 
-// The text that a value is.
+/// The text that a value is.
 pub fn text_of(value: &LeafValue) -> Option<&str> {
     match value {
         LeafValue::Text(text)
@@ -79,7 +69,7 @@ pub fn value_in<'a>(
     match value {
         LeafValue::Boolean(is_true) => Ok(Value::Boolean(*is_true)),
         LeafValue::Integer(number) => integer_value(alloc, number),
-        LeafValue::Bits(bits) => bits_value(alloc, bits),
+        LeafValue::Bits(bits) => Ok(Value::Bits(bits.count, &bits.octets)),
         LeafValue::Identifier(identifier) => identifier_value(alloc, contents, identifier),
         LeafValue::Octets(_) | LeafValue::Other(_) | LeafValue::Tagged(_) | LeafValue::Address(_) =>
             { Ok(Value::Octets(contents)) }

@@ -1,12 +1,11 @@
 // A document as lines of JSON.
 ghost use Rattle.std.specs.Prelude.{OnOk};
 ghost use Rattle.der_io.specs.Output.{IsWritten};
-ghost use Rattle.dump_walk.specs.Texts.{Adds};
 ghost use Rattle.dump_json.specs.Grammar.{IsOpenObject};
 ghost use Rattle.dump_json.specs.Lines.{AreLines, IsLine, Turns};
 
 use crate::json::Json;
-use crate::members::{Member, push_members};
+use crate::members::{Member, write_members};
 use crate::piece::fault_object;
 use crate::rows::Seen;
 use crate::value::Value;
@@ -18,7 +17,7 @@ use dump_values::faults::{Fault, fault_at};
 use dump_walk::path::Paths;
 use dump_walk::place::outermost;
 use dump_walk::style::Style;
-use std::alloc::{AllocError, Global};
+use std::alloc::Global;
 use std::io::Write;
 
 /// Where octets are from, as far as a line tells it. Each text that is there is the member of its name, behind the
@@ -61,8 +60,9 @@ impl Dumper<'_> {
     /// is the only one. Where the octets are from follows, as the members `file` and `label`. Of the style only the
     /// names of fields count. Whether nothing is at fault, and all is DER that has to be.
     ///
-    /// Each object is written before the next is made. It takes the memory of one object, and two words for each
-    /// encoding that is open; strictly, also some for each rule of DER that is broken.
+    /// Each object is written before the next is made, and each value without a copy of its text. It takes the memory
+    /// of one value, and some words for each encoding that is open, with the names of the fields that lead to it;
+    /// strictly, also some for each rule of DER that is broken.
     ///
     /// # Errors
     /// `Memory`, after which what was written before stays, which may be a part of a line; `Write`, after which nothing
@@ -106,8 +106,6 @@ impl Dumper<'_> {
     ) -> Result<Option<Fault>, StreamFault>
         ensures { OnOk result (IsWritten IsLine (W.contents out.old) (W.contents out.new)) }
     {
-        let mut end = Vec::new(self.alloc);
-        self.push_end(true, &mut end)?;
         write_part(out, b"{\"blocks\":")?;
         // all of the document
         let style = Style {
@@ -118,7 +116,7 @@ impl Dumper<'_> {
         };
         let place = outermost(style, self.around);
         let first = self.write_rows(octets, place, seen, out)?;
-        write_part(out, &end)?;
+        self.write_line_end(true, out)?;
         Ok(first)
     }
 
@@ -154,19 +152,19 @@ impl Dumper<'_> {
     fn write_line<W: Write>(&self, name: &str, value: Json, out: &mut W) -> Result<(), StreamFault>
         ensures { OnOk result (IsWritten IsLine (W.contents out.old) (W.contents out.new)) }
     {
-        let mut line = Vec::from_slice(self.alloc, b"{")?;
-        let is_later = push_members(&[(name, Some(Value::Written(value)))], false, &mut line)?;
-        self.push_end(is_later, &mut line)?;
-        write_part(out, &line)?;
+        write_part(out, b"{")?;
+        let is_later = write_members(&[(name, Some(Value::Written(value)))], false, out)?;
+        self.write_line_end(is_later, out)?;
         Ok(())
     }
 
-    // Puts the end of a line: the members of where octets are from, and the end of its object.
-    fn push_end(&self, is_later: bool, line: &mut Vec<u8>) -> Result<(), AllocError>
-        ensures { OnOk result (Adds (Turns (IsOpenObject is_later) IsLine) line.old.items line.new.items) }
+    // Writes the end of a line: the members of where octets are from, and the end of its object.
+    fn write_line_end<W: Write>(&self, is_later: bool, out: &mut W) -> Result<(), StreamFault>
+        ensures { OnOk result (IsWritten (Turns (IsOpenObject is_later) IsLine)
+            (W.contents out.old) (W.contents out.new)) }
     {
-        push_members(&self.origin.members(), is_later, line)?;
-        line.extend_from_slice(b"}\n")?;
+        write_members(&self.origin.members(), is_later, out)?;
+        write_part(out, b"}\n")?;
         Ok(())
     }
 }

@@ -1,48 +1,49 @@
 // Members of objects.
 ghost use Rattle.std.specs.Prelude.{◌≡◌, IfOk};
-ghost use Rattle.dump_walk.specs.Texts.{Adds};
+ghost use Rattle.der_io.specs.Output.{IsWritten};
 ghost use Rattle.dump_json.specs.Grammar.{IsOpenObject, comma_if};
 ghost use Rattle.dump_json.specs.Lines.{Turns};
 
-use crate::string::push_string;
-use crate::value::{Value, push_value};
-use std::alloc::AllocError;
+use crate::string::write_string;
+use crate::value::{Value, write_value};
+use der_io::{StreamFault, write_part};
+use std::io::Write;
 
 // The name of a member, and its value, if it is there.
 pub type Member<'a> = (&'a str, Option<Value<'a>>);
 
-// Puts those members of an object that are there; whether others stand before. Returns whether one stands in it then.
-pub fn push_members(
+// Writes those members of an object that are there; whether others stand before. Returns whether one stands in it then.
+pub fn write_members<W: Write>(
     members: &[Member<'_>],
     is_later: bool,
-    out: &mut Vec<u8>,
-) -> Result<bool, AllocError>
-    ensures { IfOk result (λ later. Adds (Turns (IsOpenObject is_later) (IsOpenObject later))
-        out.old.items out.new.items) }
+    out: &mut W,
+) -> Result<bool, StreamFault>
+    ensures { IfOk result (λ later. IsWritten (Turns (IsOpenObject is_later) (IsOpenObject later))
+        (W.contents out.old) (W.contents out.new)) }
 {
     let mut has_some = is_later;
     for (name, value) in members {
-        has_some = push_member(name, value, has_some, out)?;
+        has_some = write_member(name, value, has_some, out)?;
     }
     Ok(has_some)
 }
 
-fn push_member(
+fn write_member<W: Write>(
     name: &str,
     value: &Option<Value<'_>>,
     is_later: bool,
-    out: &mut Vec<u8>,
-) -> Result<bool, AllocError>
-    ensures { IfOk result (λ later. Adds (Turns (IsOpenObject is_later) (IsOpenObject later))
-        out.old.items out.new.items) }
+    out: &mut W,
+) -> Result<bool, StreamFault>
+    ensures { IfOk result (λ later. IsWritten (Turns (IsOpenObject is_later) (IsOpenObject later))
+        (W.contents out.old) (W.contents out.new)) }
 {
     let Some(value) = value else {
         return Ok(is_later);
     };
-    out.extend_from_slice(comma(is_later))?;
-    push_string(name, out)?;
-    out.push(b':')?;
-    push_value(value, out)?;
+    write_part(out, comma(is_later))?;
+    write_string(name, out)?;
+    write_part(out, b":")?;
+    write_value(value, out)?;
     Ok(true)
 }
 

@@ -1,27 +1,28 @@
 // Numbers.
 ghost use Rattle.std.specs.Prelude.{OnOk};
-ghost use Rattle.dump_walk.specs.Texts.{Adds};
+ghost use Rattle.der_io.specs.Output.{IsWritten};
 ghost use Rattle.dump_json.specs.Grammar.{IsInt, IsNumber};
 
+use der_io::{StreamFault, write_part};
 use itoa::Buffer;
-use std::alloc::AllocError;
+use std::io::Write;
 
-pub fn push_natural(number: u64, out: &mut Vec<u8>) -> Result<(), AllocError>
-    ensures { OnOk result (Adds IsInt out.old.items out.new.items) }
+pub fn write_natural<W: Write>(number: u64, out: &mut W) -> Result<(), StreamFault>
+    ensures { OnOk result (IsWritten IsInt (W.contents out.old) (W.contents out.new)) }
 {
     let mut digits = Buffer::new();
-    out.extend_from_slice(digits.format(number).as_bytes())?;
+    write_part(out, digits.format(number).as_bytes())?;
     Ok(())
 }
 
-pub fn push_integer(number: i64, out: &mut Vec<u8>) -> Result<(), AllocError>
-    ensures { OnOk result (Adds IsNumber out.old.items out.new.items) }
+pub fn write_integer<W: Write>(number: i64, out: &mut W) -> Result<(), StreamFault>
+    ensures { OnOk result (IsWritten IsNumber (W.contents out.old) (W.contents out.new)) }
 {
     if number < 0 {
-        out.push(b'-')?;
-        push_natural(number.unsigned_abs(), out)?;
+        write_part(out, b"-")?;
+        write_natural(number.unsigned_abs(), out)?;
         return Ok(());
     }
-    push_natural(number.unsigned_abs(), out)?;
+    write_natural(number.unsigned_abs(), out)?;
     Ok(())
 }

@@ -1,14 +1,15 @@
 // The members of a piece of octets.
 ghost use Rattle.std.specs.Prelude.{IfOk, false};
-ghost use Rattle.dump_walk.specs.Texts.{Adds};
+ghost use Rattle.der_io.specs.Output.{IsWritten};
 ghost use Rattle.dump_json.specs.Grammar.{IsOpenObject};
 ghost use Rattle.dump_json.specs.Lines.{Turns};
 
 use crate::json::Json;
 use crate::labels::{name_of, shown_of};
 use crate::leaf::{tag_value, value_in};
-use crate::members::push_members;
+use crate::members::write_members;
 use crate::value::Value;
+use der_io::StreamFault;
 use dump_names::Names;
 use dump_shapes::Named;
 use dump_values::faults::Fault;
@@ -18,20 +19,21 @@ use dump_walk::marks::BrokenRule;
 use dump_walk::piece::{Piece, PieceKind};
 use dump_walk::sum::checked_sum;
 use std::alloc::{AllocError, Global};
+use std::io::Write;
 
-// Puts the members of the object of a piece but for `blocks`: it has these names and this path, and breaks these rules.
-// Returns whether one stands in it then.
-pub fn push_piece<'a>(
+// Writes the members of the object of a piece but for `blocks`: it has these names and this path, and breaks these
+// rules. Returns whether one stands in it then.
+pub fn write_piece<'a, W: Write>(
     alloc: Global,
     names: &'a Names,
     piece: &'a Piece<'_>,
     named: Option<Named>,
     path: Option<&'a str>,
     rules: Option<Json>,
-    out: &mut Vec<u8>,
-) -> Result<bool, AllocError>
-    ensures { IfOk result (λ later. Adds (Turns (IsOpenObject false) (IsOpenObject later))
-        out.old.items out.new.items) }
+    out: &mut W,
+) -> Result<bool, StreamFault>
+    ensures { IfOk result (λ later. IsWritten (Turns (IsOpenObject false) (IsOpenObject later))
+        (W.contents out.old) (W.contents out.new)) }
 {
     let (class, constructed, number, type_name) = tag_of(alloc, &piece.kind)?;
     let offset = piece.document_offset()?;
@@ -70,7 +72,7 @@ pub fn push_piece<'a>(
         ("fault", fault),
         ("guessed", piece.is_guess().then_some(Value::Boolean(true))),
     ];
-    push_members(&members, false, out)
+    write_members(&members, false, out)
 }
 
 // How many octets a piece has, as far as they are there; null where its length is of the indefinite form.

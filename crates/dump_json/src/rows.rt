@@ -7,7 +7,7 @@ ghost use Rattle.dump_json.specs.Lines.{Turns};
 use crate::json::Json;
 use crate::line::Dumper;
 use crate::members::comma;
-use crate::piece::{push_piece, rule_object};
+use crate::piece::{rule_object, write_piece};
 use der_io::{StreamFault, write_part};
 use dump_values::faults::Fault;
 use dump_walk::path::Paths;
@@ -27,14 +27,12 @@ pub struct Seen {
     pub paths: Paths,
 }
 
-// Room for most objects.
-const OBJECT_ROOM: usize = 400;
-
 // How many octets a path has at most that is told. Of types that hold themselves, it grows with each level.
 const MOST_PATH: usize = 1024;
 
 impl Dumper<'_> {
-    // Writes the objects of octets, as an array, which are seen then. Returns the first fault.
+    // Writes the objects of octets, as an array, and adds them to what was seen of the document. Returns the first
+    // fault.
     #[cycle(rows)]
     pub fn write_rows<W: Write>(
         &self,
@@ -69,13 +67,13 @@ impl Dumper<'_> {
         requires { IfSome piece.nested (λ _. 0 < piece.place.documents) }
         ensures { OnOk result (IsWritten IsValue (W.contents out.old) (W.contents out.new)) }
     {
-        let is_later = self.write_members(&piece, seen, out)?;
+        let is_later = self.write_begin(&piece, seen, out)?;
         self.write_end(&piece, is_later, seen, out)?;
         Ok(piece.fault)
     }
 
     // Writes the object of a piece up to its member of blocks. Returns whether a member stands in it.
-    fn write_members<W: Write>(
+    fn write_begin<W: Write>(
         &self,
         piece: &Piece<'_>,
         seen: &mut Seen,
@@ -85,14 +83,11 @@ impl Dumper<'_> {
     {
         let offset = piece.document_offset()?;
         let rules = self.rules_of(piece, offset, &mut seen.departures)?;
-        let mut text = Vec::with_capacity(self.alloc, OBJECT_ROOM)?;
-        text.extend_from_slice(b"{")?;
+        write_part(out, b"{")?;
         let named = piece.names(&self.names.shapes);
         let path = seen.paths.next(piece, named)?;
         let path = path.filter(|path| path.len() <= MOST_PATH);
-        let is_later = push_piece(self.alloc, self.names, piece, named, path, rules, &mut text)?;
-        write_part(out, &text)?;
-        Ok(is_later)
+        write_piece(self.alloc, self.names, piece, named, path, rules, out)
     }
 
     // The rules that a piece at the offset breaks. They are added where octets have to be DER.

@@ -1,32 +1,32 @@
 // Strings, with an escape in the place of each character that a dump does not show.
 ghost use Rattle.std.specs.Prelude.{◌≡◌, ◌≢◌, ◌↔◌, ◌<◌, EachIndex, IsTrue, OnOk, slice_index, true};
 ghost use Rattle.der_io.specs.Escaped.{is_shown};
-ghost use Rattle.dump_walk.specs.Texts.{Adds};
+ghost use Rattle.der_io.specs.Output.{IsWritten};
 ghost use Rattle.dump_json.specs.Grammar.{AreChars, IsHexDigit, IsString, is_escape, is_plain};
 
-use der_io::is_shown;
-use std::alloc::AllocError;
+use der_io::{StreamFault, is_shown, write_part};
+use std::io::Write;
 
-// Puts a text as a string.
-pub fn push_string(text: &str, out: &mut Vec<u8>) -> Result<(), AllocError>
-    ensures { OnOk result (Adds IsString out.old.items out.new.items) }
+// Writes a text as a string.
+pub fn write_string<W: Write>(text: &str, out: &mut W) -> Result<(), StreamFault>
+    ensures { OnOk result (IsWritten IsString (W.contents out.old) (W.contents out.new)) }
 {
-    out.push(b'"')?;
-    push_chars(text, out)?;
-    out.push(b'"')?;
+    write_part(out, b"\"")?;
+    write_chars(text, out)?;
+    write_part(out, b"\"")?;
     Ok(())
 }
 
-fn push_chars(text: &str, out: &mut Vec<u8>) -> Result<(), AllocError>
-    ensures { OnOk result (Adds AreChars out.old.items out.new.items) }
+fn write_chars<W: Write>(text: &str, out: &mut W) -> Result<(), StreamFault>
+    ensures { OnOk result (IsWritten AreChars (W.contents out.old) (W.contents out.new)) }
 {
     let octets = text.as_bytes();
     if are_plain(octets) {
-        out.extend_from_slice(octets)?;
+        write_part(out, octets)?;
         return Ok(());
     }
     for c in text.chars() {
-        push_char(c, out)?;
+        write_char(c, out)?;
     }
     Ok(())
 }
@@ -44,83 +44,89 @@ fn is_plain(b: u8) -> bool
     matches!(b, b' '..=b'~') && b != b'"' && b != b'\\'
 }
 
-// Puts octets as a string of hex digits.
-pub fn push_hex(octets: &[u8], out: &mut Vec<u8>) -> Result<(), AllocError>
-    ensures { OnOk result (Adds IsString out.old.items out.new.items) }
+// Writes octets as a string of hex digits.
+pub fn write_hex<W: Write>(octets: &[u8], out: &mut W) -> Result<(), StreamFault>
+    ensures { OnOk result (IsWritten IsString (W.contents out.old) (W.contents out.new)) }
 {
-    out.push(b'"')?;
-    push_digits(octets, out)?;
-    out.push(b'"')?;
+    write_part(out, b"\"")?;
+    write_digits(octets, out)?;
+    write_part(out, b"\"")?;
     Ok(())
 }
 
-fn push_digits(octets: &[u8], out: &mut Vec<u8>) -> Result<(), AllocError>
-    ensures { OnOk result (Adds AreChars out.old.items out.new.items) }
+fn write_digits<W: Write>(octets: &[u8], out: &mut W) -> Result<(), StreamFault>
+    ensures { OnOk result (IsWritten AreChars (W.contents out.old) (W.contents out.new)) }
 {
     for b in octets {
-        out.extend_from_slice(&[hex_digit(u32::from(b / 16)), hex_digit(u32::from(b % 16))])?;
+        write_part(
+            out,
+            &[hex_digit(u32::from(b / 16)), hex_digit(u32::from(b % 16))],
+        )?;
     }
     Ok(())
 }
 
-fn push_char(c: char, out: &mut Vec<u8>) -> Result<(), AllocError>
-    ensures { OnOk result (Adds AreChars out.old.items out.new.items) }
+fn write_char<W: Write>(c: char, out: &mut W) -> Result<(), StreamFault>
+    ensures { OnOk result (IsWritten AreChars (W.contents out.old) (W.contents out.new)) }
 {
     match c {
-        '"' => push_escape(b'"', out),
-        '\\' => push_escape(b'\\', out),
-        '\u{8}' => push_escape(b'b', out),
-        '\u{C}' => push_escape(b'f', out),
-        '\n' => push_escape(b'n', out),
-        '\r' => push_escape(b'r', out),
-        '\t' => push_escape(b't', out),
-        _ if is_shown(c) => push_shown(c, out),
-        _ => push_hidden(c, out),
+        '"' => write_escape(b'"', out),
+        '\\' => write_escape(b'\\', out),
+        '\u{8}' => write_escape(b'b', out),
+        '\u{C}' => write_escape(b'f', out),
+        '\n' => write_escape(b'n', out),
+        '\r' => write_escape(b'r', out),
+        '\t' => write_escape(b't', out),
+        _ if is_shown(c) => write_shown(c, out),
+        _ => write_hidden(c, out),
     }
 }
 
-fn push_escape(letter: u8, out: &mut Vec<u8>) -> Result<(), AllocError>
+fn write_escape<W: Write>(letter: u8, out: &mut W) -> Result<(), StreamFault>
     requires { is_escape letter ≡ true }
-    ensures { OnOk result (Adds AreChars out.old.items out.new.items) }
+    ensures { OnOk result (IsWritten AreChars (W.contents out.old) (W.contents out.new)) }
 {
-    out.extend_from_slice(&[b'\\', letter])?;
+    write_part(out, &[b'\\', letter])?;
     Ok(())
 }
 
-fn push_shown(c: char, out: &mut Vec<u8>) -> Result<(), AllocError>
+fn write_shown<W: Write>(c: char, out: &mut W) -> Result<(), StreamFault>
     requires { (is_shown c ≡ true) × (c ≢ 0x22) × (c ≢ 0x5C) }
-    ensures { OnOk result (Adds AreChars out.old.items out.new.items) }
+    ensures { OnOk result (IsWritten AreChars (W.contents out.old) (W.contents out.new)) }
 {
     let mut room = [0; 4];
-    out.extend_from_slice(c.encode_utf8(&mut room).as_bytes())?;
+    write_part(out, c.encode_utf8(&mut room).as_bytes())?;
     Ok(())
 }
 
-// Puts a character by its units in UTF-16.
-fn push_hidden(c: char, out: &mut Vec<u8>) -> Result<(), AllocError>
-    ensures { OnOk result (Adds AreChars out.old.items out.new.items) }
+// Writes a character by its units in UTF-16.
+fn write_hidden<W: Write>(c: char, out: &mut W) -> Result<(), StreamFault>
+    ensures { OnOk result (IsWritten AreChars (W.contents out.old) (W.contents out.new)) }
 {
     let number = c as u32;
     if number < 0x1_0000 {
-        return push_unit(number, out);
+        return write_unit(number, out);
     }
-    push_unit(0xD800 + (number - 0x1_0000) / 1024, out)?;
-    push_unit(0xDC00 + number % 1024, out)?;
+    write_unit(0xD800 + (number - 0x1_0000) / 1024, out)?;
+    write_unit(0xDC00 + number % 1024, out)?;
     Ok(())
 }
 
-fn push_unit(unit: u32, out: &mut Vec<u8>) -> Result<(), AllocError>
+fn write_unit<W: Write>(unit: u32, out: &mut W) -> Result<(), StreamFault>
     requires { unit < 0x10000 }
-    ensures { OnOk result (Adds AreChars out.old.items out.new.items) }
+    ensures { OnOk result (IsWritten AreChars (W.contents out.old) (W.contents out.new)) }
 {
-    out.extend_from_slice(&[
-        b'\\',
-        b'u',
-        hex_digit(unit / 4096),
-        hex_digit(unit / 256 % 16),
-        hex_digit(unit / 16 % 16),
-        hex_digit(unit % 16),
-    ])?;
+    write_part(
+        out,
+        &[
+            b'\\',
+            b'u',
+            hex_digit(unit / 4096),
+            hex_digit(unit / 256 % 16),
+            hex_digit(unit / 16 % 16),
+            hex_digit(unit % 16),
+        ],
+    )?;
     Ok(())
 }
 

@@ -1,12 +1,13 @@
-// Values, each put at the end of a text.
+// Values.
 ghost use Rattle.std.specs.Prelude.{OnOk};
-ghost use Rattle.dump_walk.specs.Texts.{Adds};
+ghost use Rattle.der_io.specs.Output.{IsWritten};
 ghost use Rattle.dump_json.specs.Grammar.{IsValue};
 
 use crate::json::Json;
-use crate::number::{push_integer, push_natural};
-use crate::string::{push_hex, push_string};
-use std::alloc::AllocError;
+use crate::number::{write_integer, write_natural};
+use crate::string::{write_hex, write_string};
+use der_io::{StreamFault, write_part};
+use std::io::Write;
 
 #[derive(Drop)]
 pub enum Value<'a> {
@@ -19,6 +20,8 @@ pub enum Value<'a> {
     Made(String),
     // octets, as a text of hex digits
     Octets(&'a [u8]),
+    // how many bits there are, and the octets of these
+    Bits(usize, &'a [u8]),
     // an object or an array
     Written(Json),
 }
@@ -30,18 +33,31 @@ impl<'a> Value<'a> {
     }
 }
 
-pub fn push_value(value: &Value<'_>, out: &mut Vec<u8>) -> Result<(), AllocError>
-    ensures { OnOk result (Adds IsValue out.old.items out.new.items) }
+pub fn write_value<W: Write>(value: &Value<'_>, out: &mut W) -> Result<(), StreamFault>
+    ensures { OnOk result (IsWritten IsValue (W.contents out.old) (W.contents out.new)) }
 {
     match value {
-        Value::Null => out.extend_from_slice(b"null"),
-        Value::Boolean(true) => out.extend_from_slice(b"true"),
-        Value::Boolean(false) => out.extend_from_slice(b"false"),
-        Value::Natural(number) => push_natural(*number, out),
-        Value::Integer(number) => push_integer(*number, out),
-        Value::Text(text) => push_string(text, out),
-        Value::Made(text) => push_string(text, out),
-        Value::Octets(octets) => push_hex(octets, out),
-        Value::Written(json) => out.extend_from_slice(json.as_bytes()),
+        Value::Null => write_part(out, b"null"),
+        Value::Boolean(true) => write_part(out, b"true"),
+        Value::Boolean(false) => write_part(out, b"false"),
+        Value::Natural(number) => write_natural(*number, out),
+        Value::Integer(number) => write_integer(*number, out),
+        Value::Text(text) => write_string(text, out),
+        Value::Made(text) => write_string(text, out),
+        Value::Octets(octets) => write_hex(octets, out),
+        Value::Bits(count, octets) => write_bits(*count, octets, out),
+        Value::Written(json) => write_part(out, json.as_bytes()),
     }
+}
+
+// Writes the object of bits.
+fn write_bits<W: Write>(count: usize, octets: &[u8], out: &mut W) -> Result<(), StreamFault>
+    ensures { OnOk result (IsWritten IsValue (W.contents out.old) (W.contents out.new)) }
+{
+    write_part(out, b"{\"bits\":")?;
+    write_natural(count as u64, out)?;
+    write_part(out, b",\"octets\":")?;
+    write_hex(octets, out)?;
+    write_part(out, b"}")?;
+    Ok(())
 }

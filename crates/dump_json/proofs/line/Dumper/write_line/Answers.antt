@@ -1,16 +1,13 @@
 -- For `line::Dumper::write_line`: what it returns is right.
-use Rattle.std.proofs.Common.{false, subst, sym}
+use Rattle.std.proofs.Common.{codes, false}
 use Rattle.dump_json.specs.Grammar.{IsOpenObject}
 use Rattle.dump_json.specs.Lines.{IsLine}
-use Rattle.dump_json.proofs.Texts.{Adds-again, Adds-turned}
+use Rattle.dump_json.proofs.Written.{IsWritten-then}
 use Rattle.dump_json.proofs.line.Dumper.write_line.Goals as goal
 
 pub returns : goal.returns
-returns g c = (
-  _,
-  c.in_ok-write_part.ensures.written,
-  subst IsLine (sym c.deref.ensures.value)
-      (Adds-turned (IsOpenObject false) IsLine _ _ _ IsOpenObject.begin_object c.in_ok-line.ensures.items
-      (Adds-again (IsOpenObject false) (IsOpenObject _) IsLine _ _ _ c.in_ok-is_later.ensures
-      c.in_ok-push_end.ensures)),
-)
+returns g c =
+    IsWritten-then (IsOpenObject _) IsLine _ _ _
+    (IsWritten-then (IsOpenObject false) (IsOpenObject _) _ _ _
+    (codes "{", c.in_ok-write_part.ensures.written, IsOpenObject.begin_object) c.in_ok-is_later.ensures)
+    c.in_ok-write_line_end.ensures
