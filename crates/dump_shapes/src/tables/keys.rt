@@ -267,6 +267,15 @@ PKCS8.AlgorithmParameters ::= KNOWN
   1.2.840.113549.1.12.1.5 Pkcs-12PbeParams
   1.2.840.113549.1.12.1.6 Pkcs-12PbeParams
 
+-- the SPKAC of Netscape
+SignedPublicKeyAndChallenge ::= SEQUENCE
+  publicKeyAndChallenge PublicKeyAndChallenge
+  signatureAlgorithm AlgorithmIdentifier
+  signature Held.BIT STRING
+PublicKeyAndChallenge ::= SEQUENCE
+  spki SubjectPublicKeyInfo
+  challenge IA5String
+
 -- RFC 8017, appendix A.2.4; RFC 3279, 2.2.2 and 2.2.3
 DigestInfo ::= SEQUENCE
   digestAlgorithm AlgorithmIdentifier

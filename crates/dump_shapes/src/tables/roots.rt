@@ -29,7 +29,7 @@ DomainParameters X9.42 DH PARAMETERS";
 // The shapes that may fit a document, in the order in which they are tried: the shape, down to which depth each field
 // that has to be there is looked for, and how many elements there are at least down to that depth. Shapes of a few
 // numbers, such as RSAPublicKey, are not tried: too much else looks like them.
-pub const FITS: [(&str, usize, usize); 22] = [
+pub const FITS: [(&str, usize, usize); 23] = [
     ("Certificate", 2, 11),
     ("CertificateList", 2, 8),
     ("CertificationRequest", 2, 9),
@@ -38,14 +38,15 @@ pub const FITS: [(&str, usize, usize); 22] = [
     ("OneAsymmetricKey", 2, 6),
     ("EncryptedPrivateKeyInfo", 3, 7),
     ("SubjectPublicKeyInfo", 2, 4),
+    ("SignedPublicKeyAndChallenge", 3, 9),
     ("RSAPrivateKey", 1, 10),
     ("ECPrivateKey", 2, 4),
     ("PFX", 3, 6),
     ("ContentInfo", 3, 4),
     ("OCSPRequest", 5, 9),
-    ("OCSPResponse", 3, 6),
+    ("OCSPResponse", 3, 2),
     ("TimeStampReq", 3, 6),
-    ("TimeStampResp", 3, 7),
+    ("TimeStampResp", 3, 4),
     ("LDAPMessage", 2, 3),
     ("SNMP.Message", 2, 8),
     ("SNMPv3Message", 2, 9),

@@ -30,7 +30,7 @@ CertID ::= SEQUENCE
 OCSPResponse ::= SEQUENCE
   responseStatus OCSPResponseStatus
   responseBytes [0] EXPLICIT ResponseBytes OPTIONAL
-OCSPResponseStatus ::= ENUMERATED
+OCSPResponseStatus ::= ENUMERATED CLOSED
   0 successful
   1 malformedRequest
   2 internalError
@@ -97,7 +97,7 @@ PKIStatusInfo ::= SEQUENCE
   status PKIStatus
   statusString PKIFreeText OPTIONAL
   failInfo PKIFailureInfo OPTIONAL
-PKIStatus ::= INTEGER
+PKIStatus ::= INTEGER CLOSED
   0 granted
   1 grantedWithMods
   2 rejection
