@@ -32,7 +32,8 @@ CRATES = ["dump_values", "dump_names", "dump_rows", "dump_walk", "dump_lines", "
 FIRST = 30
 
 ARM = re.compile(r"^( +)(?!let |if |while |for |//)(\S.*?) => (.*)$")
-TEXT = re.compile(r'(?<![b\\\'])"(?:[^"\\{}]|\\.)+"')
+# a text, octets, or a character
+LITERAL = re.compile(r"""b?"(?:[^"\\]|\\.)*"|'(?:[^'\\]|\\.)'""")
 FUNCTION = re.compile(r"^ *(?:pub(?:\(\w+\))? )?(?:const )?fn (\w+)")
 Body = collections.namedtuple("Body", "crate file number place function kind text")
 
@@ -57,6 +58,12 @@ def arms_left(lines):
     return left
 
 
+def text_in(rest):
+    """The first text behind an arm that is not empty, and no format."""
+    return next((it for it in LITERAL.finditer(rest)
+                 if it[0].startswith('"') and len(it[0]) > 2 and not re.search(r"[{}]", it[0])), None)
+
+
 def bodies_of(crate, path, start):
     """The text of the file with a switch before each wrong body, and the bodies."""
     lines, bodies = path.read_text().split("\n"), []
@@ -72,8 +79,9 @@ def bodies_of(crate, path, start):
                 pattern, _, guard = pattern.partition(" if ")
                 guard = f"!crate::switch::is_wrong({number})" + (f" && ({guard})" if guard else "")
                 pattern = f"{pattern} if {guard}"
-            text = TEXT.search(rest)
-            if text and not re.search(r"!\(", rest[: text.start()]):
+            text = text_in(rest)
+            # a text in an array has to be one when the program is built
+            if text and not re.search(r"!\(|&\[", rest[: text.start()]):
                 number = start + len(bodies)
                 bodies.append(Body(crate, path.name, number, at + 1, function, "text", text[0]))
                 wrong = f'if crate::switch::is_wrong({number}) {{ "WRONG" }} else {{ {text[0]} }}'

@@ -111,7 +111,7 @@ WHOLE = [
     Check("dumps", "scripts/dumps",
           "der_dump shows stored inputs, a million levels, terminals, offsets as openssl does",
           needs="cc", uses="dumpasn1 man openssl", programs="der_dump"),
-    Check("fields", "lib/fields.py", "der_dump --json names each block of certificates as RFC 5280 does",
+    Check("fields", "lib/fields.py", "der_dump --json names each block of certificates, and its path, as RFC 5280 does",
           programs="der_dump"),
     Check("accounts", "lib/accounts.py", "what der_dump --text says of certificates is what openssl says",
           needs="openssl", programs="der_dump"),

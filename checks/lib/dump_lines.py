@@ -496,17 +496,18 @@ def openssl(*words, given=None):
 
 
 def certificate_facts(path):
-    """What openssl shows of a certificate: its end, its names, and other names."""
+    """What openssl shows of a certificate: its end, its names and times, and other names."""
     text = openssl("x509", "-in", path, "-noout", "-subject", "-issuer", "-nameopt", "utf8,sep_multiline,lname",
-                   "-enddate", "-dateopt", "iso_8601", "-ext", "subjectAltName")
+                   "-startdate", "-enddate", "-dateopt", "iso_8601", "-ext", "subjectAltName")
     facts = {"file": path.name}
     for name in ("issuer", "subject"):
         lines = re.search(rf"^{name}=\n((?:    .*\n)*)", text, re.M)[1].splitlines()
         facts[name] = [it.partition("=")[2] for it in lines if it.startswith("    commonName=")]
-    end = re.search(r"^notAfter=(.*)$", text, re.M)[1].replace(" ", "T")
+    both = re.findall(r"^not(?:Before|After)=(.*)$", text, re.M)
+    facts["validity"] = [it.replace(" ", "T") for it in both]
     others = re.search(r"Alternative Name:.*\n +(.*)", text)
     others = re.findall(r"(?:^|, )(?:DNS|email|URI):([^,]*)", others[1]) if others else []
-    return end, facts, others
+    return facts["validity"][1], facts, others
 
 
 class Identifiers:

@@ -93,7 +93,7 @@ def paths(tree, path, kind):
     if isinstance(kind, list):
         left = kind
         for it in inside:
-            (name, _, of), *left = part_of(left, it[0])
+            (name, _, of), *left = part_of(left, it[0]) or [("no field", None, None)]
             yield from paths(it, f"{path}.{name}".lstrip("."), of)
     elif kind and "each" in kind:
         for at, it in enumerate(inside):

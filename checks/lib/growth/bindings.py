@@ -220,9 +220,18 @@ def write_list(path):
         file.write(ALGORITHM + SIGNATURE)
 
 
+def write_string(path):
+    """Writes one long OCTET STRING, which is no text."""
+    with open(path, "wb") as file:
+        file.write(header(0x04, DUMPED_SIZE))
+        for _ in range(DUMPED_SIZE // 1_000):
+            file.write(bytes(250) * 4)
+
+
 # what writes a document, what it is of, and the words for the looks
 DUMPED = [
     (write_items, "items", DUMPS), (write_groups, "groups", DUMPS), (write_list, "revoked certificates", [["--text"]]),
+    (write_string, "one OCTET STRING", [[], ["--json"], ["--contents", "0"]]),
 ]
 
 
