@@ -225,7 +225,7 @@ def write_string(path):
     with open(path, "wb") as file:
         file.write(header(0x04, DUMPED_SIZE))
         for _ in range(DUMPED_SIZE // 1_000):
-            file.write(bytes(250) * 4)
+            file.write(b"\xff" * 1_000)
 
 
 # what writes a document, what it is of, and the words for the looks
