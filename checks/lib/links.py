@@ -107,11 +107,12 @@ def wrong_lines(lines):
         name, _, text = line[2:].partition(" ")
         if not line.startswith("  "):
             of = re.split(" OF | CONTAINING ", line.split(" ::= ")[-1])
-            word = re.sub(r" (?:CLOSED|HOLDING|NAMED|ADDRESS)$|^\[UNIVERSAL \d+\] ", "", of[0])
+            word = re.sub(r" (?:CLOSED|HOLDING|NAMED|ADDRESS|CHOOSING)$|^\[UNIVERSAL \d+\] ", "", of[0])
             is_right = {*of[1:]} <= {*shapes} and (
                 word in ("CHOICE", "OPEN", "KNOWN") or shapes.get(word, word).isdigit())
         elif of[0] in ("OPEN", "KNOWN"):
-            is_right = re.fullmatch(r"\d+(\.\d+)+", name) and text in shapes
+            is_number = name.isdigit() and int(name) < 1 << 15
+            is_right = (is_number or re.fullmatch(r"\d+(\.\d+)+", name)) and text in shapes
         elif of[0] == "CHOICE" or of[0].endswith(("SEQUENCE", "SET")):
             is_right = not name[0].isdigit() and FIELD.fullmatch(text)[1] in shapes
         else:

@@ -1,6 +1,6 @@
 // Going over the elements of a document, one behind another, with the fields that they are.
-use crate::identifier::number_of;
-use crate::shapes::{CONSTRUCTED, Inside, NOTHING, Order, Shapes};
+use crate::choosing::number_of;
+use crate::shapes::{CONSTRUCTED, Inside, NOTHING, Order, Shapes, ValueRule};
 use crate::spot::Spot;
 use asn1_headers::tags::OBJECT_IDENTIFIER;
 use std::alloc::{AllocError, Global};
@@ -25,16 +25,17 @@ pub enum Around {
 #[derive(Clone, Copy, Drop)]
 struct Level {
     inside: Inside,
-    // whether its tag alone says what stands inside: object identifiers there say nothing of what is around it
+    // whether its tag alone says what stands inside: what chooses a type there chooses none around it
     is_own: bool,
-    // whether it is an OBJECT IDENTIFIER that is a field
-    is_identifier: bool,
+    // whether it chooses a type: an OBJECT IDENTIFIER that is a field, or a number that chooses
+    is_choosing: bool,
     // the first field that may stand next
     next: usize,
     // no field that has to be there was passed over, and nothing that is no field
     is_sure: bool,
-    // the object identifier that says what stands inside: the first in it; if it has no fields, the one around it
-    identifier: Option<u128>,
+    // what chooses the types inside, as a number: the first that does in it; if it has no fields, that of the one
+    // around it
+    choice: Option<u128>,
 }
 
 /// How far the elements of a document were gone over: those that are open, and which fields they are. It takes memory
@@ -55,7 +56,7 @@ pub struct FieldWalk<'a> {
 impl<'a> FieldWalk<'a> {
     /// Before the first of elements of which this says which fields they are.
     pub fn inside(alloc: Global, shapes: &'a Shapes, around: Around) -> FieldWalk<'a> {
-        let (inside, identifier) = match around {
+        let (inside, choice) = match around {
             Around::Nothing | Around::Unknown => (NOTHING, None),
             Around::Shape(shape) => {
                 let shape = shapes.shapes.get(shape);
@@ -66,14 +67,14 @@ impl<'a> FieldWalk<'a> {
                 });
                 (whole.unwrap_or(NOTHING), None)
             }
-            Around::String(string) => (string.inside, string.identifier),
+            Around::String(string) => (string.inside, string.choice),
             Around::Alone(spot) => {
                 let alone = Inside {
                     first: spot.field,
                     end: spot.field.saturating_add(1),
                     order: Order::Each,
                 };
-                (alone, spot.identifier)
+                (alone, spot.choice)
             }
         };
         FieldWalk {
@@ -81,10 +82,10 @@ impl<'a> FieldWalk<'a> {
             inner: Level {
                 inside,
                 is_own: false,
-                is_identifier: false,
+                is_choosing: false,
                 next: 0,
                 is_sure: true,
-                identifier,
+                choice,
             },
             around: Vec::new(alloc),
             levels: 0,
@@ -110,16 +111,16 @@ impl<'a> FieldWalk<'a> {
             _ => self.shapes.own_inside(tag),
         };
         let inside = own.unwrap_or(spot.map_or(NOTHING, |spot| spot.inside));
-        let identifier = self.inner.identifier;
+        let choice = self.inner.choice;
         self.around.push(self.inner)?;
         self.inner = Level {
             inside,
             is_own: own.is_some(),
-            is_identifier: spot.is_some() && u64::from(tag) == OBJECT_IDENTIFIER,
+            is_choosing: spot.is_some_and(|spot| is_choosing(&spot, tag)),
             next: 0,
             is_sure: true,
-            // in a record of fields no identifier was seen yet
-            identifier: identifier.filter(|_| !matches!(inside.order, Order::Fields)),
+            // in a record of fields nothing was chosen yet
+            choice: choice.filter(|_| !matches!(inside.order, Order::Fields)),
         };
         Ok(spot)
     }
@@ -133,7 +134,7 @@ impl<'a> FieldWalk<'a> {
             let part = *shapes.parts.get(place)?;
             let is_shown = part.has_own_tag || !matches!(order, Order::Fields);
             if (self.inner.is_sure || is_shown)
-                && let Some(spot) = shapes.spot(place, tag, self.inner.identifier)
+                && let Some(spot) = shapes.spot(place, tag, self.inner.choice)
             {
                 self.inner.next = match order {
                     Order::Each => place,
@@ -147,16 +148,16 @@ impl<'a> FieldWalk<'a> {
         None
     }
 
-    /// Sees the contents octets of the element that was gone on to: those of an OBJECT IDENTIFIER may say what stands
-    /// behind it.
+    /// Sees the contents octets of the element that was gone on to: those of an OBJECT IDENTIFIER, and of some numbers,
+    /// may say what stands behind it.
     pub fn see(&mut self, contents: &[u8]) {
-        if self.inner.is_identifier {
-            self.inner.identifier = Some(number_of(contents));
+        if self.inner.is_choosing {
+            self.inner.choice = Some(number_of(contents));
         }
     }
 
-    /// Leaves the elements that are not around one of the depth, and hands the first identifier of each to the one
-    /// around it.
+    /// Leaves the elements that are not around one of the depth, and hands the first of each that chooses a type to the
+    /// one around it.
     pub fn leave(&mut self, depth: usize) {
         while self.around.len() > depth {
             self.lacks = self.lacks || (self.around.len() <= self.levels && self.lacks_field());
@@ -164,9 +165,9 @@ impl<'a> FieldWalk<'a> {
                 return;
             };
             let inner = self.inner;
-            let seen = inner.identifier.filter(|_| !inner.is_own);
+            let seen = inner.choice.filter(|_| !inner.is_own);
             self.inner = Level {
-                identifier: around.identifier.or(seen),
+                choice: around.choice.or(seen),
                 ..around
             };
         }
@@ -179,4 +180,12 @@ impl<'a> FieldWalk<'a> {
         let is_left = left.unwrap_or(&[]).iter().any(|field| !field.is_optional);
         !matches!(order, Order::Each) && (!self.inner.is_sure || is_left)
     }
+}
+
+// Whether an element with the tag, which is this field, chooses a type.
+fn is_choosing(spot: &Spot, tag: u8) -> bool {
+    u64::from(tag) == OBJECT_IDENTIFIER
+        || spot
+            .leaf
+            .is_some_and(|leaf| matches!(leaf.rule, ValueRule::Choosing))
 }

@@ -28,8 +28,8 @@
 #![tactic(auto)]
 
 mod bits;
+mod choosing;
 mod field_walk;
-mod identifier;
 mod like;
 mod named;
 mod shapes;

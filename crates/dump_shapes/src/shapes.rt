@@ -61,6 +61,8 @@ pub enum ValueRule {
     Named,
     /// Octets are an address of IP.
     Address,
+    /// The number says of which type an open field behind it is.
+    Choosing,
 }
 
 // What elements of a shape are, and what its parts are.
@@ -74,9 +76,9 @@ pub(crate) enum ShapeKind {
     Items,
     // one of several; the alternatives, which are fields
     Choice,
-    // what an object identifier says, or anything; object identifiers
+    // what an object identifier or a number says, or anything; what is said by which
     Open,
-    // what an object identifier says, and nothing where it says nothing; object identifiers
+    // what an object identifier or a number says, and nothing where it says nothing; what is said by which
     Known,
 }
 
@@ -106,7 +108,7 @@ pub(crate) const NOTHING: Inside = Inside {
     order: Order::Whole,
 };
 
-// A part of a shape: a field; a number, that of a value or of a bit, and its name; or an object identifier as a number,
+// A part of a shape: a field; a number, that of a value or of a bit, and its name; or what chooses a type, as a number,
 // and the shape that it says. What is known of elements of its shape is known of it, too.
 #[derive(Clone, Copy, Drop)]
 pub(crate) struct Part {

@@ -1,5 +1,5 @@
 // The tables of shapes, which are text: a line for each shape and each of its parts.
-use crate::identifier::written_number;
+use crate::choosing::written_number;
 use crate::named::LeafType;
 use crate::shapes::{Candidate, Inside, Order, Part, Shape, ShapeKind, Shapes, UNKNOWN, ValueRule};
 use crate::tables::{FITS, TABLES};
@@ -142,8 +142,8 @@ impl Reading {
         }
     }
 
-    // A part of a shape of the kind: a number, of a value or of a bit, and its name; an object identifier and what it
-    // says; or a field.
+    // A part of a shape of the kind: a number, of a value or of a bit, and its name; an object identifier or a number,
+    // and what it says; or a field.
     fn part_of(&self, kind: ShapeKind, text: &'static str) -> Option<Part> {
         if matches!(kind, ShapeKind::Items) {
             return self.field_of(None, text);
@@ -200,6 +200,7 @@ fn rule_behind(text: &'static str) -> (&'static str, ValueRule) {
         Some((text, "HOLDING")) => (text, ValueRule::Holding),
         Some((text, "NAMED")) => (text, ValueRule::Named),
         Some((text, "ADDRESS")) => (text, ValueRule::Address),
+        Some((text, "CHOOSING")) => (text, ValueRule::Choosing),
         _ => (text, ValueRule::Any),
     }
 }

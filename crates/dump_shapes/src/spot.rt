@@ -16,8 +16,8 @@ pub struct Spot {
     // the field that it is; of what has no other name the part that a shape is as a whole
     pub(crate) field: usize,
     pub(crate) inside: Inside,
-    // the object identifier by which what is open around it is known
-    pub(crate) identifier: Option<u128>,
+    // what chose the type of what is open around it
+    pub(crate) choice: Option<u128>,
 }
 
 /// What tells an element from others that stand in the same one.
@@ -43,11 +43,11 @@ impl Spot {
 }
 
 impl Shapes {
-    // What an element with the tag is as a field, where the identifier was seen. `None` where the field takes none
-    // with this tag.
-    pub(crate) fn spot(&self, place: usize, tag: u8, identifier: Option<u128>) -> Option<Spot> {
+    // What an element with the tag is as a field, where this was chosen. `None` where the field takes none with
+    // this tag.
+    pub(crate) fn spot(&self, place: usize, tag: u8, choice: Option<u128>) -> Option<Spot> {
         let field = *self.parts.get(place)?;
-        let said = self.said(field, identifier);
+        let said = self.said(field, choice);
         let (of, part) = match said.and_then(|said| self.taken(said, tag)) {
             Some(part) => (said?, part),
             // an element of any tag is one of an open type of which nothing is said
@@ -67,20 +67,20 @@ impl Shapes {
                 value: None,
             },
             leaf: part.leaf,
-            held: self.held(part, identifier),
+            held: self.held(part, choice),
             is_anything: part.tag.is_none(),
             field: place,
             inside: part.inside,
-            identifier,
+            choice,
         })
     }
 
-    // The part that a part is: of an open type the one that the identifier says, if it says one.
-    fn said(&self, part: Part, identifier: Option<u128>) -> Option<Part> {
+    // The part that a part is: of an open type the one that was chosen, if one was.
+    fn said(&self, part: Part, choice: Option<u128>) -> Option<Part> {
         if part.tag.is_some() || matches!(part.kind, ShapeKind::Choice) {
             return Some(part);
         }
-        self.numbered(part.shape, identifier?)
+        self.numbered(part.shape, choice?)
     }
 
     // The part that an element with the tag is as one of a part: this one, or an alternative.
@@ -94,15 +94,15 @@ impl Shapes {
         }
     }
 
-    // What the octets of a string are that is the part, where the identifier was seen.
-    fn held(&self, part: Part, identifier: Option<u128>) -> Held {
+    // What the octets of a string are that is the part, where this was chosen.
+    fn held(&self, part: Part, choice: Option<u128>) -> Held {
         let item = match (part.leaf, part.inside.order) {
             (Some(leaf), _) if matches!(leaf.rule, ValueRule::Holding) => None,
             (Some(_), _) => return Held::Nothing,
             (None, Order::Each) => self.parts.get(part.inside.first),
             (None, _) => None,
         };
-        match item.and_then(|item| self.said(*item, identifier)) {
+        match item.and_then(|item| self.said(*item, choice)) {
             Some(said) if matches!(said.kind, ShapeKind::Known) => Held::Nothing,
             Some(_) => Held::Type,
             None => Held::Anything,

@@ -25,10 +25,15 @@ Kerberos.EncryptedData ::= SEQUENCE
   etype [0] EXPLICIT EType.Int32
   kvno [1] EXPLICIT UInt32 OPTIONAL
   cipher [2] EXPLICIT OCTET STRING
+-- what stands in a request to a KDC, and what a KDC answers: the value of one type is not the same in both
 SEQUENCE OF PA-DATA
 PA-DATA ::= SEQUENCE
   padata-type [1] EXPLICIT PaDataType.Int32
-  padata-value [2] EXPLICIT Held.OCTET STRING
+  padata-value [2] EXPLICIT Asked.OCTET STRING
+Reply.SEQUENCE OF PA-DATA ::= SEQUENCE OF Reply.PA-DATA
+Reply.PA-DATA ::= SEQUENCE
+  padata-type [1] EXPLICIT PaDataType.Int32
+  padata-value [2] EXPLICIT Answered.OCTET STRING
 HostAddresses ::= SEQUENCE OF HostAddress
 HostAddress ::= SEQUENCE
   addr-type [0] EXPLICIT AddrType.Int32
@@ -120,7 +125,7 @@ CksumType.Int32 ::= INTEGER
 
 -- RFC 4120, 7.5.2; RFC 4556; RFC 4557; RFC 6112; RFC 6113; RFC 6560; RFC 6806; RFC 8070; RFC 8636; RFC 9588;
 -- MS-SFU; MS-KILE
-PaDataType.Int32 ::= INTEGER
+PaDataType.Int32 ::= INTEGER CHOOSING
   1 PA-TGS-REQ
   2 PA-ENC-TIMESTAMP
   3 PA-PW-SALT
@@ -176,9 +181,33 @@ PaDataType.Int32 ::= INTEGER
   151 PA-SPAKE
   165 PA-SUPPORTED-ENCTYPES
   167 PA-PAC-OPTIONS
--- what padata-value and e-data hold, by RFC 4120, 5.2.7 and 5.9.1, and RFC 6113, 5.4. A number says which: these
--- have names only where their type is given
-METHOD-DATA ::= SEQUENCE OF PA-DATA
+-- what padata-value holds, by its type: RFC 4120, 5.2.7; RFC 4556, 3.2.1 and 3.2.3; RFC 6112, 4; RFC 6113, 5.4; MS-SFU,
+-- 2.2.1; MS-KILE, 2.2.3 and 2.2.10. A salt, a cookie and a token for freshness (RFC 8070, 2) are octets alone
+Asked.OCTET STRING ::= OCTET STRING CONTAINING AskedPaData
+AskedPaData ::= KNOWN
+  1 KerberosMessage
+  2 PA-ENC-TIMESTAMP
+  16 PA-PK-AS-REQ
+  128 KERB-PA-PAC-REQUEST
+  129 PA-FOR-USER
+  133 NOTHING
+  136 PA-FX-FAST-REQUEST
+  138 Kerberos.EncryptedData
+  150 NOTHING
+  167 PA-PAC-OPTIONS
+Answered.OCTET STRING ::= OCTET STRING CONTAINING AnsweredPaData
+AnsweredPaData ::= KNOWN
+  3 NOTHING
+  11 ETYPE-INFO
+  17 PA-PK-AS-REP
+  19 ETYPE-INFO2
+  133 NOTHING
+  136 PA-FX-FAST-REPLY
+  137 KerberosMessage
+  138 Kerberos.EncryptedData
+  147 Kerberos.EncryptedData
+  150 NOTHING
+METHOD-DATA ::= SEQUENCE OF Reply.PA-DATA
 PA-ENC-TIMESTAMP ::= SEQUENCE
   etype [0] EXPLICIT EType.Int32
   kvno [1] EXPLICIT UInt32 OPTIONAL
@@ -199,6 +228,38 @@ TYPED-DATA ::= SEQUENCE OF TYPED-DATA.SEQUENCE
 TYPED-DATA.SEQUENCE ::= SEQUENCE
   data-type [0] EXPLICIT PaDataType.Int32
   data-value [1] EXPLICIT Held.OCTET STRING OPTIONAL
+PA-PK-AS-REQ ::= SEQUENCE
+  signedAuthPack [0] OCTET STRING CONTAINING ContentInfo
+  trustedCertifiers [1] EXPLICIT SEQUENCE OF ExternalPrincipalIdentifier OPTIONAL
+  kdcPkId [2] OCTET STRING OPTIONAL
+OCTET STRING CONTAINING ContentInfo
+SEQUENCE OF ExternalPrincipalIdentifier
+ExternalPrincipalIdentifier ::= SEQUENCE
+  subjectName [0] OCTET STRING CONTAINING Name OPTIONAL
+  issuerAndSerialNumber [1] OCTET STRING CONTAINING IssuerAndSerialNumber OPTIONAL
+  subjectKeyIdentifier [2] OCTET STRING OPTIONAL
+OCTET STRING CONTAINING Name
+OCTET STRING CONTAINING IssuerAndSerialNumber
+PA-PK-AS-REP ::= CHOICE
+  dhInfo [0] EXPLICIT DHRepInfo
+  encKeyPack [1] OCTET STRING CONTAINING ContentInfo
+DHRepInfo ::= SEQUENCE
+  dhSignedData [0] OCTET STRING CONTAINING ContentInfo
+  serverDHNonce [1] EXPLICIT OCTET STRING OPTIONAL
+KERB-PA-PAC-REQUEST ::= SEQUENCE
+  include-pac [0] EXPLICIT BOOLEAN
+PA-FOR-USER ::= SEQUENCE
+  userName [0] EXPLICIT PrincipalName
+  userRealm [1] EXPLICIT Realm
+  cksum [2] EXPLICIT Checksum
+  auth-package [3] EXPLICIT KerberosString
+PA-PAC-OPTIONS ::= SEQUENCE
+  KerberosFlags [0] EXPLICIT PacOptions.KerberosFlags
+PacOptions.KerberosFlags ::= BIT STRING
+  0 claims
+  1 branch-aware
+  2 forward-to-full-dc
+  3 resource-based-constrained-delegation
 PA-FX-FAST-REQUEST ::= CHOICE
   armored-data [0] EXPLICIT KrbFastArmoredReq
 KrbFastArmoredReq ::= SEQUENCE
@@ -207,8 +268,11 @@ KrbFastArmoredReq ::= SEQUENCE
   enc-fast-req [2] EXPLICIT Kerberos.EncryptedData
 KrbFastArmor ::= SEQUENCE
   armor-type [0] EXPLICIT ArmorType.Int32
-  armor-value [1] EXPLICIT Held.OCTET STRING
-ArmorType.Int32 ::= INTEGER
+  armor-value [1] EXPLICIT Armor.OCTET STRING
+Armor.OCTET STRING ::= OCTET STRING CONTAINING ArmorValue
+ArmorValue ::= KNOWN
+  1 KerberosMessage
+ArmorType.Int32 ::= INTEGER CHOOSING
   1 FX_FAST_ARMOR_AP_REQUEST
 PA-FX-FAST-REPLY ::= CHOICE
   armored-data [0] EXPLICIT KrbFastArmoredRep
@@ -286,7 +350,7 @@ KDCOptions ::= BIT STRING
 KDC-REP ::= SEQUENCE
   pvno [0] EXPLICIT INTEGER
   msg-type [1] EXPLICIT MessageType.INTEGER
-  padata [2] EXPLICIT SEQUENCE OF PA-DATA OPTIONAL
+  padata [2] EXPLICIT Reply.SEQUENCE OF PA-DATA OPTIONAL
   crealm [3] EXPLICIT Realm
   cname [4] EXPLICIT PrincipalName
   ticket [5] EXPLICIT Ticket
@@ -319,9 +383,17 @@ KRB-ERROR ::= SEQUENCE
   realm [9] EXPLICIT Realm
   sname [10] EXPLICIT PrincipalName
   e-text [11] EXPLICIT KerberosString OPTIONAL
-  e-data [12] EXPLICIT Held.OCTET STRING OPTIONAL
+  e-data [12] EXPLICIT ErrorData.OCTET STRING OPTIONAL
+-- RFC 4120, 5.9.1; RFC 4556, 3.2.2 and 3.2.3; RFC 6113, 5.2
+ErrorData.OCTET STRING ::= OCTET STRING CONTAINING ErrorData
+ErrorData ::= KNOWN
+  25 METHOD-DATA
+  65 TYPED-DATA
+  70 TYPED-DATA
+  71 TYPED-DATA
+  91 METHOD-DATA
 -- RFC 4120, 7.5.9; RFC 4556; RFC 6113; RFC 8636
-ErrorCode.Int32 ::= INTEGER
+ErrorCode.Int32 ::= INTEGER CHOOSING
   0 KDC_ERR_NONE
   1 KDC_ERR_NAME_EXP
   2 KDC_ERR_SERVICE_EXP
