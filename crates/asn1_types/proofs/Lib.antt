@@ -1,1 +1,2 @@
 mod ListTrees
+mod Encodings

@@ -13,3 +13,6 @@ pub mod ChoiceLaws
 pub mod WholeLaws
 -- How a type whose values are trees is stored.
 pub mod TreeCode
+-- The order of a SET OF.
+pub mod SetOrder
+pub mod Inner

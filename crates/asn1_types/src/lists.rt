@@ -95,8 +95,8 @@ impl<T: Asn1Write + Drop> Asn1Write for SequenceOf<T> {
     }
 }
 
-/// A SET OF (X.690 8.12), in the order of its blocks. DER wants the blocks in the order of their encodings (11.6):
-/// values are written in the order that they have here.
+/// A SET OF (X.690 8.12), in the order of its blocks, in which it is written. DER wants the order of their encodings
+/// (11.6): [`SetOf::in_order`] puts values in it.
 ///
 /// ```rust
 /// use asn1_types::{SetOf, Utf8String, Whole, WholeErr};

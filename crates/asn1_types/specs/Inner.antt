@@ -1,0 +1,2 @@
+-- What private contracts alone name.
+pub mod Encodings
