@@ -1,7 +1,7 @@
--- What an entry says of the tree at its index: which leaf, SEQUENCE or SET it is, what is inside explicit tagging, and
--- whether it is of bits. For the functions of `kinds`.
-use Rattle.std.proofs.Common.{◌≡◌, ◌≢◌, ℕ, zero, suc, ◌<◌, ◌≤◌, Bool, true, false, List, [], ◌∷◌, Option, None, Some, inl, inr, length, map, refl, sym, ap, subst, ◌∙◌, arith, eq-eqb, ne_eqb, lit<}
-use Rattle.std.specs.Prelude.{◌&&◌, ◌↔◌, ◌+◌, slice_get, MatchOption}
+-- What an entry says of the tree at its index: which leaf, SEQUENCE or SET it is, what is inside explicit tagging,
+-- whether it is of bits, and what a SET in implicit tagging holds. For the functions of `kinds`.
+use Rattle.std.proofs.Common.{◌≡◌, ℕ, zero, suc, ◌<◌, ◌≤◌, Bool, true, false, List, [], ◌∷◌, Option, None, Some, inl, inr, length, map, refl, sym, ap, subst, ◌∙◌, arith, eq-eqb, ne_eqb, lit<}
+use Rattle.std.specs.Prelude.{◌==◌, ◌&&◌, ◌↔◌, ◌+◌, slice_get, MatchOption}
 use Rattle.std.specs.List.{slice_range}
 use Rattle.std.proofs.Props.{props}
 use Rattle.std.proofs.lemmas.Bool.{false≢true}
@@ -27,7 +27,8 @@ use Rattle.asn1_outline.proofs.Entries.{length-entries}
 use Rattle.asn1_outline.proofs.Standing.{EncodingAt-encoded, Holds-node_items, IsStanding-structure}
 use Rattle.asn1_outline.proofs.Structures.{IsStructure-unique}
 use Rattle.asn1_outline.proofs.Values.{EntryContents-entry, IsCapped-small, IsLeafOf-entry, IsNoLeafWith-entry, SameEncoding-octets}
-use Rattle.asn1_certificate.specs.Sequences.{Found, are_bits, each, is_bits, is_leaf, sequence, sequence_of, sequence_of_some, set_of_some, some, tagged}
+use Rattle.asn1_certificate.specs.Held.{AreHeld}
+use Rattle.asn1_certificate.specs.Sequences.{Found, are_bits, are_each, each, is_bits, is_leaf, sequence, sequence_of, sequence_of_some, set_of_some, some, tagged, tagged_set_of}
 use Rattle.asn1_certificate.specs.Reading.{IsGroupOf, left, some_index, trees_at}
 use Rattle.asn1_certificate.specs.declared.fields.Fields.{Fields}
 
@@ -408,3 +409,121 @@ tagged-taken x es ns k n lent d h (o, inner, e) items trees old new begin None (
 tagged-taken x es ns k n lent d h (o, inner, e) items trees old new begin (Some j) first =
     λ is. tagged-inside (tree_at ns k) o n inner is e
     ∙ ap is (sym (first-inside x es ns k lent d items j new ContextSpecific o n inner h e trees (sym begin ∙ first)))
+
+-- the tree of an entry that is not of a constructed encoding with the tag is no SET in implicit tagging
+pub tagged_set_of-other : (x : List ℕ) (b : Tree ℕ) (r : Entry) (n : ℕ) (held : Tree ℕ → Trees ℕ)
+    (is : Tree ℕ → Bool) → IsEntryOf x b r → n < 64 →
+    ((r.class ≡ ContextSpecific) × (r.tag ≡ n) × (r.constructed ≡ true) → ⊥) → tagged_set_of held n is b ≡ false
+tagged_set_of-other x (leaf p l) r n held is e small other = refl
+tagged_set_of-other x (group p g bs) r n held is e small other = refl
+tagged_set_of-other x (explicit Universal p m b) r n held is e small other = refl
+tagged_set_of-other x (explicit Application p m b) r n held is e small other = refl
+tagged_set_of-other x (explicit Private p m b) r n held is e small other = refl
+tagged_set_of-other x (unknown Universal k p m v) r n held is e small other = refl
+tagged_set_of-other x (unknown Application k p m v) r n held is e small other = refl
+tagged_set_of-other x (unknown Private k p m v) r n held is e small other = refl
+tagged_set_of-other x (unknown ContextSpecific false p m v) r n held is e small other = refl
+tagged_set_of-other x (explicit ContextSpecific p m b) r n held is e small other =
+    let s = EntryContents-entry x (explicit ContextSpecific p m b) r e in
+    let (_, _, contents, header, F, _) = s.encoded in
+    let z = SameEncoding-octets s.octets ContextSpecific r.class true r.constructed m s.tag contents s.contents header
+    r.header F s.encoding in
+    ap (λ i. i && is b) (ne_eqb m n (λ same. other (
+      sym z.class,
+      s.number.0 (omega (arith, z.tag, same, small)) ∙ sym z.tag ∙ same,
+      sym z.constructed,
+    )))
+tagged_set_of-other x (unknown ContextSpecific true p m v) r n held is e small other =
+    let whole : Tree ℕ = unknown ContextSpecific true p m v in
+    let s = EntryContents-entry x whole r e in
+    let (_, header, F, _) = s.encoded in
+    let z = SameEncoding-octets s.octets ContextSpecific r.class true r.constructed m s.tag v s.contents header
+    r.header F s.encoding in
+    ap (λ i. i && are_each is v (held whole)) (ne_eqb m n (λ same. other (
+      sym z.class,
+      s.number.0 (omega (arith, z.tag, same, small)) ∙ sym z.tag ∙ same,
+      sym z.constructed,
+    )))
+
+-- one tree of which all are of a type
+are_each-one : (is : Tree ℕ → Bool) (v : List ℕ) (b : Tree ℕ) → are_each is v (more_trees b no_trees) ≡ is b
+are_each-one is v b = and_true (is b)
+  where
+    and_true : (z : Bool) → z && true ≡ z
+    and_true true = refl
+    and_true false = refl
+
+-- a tree whose encoding is constructed and of class context-specific, with what it holds
+tagged_set_of-encoding : (x : List ℕ) (o : ℕ) (y : List ℕ) (b : Tree ℕ) (n : ℕ) (v : List ℕ) (h : ℕ)
+    (held : Tree ℕ → Trees ℕ) (is : Tree ℕ → Bool) → Encodes o y b → Encoding y ContextSpecific true n v h →
+    Holds x b (held b) → tagged_set_of held n is b ≡ are_each is v (held b)
+tagged_set_of-encoding x o y (leaf p l) n v h held is (_, bit, contents, header, F, _) e holds =
+    let z = SameEncoding-octets y Universal ContextSpecific bit true (leaf_tag l) n contents v header h F e in
+    absurd (universal-other z.class)
+tagged_set_of-encoding x o y (group p g bs) n v h held is (_, bit, contents, header, F, _) e holds =
+    let z = SameEncoding-octets y Universal ContextSpecific bit true (group_tag g) n contents v header h F e in
+    absurd (universal-other z.class)
+tagged_set_of-encoding x o y (explicit c p m b) n v h held is (_, _, contents, header, F, _) e holds =
+    let z = SameEncoding-octets y c ContextSpecific true true m n contents v header h F e in
+    ap (λ i. tagged_set_of held n is (explicit i p m b)) z.class
+    ∙ ap (λ i. i && is b) (eq-eqb m n z.tag)
+    ∙ sym (ap (are_each is v) holds ∙ are_each-one is v b)
+tagged_set_of-encoding x o y (unknown c k p m w) n v h held is (_, header, F, _) e holds =
+    let z = SameEncoding-octets y c ContextSpecific k true m n w v header h F e in
+    let tree : unknown c k p m w ≡ unknown ContextSpecific true p m v =
+    ap (λ i. unknown i k p m w) z.class ∙ ap (λ i. unknown ContextSpecific i p m w) z.constructed
+    ∙ ap (λ i. unknown ContextSpecific true p m i) z.contents in
+    ap (tagged_set_of held n is) tree
+    ∙ ap (λ i. i && are_each is v (held (unknown ContextSpecific true p m v))) (eq-eqb m n z.tag)
+    ∙ ap (λ i. are_each is v (held i)) (sym tree)
+
+-- the tree of a constructed entry with the tag is a SET in implicit tagging if what it holds is of the type
+pub tagged_set_of-entry : (x : List ℕ) (b : Tree ℕ) (r : Entry) (n : ℕ) (held : Tree ℕ → Trees ℕ)
+    (is : Tree ℕ → Bool) (w : List ℕ) → IsEntryOf x b r → n < 64 → r.class ≡ ContextSpecific → r.tag ≡ n →
+    r.constructed ≡ true → HasContents x b w → Holds x b (held b) →
+    tagged_set_of held n is b ≡ are_each is w (held b)
+tagged_set_of-entry x b r n held is w e small class tag constructed has holds =
+    let s = EntryContents-entry x b r e in
+    let same : s.octets ≡ has.octets = EncodingAt-unique x (tree_offset b) s.octets has.octets
+    (EncodingAt-encoded x b s.octets s.stands) (EncodingAt-encoded x b has.octets has.encoded) in
+    let z = SameEncoding-octets has.octets r.class has.class r.constructed has.constructed s.tag has.tag s.contents w
+    r.header has.header
+    (subst (λ i. Encoding i r.class r.constructed s.tag s.contents r.header) same s.encoding) has.encoding in
+    let one = subst (λ i. Encoding has.octets i has.constructed has.tag w has.header) (sym z.class ∙ class)
+    has.encoding in
+    let two = subst (λ i. Encoding has.octets ContextSpecific i has.tag w has.header) (sym z.constructed ∙ constructed)
+    one in
+    let three = subst (λ i. Encoding has.octets ContextSpecific true i w has.header)
+    (sym z.tag ∙ IsCapped-small s.tag r.tag n s.number tag small) two in
+    tagged_set_of-encoding x (tree_offset b) has.octets b n w has.header held is has.encoded.encoded three holds
+
+-- what a SET in implicit tagging holds, by the indices of its items
+module _ (x : List ℕ) (es : List Entry) (ns : Nodes) (k : ℕ) (lent : ∥ IsOutline x es ∥₁) (d : IsStructure x ns)
+    (held : Tree ℕ → Trees ℕ) (are : AreHeld ns held) where
+  -- the trees at these indices
+  pub held-items : (items : List (ℕ × Entry)) →
+      trees_of (map (λ (item : ℕ × Entry). tree_at ns item.0) items) ≡ nodes_trees (node_items (node_at ns k)) →
+      held (tree_at ns k) ≡ trees_at ns (map (λ (item : ℕ × Entry). item.0) items)
+  held-items items trees = are k ∙ sym trees ∙ sym (map-indices ns items)
+
+  -- a tree holds what is held
+  pub Holds-held : k < length es → Holds x (tree_at ns k) (held (tree_at ns k))
+  Holds-held h = subst (Holds x (tree_at ns k)) (sym (are k)) (Holds-at x es ns k lent d h)
+
+-- trees at some indices that contents octets hold
+pub are_each-some : (ns : Nodes) (is : Tree ℕ → Bool) (w : List ℕ) (ks : List ℕ) → some_index ks ≡ true →
+    are_each is w (trees_at ns ks) ≡ each is (trees_at ns ks)
+are_each-some ns is w [] e = absurd (false≢true e)
+are_each-some ns is w (k ∷ ks) e = refl
+
+-- contents octets that are no encodings hold no trees
+pub are_each-octets : (ns : Nodes) (is : Tree ℕ → Bool) (w : List ℕ) (ks : List ℕ) → some_index ks ≡ false →
+    (length w == 0) ≡ false → are_each is w (trees_at ns ks) ≡ false
+are_each-octets ns is w [] e some = ap (λ z. z && true) some
+are_each-octets ns is w (k ∷ ks) e some = absurd (false≢true (sym e))
+
+-- no contents octets hold no trees
+pub are_each-none : (ns : Nodes) (is : Tree ℕ → Bool) (w : List ℕ) (ks : List ℕ) → some_index ks ≡ false →
+    (length w == 0) ≡ true → are_each is w (trees_at ns ks) ≡ each is (trees_at ns ks)
+are_each-none ns is w [] e none = ap (λ z. z && true) none
+are_each-none ns is w (k ∷ ks) e none = absurd (false≢true (sym e))

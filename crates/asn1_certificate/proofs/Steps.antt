@@ -67,6 +67,16 @@ pub Tells-any : (ns : Nodes) (ks : List ℕ) → Tells ns is_any true ks
 Tells-any ns [] = tt
 Tells-any ns (k ∷ ks) = refl
 
+-- all trees are of ANY
+each-any : (ns : Nodes) (ks : List ℕ) → each is_any (trees_at ns ks) ≡ true
+each-any ns [] = refl
+each-any ns (k ∷ ks) = each-any ns ks
+
+-- trees of ANY are one or more if there is an index
+pub some-any : (ns : Nodes) (ks : List ℕ) → some_index ks && each is_any (trees_at ns ks) ≡ some_index ks
+some-any ns [] = refl
+some-any ns (k ∷ ks) = each-any ns (k ∷ ks)
+
 -- the first index is the one that is left
 pub first-left : (next : Option ℕ) (others : List (ℕ × Entry)) → next ≡ first_of_indices (indices_left next others)
 first-left None others = refl

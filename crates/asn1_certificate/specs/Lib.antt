@@ -1,3 +1,4 @@
 pub mod Sequences
 pub mod Types
+pub mod Held
 pub mod Reading

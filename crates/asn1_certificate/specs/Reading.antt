@@ -1,10 +1,13 @@
 -- What is left of the fields that are being read: the indices of their entries. Private contracts alone name these.
 use Rattle.std.specs.Prelude.{◌≡◌, ℕ, Bool, false, true, List, [], ◌∷◌, map, Option, None, Some, IfSome}
 use Rattle.asn1_blocks.specs.declared.block.GroupKind.{GroupKind}
+use Rattle.asn1_headers.specs.declared.tags.TheConstants.{BIT_STRING}
 use Rattle.asn1_blocks.specs.Tree.{Tree, Trees, group, trees_of}
 use Rattle.asn1_outline.specs.declared.entry.Entry.{Entry}
 use Rattle.asn1_certificate.specs.declared.fields.Fields.{Fields}
 use Rattle.asn1_outline.specs.Structure.{Nodes, tree_at}
+use Rattle.asn1_certificate.specs.Sequences.{Found, field, is_leaf, no_more}
+use Rattle.asn1_certificate.specs.Types.{is_algorithm_identifier}
 
 -- the indices of the first field that is left, if there is one, and of the others
 abbrev pub indices_left : Option ℕ → List (ℕ × Entry) → List ℕ
@@ -36,3 +39,11 @@ Tells ns is told ks = IfSome (first_of_indices ks) (λ k. told ≡ is (tree_at n
 -- the tree is a SEQUENCE or SET of these trees
 abbrev pub IsGroupOf : GroupKind → Trees ℕ → Tree ℕ → Type 0
 IsGroupOf kind items b = (o : ℕ) × (b ≡ group o kind items)
+
+-- SIGNED{} (RFC 5912, 14): what is signed, which is of the type, the algorithm, and the signature
+abbrev pub signed_fields : (Tree ℕ → Bool) → Trees ℕ → Option Found
+signed_fields is =
+    field is
+    (field is_algorithm_identifier
+    (field (is_leaf BIT_STRING)
+    no_more))

@@ -1,6 +1,6 @@
 -- What stands in a SEQUENCE (X.680 25), a SEQUENCE OF (26) and explicit tagging (31), over trees. A definition of a
 -- type names its fields, in order, and says of a tree which fields it has.
-use Rattle.std.specs.Prelude.{◌==◌, ◌&&◌, ◌*◌, ◌^◌, ℕ, length, nat_lt, not, Bool, true, false, if◌then◌else◌, List, [], ◌∷◌, Option, None, Some}
+use Rattle.std.specs.Prelude.{◌==◌, ◌&&◌, ◌||◌, ◌*◌, ◌^◌, ℕ, length, nat_lt, not, Bool, true, false, if◌then◌else◌, List, [], ◌∷◌, Option, None, Some}
 use Rattle.asn1_headers.specs.declared.header.ASN1Class.TheVariants.{ContextSpecific}
 use Rattle.asn1_blocks.specs.declared.block.GroupKind.TheVariants.{Sequence, Set}
 use Rattle.asn1_blocks.specs.Contents.{leaf_tag}
@@ -69,6 +69,18 @@ set_of_some is b = false
 abbrev pub tagged : ℕ → (Tree ℕ → Bool) → Tree ℕ → Bool
 tagged tag is (explicit ContextSpecific o n b) = (n == tag) && is b
 tagged tag is b = false
+
+-- contents octets hold these trees, each of the type: there are none where octets are no encodings
+abbrev pub are_each : (Tree ℕ → Bool) → List ℕ → Trees ℕ → Bool
+are_each is contents items = (some items || (length contents == 0)) && each is items
+
+-- a SET OF the type in implicit tagging, with a tag of class context-specific. Its contents octets are encodings; held
+-- says of which trees
+abbrev pub tagged_set_of : (Tree ℕ → Trees ℕ) → ℕ → (Tree ℕ → Bool) → Tree ℕ → Bool
+tagged_set_of held tag is (explicit ContextSpecific o n b) = (n == tag) && is b
+tagged_set_of held tag is (unknown ContextSpecific true o n contents) =
+    (n == tag) && are_each is contents (held (unknown ContextSpecific true o n contents))
+tagged_set_of held tag is b = false
 
 -- contents octets of a BIT STRING, as the library reads them: none, or the number of unused bits and the octets of the
 -- bits, which a usize can count

@@ -1,9 +1,10 @@
--- The types of a certificate, by RFC 5280, appendix A: which trees are of each, and what its fields are. A field with a
--- DEFAULT may also stand there with that value, which DER forbids.
+-- The types of certificates and of lists of revoked ones (RFC 5280, appendix A), of certification requests (RFC 2986,
+-- appendix A) and of private keys (RFC 5958, appendix A): which trees are of each, and what its fields are. A field
+-- with a DEFAULT may also stand there with that value, which DER forbids.
 use Rattle.std.specs.Prelude.{◌||◌, ℕ, Bool, true, Option}
 use Rattle.asn1_headers.specs.declared.tags.TheConstants.{BIT_STRING, BOOLEAN, GENERALIZED_TIME, INTEGER, OBJECT_IDENTIFIER, OCTET_STRING, UTC_TIME}
-use Rattle.asn1_blocks.specs.Tree.{Tree}
-use Rattle.asn1_certificate.specs.Sequences.{Found, field, is_bits, is_found, is_leaf, no_more, optional, sequence, sequence_of, sequence_of_some, set_of_some, tagged}
+use Rattle.asn1_blocks.specs.Tree.{Tree, Trees}
+use Rattle.asn1_certificate.specs.Sequences.{Found, field, is_bits, is_found, is_leaf, no_more, optional, sequence, sequence_of, sequence_of_some, set_of_some, tagged, tagged_set_of}
 
 -- ANY
 abbrev pub is_any : Tree ℕ → Bool
@@ -128,3 +129,108 @@ certificate = sequence
     (field is_algorithm_identifier
     (field (is_leaf BIT_STRING)
     no_more)))
+
+-- of revokedCertificates in TBSCertList: SEQUENCE {
+--     userCertificate     CertificateSerialNumber,    -- INTEGER
+--     revocationDate      Time,
+--     crlEntryExtensions  Extensions OPTIONAL }
+abbrev pub revoked_certificate : Tree ℕ → Option Found
+revoked_certificate = sequence
+    (field (is_leaf INTEGER)
+    (field is_time
+    (optional is_extensions
+    no_more)))
+
+abbrev pub is_revoked_certificate : Tree ℕ → Bool
+is_revoked_certificate b = is_found (revoked_certificate b)
+
+-- TBSCertList ::= SEQUENCE {
+--     version                   Version OPTIONAL,    -- INTEGER
+--     signature                 AlgorithmIdentifier,
+--     issuer                    Name,
+--     thisUpdate                Time,
+--     nextUpdate                Time OPTIONAL,
+--     revokedCertificates       SEQUENCE OF SEQUENCE { .. } OPTIONAL,
+--     crlExtensions        [0]  Extensions OPTIONAL }    -- in a module with EXPLICIT TAGS
+abbrev pub tbs_cert_list : Tree ℕ → Option Found
+tbs_cert_list = sequence
+    (optional (is_leaf INTEGER)
+    (field is_algorithm_identifier
+    (field is_name
+    (field is_time
+    (optional is_time
+    (optional (sequence_of is_revoked_certificate)
+    (optional (tagged 0 is_extensions)
+    no_more)))))))
+
+abbrev pub is_tbs_cert_list : Tree ℕ → Bool
+is_tbs_cert_list b = is_found (tbs_cert_list b)
+
+-- CertificateList ::= SEQUENCE {
+--     tbsCertList         TBSCertList,
+--     signatureAlgorithm  AlgorithmIdentifier,
+--     signature           BIT STRING }
+abbrev pub certificate_list : Tree ℕ → Option Found
+certificate_list = sequence
+    (field is_tbs_cert_list
+    (field is_algorithm_identifier
+    (field (is_leaf BIT_STRING)
+    no_more)))
+
+-- Attribute ::= SEQUENCE {
+--     type    OBJECT IDENTIFIER,
+--     values  SET SIZE (1..MAX) OF ANY }    -- of the type that the identifier says
+abbrev pub attribute : Tree ℕ → Option Found
+attribute = sequence
+    (field (is_leaf OBJECT_IDENTIFIER)
+    (field (set_of_some is_any)
+    no_more))
+
+abbrev pub is_attribute : Tree ℕ → Bool
+is_attribute b = is_found (attribute b)
+
+-- Attributes ::= SET OF Attribute    -- in implicit tagging, in both modules that have it
+abbrev pub tagged_attributes : (Tree ℕ → Trees ℕ) → ℕ → Tree ℕ → Bool
+tagged_attributes held tag = tagged_set_of held tag is_attribute
+
+-- CertificationRequestInfo ::= SEQUENCE {
+--     version             INTEGER,
+--     subject             Name,
+--     subjectPKInfo       SubjectPublicKeyInfo,
+--     attributes     [0]  Attributes }    -- in a module with IMPLICIT TAGS
+abbrev pub certification_request_info : (Tree ℕ → Trees ℕ) → Tree ℕ → Option Found
+certification_request_info held = sequence
+    (field (is_leaf INTEGER)
+    (field is_name
+    (field is_subject_public_key_info
+    (field (tagged_attributes held 0)
+    no_more))))
+
+abbrev pub is_certification_request_info : (Tree ℕ → Trees ℕ) → Tree ℕ → Bool
+is_certification_request_info held b = is_found (certification_request_info held b)
+
+-- CertificationRequest ::= SEQUENCE {
+--     certificationRequestInfo  CertificationRequestInfo,
+--     signatureAlgorithm        AlgorithmIdentifier,
+--     signature                 BIT STRING }
+abbrev pub certification_request : (Tree ℕ → Trees ℕ) → Tree ℕ → Option Found
+certification_request held = sequence
+    (field (is_certification_request_info held)
+    (field is_algorithm_identifier
+    (field (is_leaf BIT_STRING)
+    no_more)))
+
+-- OneAsymmetricKey ::= SEQUENCE {    -- without publicKey the PrivateKeyInfo of RFC 5208
+--     version                   Version,    -- INTEGER
+--     privateKeyAlgorithm       AlgorithmIdentifier,
+--     privateKey                OCTET STRING,
+--     attributes           [0]  Attributes OPTIONAL,
+--     publicKey            [1]  BIT STRING OPTIONAL }    -- in a module with IMPLICIT TAGS
+abbrev pub one_asymmetric_key : (Tree ℕ → Trees ℕ) → Tree ℕ → Option Found
+one_asymmetric_key held = sequence
+    (field (is_leaf INTEGER)
+    (field is_algorithm_identifier
+    (field (is_leaf OCTET_STRING)
+    (optional (tagged_attributes held 0)
+    (optional (is_bits 1)
+    no_more)))))

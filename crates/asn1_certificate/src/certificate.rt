@@ -8,12 +8,13 @@ ghost use Rattle.asn1_certificate.specs.Reading.{Tells, left};
 ghost use Rattle.asn1_certificate.specs.Types.{certificate as certificate_tree, is_tbs_certificate, tbs_certificate as tbs_certificate_tree};
 
 use crate::algorithm::{begins_with_algorithm, begins_with_key};
-use crate::extension::begins_with_extensions;
+use crate::extension::begins_with_tagged;
 use crate::fields::Fields;
 use crate::kinds::{begins_with_bits, begins_with_leaf, is_leaf, sequence, tagged};
 use crate::names::begins_with_name;
+use crate::signed::signed_fields;
 use crate::validity::begins_with_validity;
-use asn1_headers::tags::{BIT_STRING, INTEGER};
+use asn1_headers::tags::INTEGER;
 use asn1_outline::outline::Outline;
 
 /// The places of the fields of a TBSCertificate, which is what is signed of a certificate.
@@ -77,7 +78,7 @@ impl TBSCertificate {
         let issuer_unique_id = fields.take_if(has_issuer_id);
         let has_subject_id = begins_with_bits(outline, &fields, 2);
         let subject_unique_id = fields.take_if(has_subject_id);
-        let has_extensions = begins_with_extensions(outline, &fields, 3);
+        let has_extensions = begins_with_tagged(outline, &fields, 3);
         let extensions = fields.take_if(has_extensions);
         if fields.is_some() {
             return None;
@@ -158,20 +159,13 @@ impl Certificate {
             (Some (tree_at ns found.tbs_certificate) ∷ Some (tree_at ns found.signature_algorithm)
             ∷ Some (tree_at ns found.signature) ∷ [])) }
     {
-        let mut fields = sequence(outline, index)?;
+        let fields = sequence(outline, index)?;
         let has_tbs = begins_with_tbs(outline, &fields);
-        let tbs_certificate = fields.take_if(has_tbs)?;
-        let has_algorithm = begins_with_algorithm(outline, &fields);
-        let signature_algorithm = fields.take_if(has_algorithm)?;
-        let has_signature = begins_with_leaf(outline, &fields, BIT_STRING);
-        let signature = fields.take_if(has_signature)?;
-        if fields.is_some() {
-            return None;
-        }
+        let signed = signed_fields(outline, fields, has_tbs)?;
         Some(Certificate {
-            tbs_certificate,
-            signature_algorithm,
-            signature,
+            tbs_certificate: signed.content,
+            signature_algorithm: signed.algorithm,
+            signature: signed.signature,
         })
     }
 }

@@ -84,6 +84,17 @@ fn is_extensions(outline: &Outline<'_>, index: usize) -> bool
     are_extensions(outline, items)
 }
 
+// Whether the next field is Extensions.
+pub(crate) fn begins_with_extensions(outline: &Outline<'_>, fields: &Fields<'_>) -> bool
+    ensures { (ns : Nodes) → IsStructure (octets_in outline.now) ns
+        → Tells ns is_extensions_tree result (left fields.now) }
+{
+    match fields.first() {
+        Some(index) => is_extensions(outline, index),
+        None => false,
+    }
+}
+
 // Whether the block at the index is Extensions in explicit tagging with the tag number.
 fn is_tagged(outline: &Outline<'_>, index: usize, tag: u64) -> bool
     requires { tag < 64 }
@@ -97,7 +108,7 @@ fn is_tagged(outline: &Outline<'_>, index: usize, tag: u64) -> bool
 }
 
 // Whether the next field is Extensions in explicit tagging with the tag number.
-pub(crate) fn begins_with_extensions(outline: &Outline<'_>, fields: &Fields<'_>, tag: u64) -> bool
+pub(crate) fn begins_with_tagged(outline: &Outline<'_>, fields: &Fields<'_>, tag: u64) -> bool
     requires { tag < 64 }
     ensures { (ns : Nodes) → IsStructure (octets_in outline.now) ns
         → Tells ns (tagged_tree tag is_extensions_tree) result (left fields.now) }

@@ -6,7 +6,8 @@ ghost use Rattle.asn1_headers.specs.declared.tags.TheConstants.{NULL};
 ghost use Rattle.asn1_headers.specs.declared.header.ASN1Class.TheVariants.{ContextSpecific, Universal};
 ghost use Rattle.asn1_outline.specs.Outlines.{IsBlockOf, entry_in, octets_in};
 ghost use Rattle.asn1_outline.specs.Structure.{IsStructure, Nodes, tree_at};
-ghost use Rattle.asn1_certificate.specs.Sequences.{Found, are_bits as means_bits, is_bits as is_bits_tree, is_leaf as is_leaf_tree, sequence as sequence_tree, tagged as tagged_tree};
+ghost use Rattle.asn1_certificate.specs.Held.{AreHeld};
+ghost use Rattle.asn1_certificate.specs.Sequences.{Found, are_bits as means_bits, each, is_bits as is_bits_tree, is_leaf as is_leaf_tree, sequence as sequence_tree, tagged as tagged_tree, tagged_set_of};
 ghost use Rattle.asn1_certificate.specs.Reading.{IsGroupOf, Tells, left, trees_at};
 
 use crate::fields::Fields;
@@ -108,6 +109,34 @@ pub(crate) fn tagged(outline: &Outline<'_>, index: usize, tag: u64) -> Option<us
     }
     let mut inside = Fields::new(outline.items(index));
     inside.take()
+}
+
+// The items of the SET in implicit tagging at the index, if its contents octets are blocks.
+pub(crate) fn tagged_set<'o>(outline: &'o Outline<'_>, index: usize, tag: u64) -> Option<Fields<'o>>
+    requires { tag < 64 }
+    ensures { (ns : Nodes) (held : Tree ℕ → Trees ℕ) → IsStructure (octets_in outline.now) ns
+        → AreHeld ns held → MatchOption result
+        ((is : Tree ℕ → Bool) → tagged_set_of held tag is (tree_at ns index) ≡ false)
+        (λ items. (is : Tree ℕ → Bool) → tagged_set_of held tag is (tree_at ns index)
+        ≡ each is (trees_at ns (left items))) }
+{
+    let block = outline.block(index)?;
+    if !is_context_specific(&block, tag) {
+        return None;
+    }
+    let entry = block.entry();
+    if !entry.constructed {
+        return None;
+    }
+    let contents = block.contents();
+    let items = Fields::new(outline.items(index));
+    if items.is_some() {
+        return Some(items);
+    }
+    if !contents.is_empty() {
+        return None;
+    }
+    Some(items)
 }
 
 // Whether the block is of class context-specific, with the tag number.

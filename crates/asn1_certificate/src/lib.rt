@@ -1,9 +1,11 @@
-//! Certificates by their type (RFC 5280), in place: which blocks of an [`Outline`] are the fields. Nothing is copied,
-//! and no memory is taken. Each struct has the fields of a type under their names, each as the index of its block; `at`
-//! gives them for the block at an index, and `None` for a block of another type.
+//! Certificates and lists of revoked ones (RFC 5280), certification requests (RFC 2986) and private keys (RFC 5958) by
+//! their types, in place: which blocks of an [`Outline`] are the fields. Nothing is copied, and no memory is taken.
+//! Each struct has the fields of a type under their names, each as the index of its block; `at` gives them for the
+//! block at an index, and `None` for a block of another type. Where a field is a SEQUENCE or SET of items, their
+//! indices are those of [`Outline::items`].
 //!
-//! It says what stands in a certificate, and no more: it checks no signature, no chain of certificates, no moment and
-//! no purpose.
+//! It says what stands in a document, and no more: it checks no signature, no chain of certificates, no moment and no
+//! purpose.
 //!
 //! ```rust
 //! use asn1_certificate::certificate::{Certificate, TBSCertificate};
@@ -26,12 +28,18 @@
 //! ```
 //!
 //! [`Outline`]: asn1_outline::outline::Outline
+//! [`Outline::items`]: asn1_outline::outline::Outline::items
 #![tactic(auto)]
 
 pub mod algorithm;
+pub mod attribute;
 pub mod certificate;
 pub mod extension;
 mod fields;
 mod kinds;
 pub mod names;
+pub mod private_key;
+pub mod request;
+pub mod revocation;
+mod signed;
 pub mod validity;

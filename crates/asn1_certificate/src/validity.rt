@@ -53,7 +53,7 @@ fn is_time(outline: &Outline<'_>, index: usize) -> bool
 }
 
 // Whether the next field is a Time.
-fn begins_with_time(outline: &Outline<'_>, fields: &Fields<'_>) -> bool
+pub(crate) fn begins_with_time(outline: &Outline<'_>, fields: &Fields<'_>) -> bool
     ensures { (ns : Nodes) → IsStructure (octets_in outline.now) ns
         → Tells ns is_time_tree result (left fields.now) }
 {

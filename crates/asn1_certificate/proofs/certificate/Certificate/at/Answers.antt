@@ -1,81 +1,23 @@
 -- For `certificate::Certificate::at`: what it returns is right.
-use Rattle.std.proofs.Common.{◌∙◌, ℕ, Option, sym}
-use Rattle.asn1_blocks.specs.Tree.{Trees}
-use Rattle.asn1_certificate.specs.Sequences.{Found, field, is_leaf, no_more}
-use Rattle.asn1_certificate.specs.Types.{is_algorithm_identifier, is_tbs_certificate}
-use Rattle.asn1_certificate.proofs.Steps.{end-none, end-some, from-none, through}
+use Rattle.std.proofs.Common.{◌∙◌}
+use Rattle.asn1_certificate.specs.Reading.{signed_fields}
+use Rattle.asn1_certificate.specs.Types.{is_tbs_certificate}
+use Rattle.asn1_certificate.proofs.Steps.{from-none}
 use Rattle.asn1_certificate.proofs.certificate.Certificate.at.Goals as goal
 
 pub returns-in_err-fields : goal.returns-in_err-fields
 returns-in_err-fields c ns d =
-    let from_2 : Trees ℕ → Option Found = field (is_leaf 3) no_more in
-    let from_1 : Trees ℕ → Option Found = field is_algorithm_identifier from_2 in
-    from-none _ _ _ c.from_residual.ensures (c.in_err-fields.ensures ns d (field is_tbs_certificate from_1))
+    from-none _ _ _ c.from_residual.ensures
+    (c.in_err-fields.ensures ns d (signed_fields is_tbs_certificate))
 
-pub returns-in_err-tbs_certificate : goal.returns-in_err-tbs_certificate
-returns-in_err-tbs_certificate c ns d =
-    let from_2 : Trees ℕ → Option Found = field (is_leaf 3) no_more in
-    let from_1 : Trees ℕ → Option Found = field is_algorithm_identifier from_2 in
-    from-none _ _ _ c.from_residual-in_err-tbs_certificate.ensures (
-    c.in_ok-fields.ensures ns d (field is_tbs_certificate from_1)
-    ∙ c.in_err-tbs_certificate.ensures.field ns is_tbs_certificate from_1
+pub returns-in_err-signed : goal.returns-in_err-signed
+returns-in_err-signed c ns d =
+    from-none _ _ _ c.from_residual-in_err-signed.ensures (
+    c.in_ok-fields.ensures ns d (signed_fields is_tbs_certificate)
+    ∙ c.in_err-signed.ensures ns is_tbs_certificate d
     (c.begins_with_tbs-has_tbs.ensures ns d))
-
-pub returns-in_err-signature_algorithm : goal.returns-in_err-signature_algorithm
-returns-in_err-signature_algorithm c ns d =
-    let from_2 : Trees ℕ → Option Found = field (is_leaf 3) no_more in
-    let from_1 : Trees ℕ → Option Found = field is_algorithm_identifier from_2 in
-    from-none _ _ _ c.from_residual-in_err-signature_algorithm.ensures (
-    c.in_ok-fields.ensures ns d (field is_tbs_certificate from_1)
-    ∙ through _ _ _ _
-    (c.in_ok-tbs_certificate.ensures.field ns is_tbs_certificate from_1
-    (c.begins_with_tbs-has_tbs.ensures ns d))
-    (c.in_err-signature_algorithm.ensures.field ns is_algorithm_identifier from_2
-    (c.begins_with_algorithm-has_algorithm.ensures ns d)))
-
-pub returns-in_err-signature : goal.returns-in_err-signature
-returns-in_err-signature c ns d =
-    let from_2 : Trees ℕ → Option Found = field (is_leaf 3) no_more in
-    let from_1 : Trees ℕ → Option Found = field is_algorithm_identifier from_2 in
-    from-none _ _ _ c.from_residual-in_err-signature.ensures (
-    c.in_ok-fields.ensures ns d (field is_tbs_certificate from_1)
-    ∙ through _ _ _ _
-    (c.in_ok-tbs_certificate.ensures.field ns is_tbs_certificate from_1
-    (c.begins_with_tbs-has_tbs.ensures ns d))
-    (through _ _ _ _
-    (c.in_ok-signature_algorithm.ensures.field ns is_algorithm_identifier from_2
-    (c.begins_with_algorithm-has_algorithm.ensures ns d))
-    (c.in_err-signature.ensures.field ns (is_leaf 3) no_more
-    (c.begins_with_leaf-has_signature.ensures ns d))))
-
-pub returns-then-is_some : goal.returns-then-is_some
-returns-then-is_some c ns d =
-    let from_2 : Trees ℕ → Option Found = field (is_leaf 3) no_more in
-    let from_1 : Trees ℕ → Option Found = field is_algorithm_identifier from_2 in
-    c.in_ok-fields.ensures ns d (field is_tbs_certificate from_1)
-    ∙ through _ _ _ _
-    (c.in_ok-tbs_certificate.ensures.field ns is_tbs_certificate from_1
-    (c.begins_with_tbs-has_tbs.ensures ns d))
-    (through _ _ _ _
-    (c.in_ok-signature_algorithm.ensures.field ns is_algorithm_identifier from_2
-    (c.begins_with_algorithm-has_algorithm.ensures ns d))
-    (through _ _ _ _
-    (c.in_ok-signature.ensures.field ns (is_leaf 3) no_more
-    (c.begins_with_leaf-has_signature.ensures ns d))
-    (end-some ns _ (sym c.is_some.ensures ∙ c.if-is_some.true))))
 
 pub returns : goal.returns
 returns c ns d =
-    let from_2 : Trees ℕ → Option Found = field (is_leaf 3) no_more in
-    let from_1 : Trees ℕ → Option Found = field is_algorithm_identifier from_2 in
-    c.in_ok-fields.ensures ns d (field is_tbs_certificate from_1)
-    ∙ through _ _ _ _
-    (c.in_ok-tbs_certificate.ensures.field ns is_tbs_certificate from_1
-    (c.begins_with_tbs-has_tbs.ensures ns d))
-    (through _ _ _ _
-    (c.in_ok-signature_algorithm.ensures.field ns is_algorithm_identifier from_2
-    (c.begins_with_algorithm-has_algorithm.ensures ns d))
-    (through _ _ _ _
-    (c.in_ok-signature.ensures.field ns (is_leaf 3) no_more
-    (c.begins_with_leaf-has_signature.ensures ns d))
-    (end-none ns _ (sym c.is_some.ensures ∙ c.if-is_some.false))))
+    c.in_ok-fields.ensures ns d (signed_fields is_tbs_certificate)
+    ∙ c.in_ok-signed.ensures ns is_tbs_certificate d (c.begins_with_tbs-has_tbs.ensures ns d)

@@ -219,7 +219,7 @@ returns-then-is_some c ns d =
     (c.begins_with_bits-has_subject_id.ensures ns d))
     (through _ _ _ _
     (c.take_if-extensions.ensures.optional ns (tagged 3 is_extensions) no_more
-    (c.begins_with_extensions-has_extensions.ensures ns d))
+    (c.begins_with_tagged-has_extensions.ensures ns d))
     (end-some ns _ (sym c.is_some.ensures ∙ c.if-is_some.true)))))))))))
 
 pub returns : goal.returns
@@ -263,5 +263,5 @@ returns c ns d =
     (c.begins_with_bits-has_subject_id.ensures ns d))
     (through _ _ _ _
     (c.take_if-extensions.ensures.optional ns (tagged 3 is_extensions) no_more
-    (c.begins_with_extensions-has_extensions.ensures ns d))
+    (c.begins_with_tagged-has_extensions.ensures ns d))
     (end-none ns _ (sym c.is_some.ensures ∙ c.if-is_some.false)))))))))))

@@ -1,0 +1,212 @@
+// Lists of revoked certificates.
+ghost use Rattle.std.specs.Prelude.{◌≡◌, ◌∷◌, [], None, Some, MatchOption, option_map};
+ghost use Rattle.asn1_outline.specs.Outlines.{octets_in};
+ghost use Rattle.asn1_outline.specs.Structure.{IsStructure, Nodes, tree_at};
+ghost use Rattle.asn1_certificate.specs.Sequences.{each, sequence_of};
+ghost use Rattle.asn1_certificate.specs.Reading.{Tells, left, trees_at};
+ghost use Rattle.asn1_certificate.specs.Types.{certificate_list, is_revoked_certificate, is_tbs_cert_list, revoked_certificate as revoked_certificate_tree, tbs_cert_list as tbs_cert_list_tree};
+
+use crate::algorithm::begins_with_algorithm;
+use crate::extension::{begins_with_extensions, begins_with_tagged};
+use crate::fields::Fields;
+use crate::kinds::{begins_with_leaf, group, sequence};
+use crate::names::begins_with_name;
+use crate::signed::signed_fields;
+use crate::validity::begins_with_time;
+use asn1_blocks::block::GroupKind;
+use asn1_headers::tags::INTEGER;
+use asn1_outline::outline::Outline;
+
+/// The places of the fields of a revoked certificate in a list.
+#[derive(Clone, Copy, Debug)]
+pub struct RevokedCertificate {
+    /// An INTEGER, the serial number.
+    pub user_certificate: usize,
+    /// A UTCTime or a GeneralizedTime.
+    pub revocation_date: usize,
+    /// A SEQUENCE of Extensions.
+    pub crl_entry_extensions: Option<usize>,
+}
+
+impl RevokedCertificate {
+    /// The fields of the revoked certificate at the index; `None` if the block is another.
+    pub fn at(outline: &Outline<'_>, index: usize) -> Option<RevokedCertificate>
+        ensures { (ns : Nodes) → IsStructure (octets_in outline.now) ns → MatchOption result
+            (revoked_certificate_tree (tree_at ns index) ≡ None)
+            (λ found. revoked_certificate_tree (tree_at ns index) ≡ Some
+            (Some (tree_at ns found.user_certificate) ∷ Some (tree_at ns found.revocation_date)
+            ∷ option_map (tree_at ns) found.crl_entry_extensions ∷ [])) }
+    {
+        let mut fields = sequence(outline, index)?;
+        let has_number = begins_with_leaf(outline, &fields, INTEGER);
+        let user_certificate = fields.take_if(has_number)?;
+        let has_date = begins_with_time(outline, &fields);
+        let revocation_date = fields.take_if(has_date)?;
+        let has_extensions = begins_with_extensions(outline, &fields);
+        let crl_entry_extensions = fields.take_if(has_extensions);
+        if fields.is_some() {
+            return None;
+        }
+        Some(RevokedCertificate {
+            user_certificate,
+            revocation_date,
+            crl_entry_extensions,
+        })
+    }
+}
+
+// Whether the block at the index is a revoked certificate.
+fn is_revoked(outline: &Outline<'_>, index: usize) -> bool
+    ensures { (ns : Nodes) → IsStructure (octets_in outline.now) ns
+        → result ≡ is_revoked_certificate (tree_at ns index) }
+{
+    RevokedCertificate::at(outline, index).is_some()
+}
+
+// Whether each block is a revoked certificate.
+fn are_revoked(outline: &Outline<'_>, mut items: Fields<'_>) -> bool
+    ensures { (ns : Nodes) → IsStructure (octets_in outline.now) ns
+        → result ≡ each is_revoked_certificate (trees_at ns (left items.entry)) }
+{
+    while let Some(index) = items.take() {
+        if !is_revoked(outline, index) {
+            return false;
+        }
+    }
+    true
+}
+
+// Whether the block at the index is a SEQUENCE of revoked certificates.
+fn is_revoked_list(outline: &Outline<'_>, index: usize) -> bool
+    ensures { (ns : Nodes) → IsStructure (octets_in outline.now) ns
+        → result ≡ sequence_of is_revoked_certificate (tree_at ns index) }
+{
+    match group(outline, index, GroupKind::Sequence) {
+        Some(items) => are_revoked(outline, items),
+        None => false,
+    }
+}
+
+// Whether the next field is a SEQUENCE of revoked certificates.
+fn begins_with_revoked(outline: &Outline<'_>, fields: &Fields<'_>) -> bool
+    ensures { (ns : Nodes) → IsStructure (octets_in outline.now) ns
+        → Tells ns (sequence_of is_revoked_certificate) result (left fields.now) }
+{
+    match fields.first() {
+        Some(index) => is_revoked_list(outline, index),
+        None => false,
+    }
+}
+
+/// The places of the fields of a TBSCertList, which is what is signed of a list of revoked certificates.
+#[derive(Clone, Copy, Debug)]
+pub struct TBSCertList {
+    /// An INTEGER; where there is none, the version is v1.
+    pub version: Option<usize>,
+    /// An AlgorithmIdentifier.
+    pub signature: usize,
+    /// A Name.
+    pub issuer: usize,
+    /// A UTCTime or a GeneralizedTime.
+    pub this_update: usize,
+    /// A UTCTime or a GeneralizedTime.
+    pub next_update: Option<usize>,
+    /// A SEQUENCE, of which each item is a [`RevokedCertificate`].
+    pub revoked_certificates: Option<usize>,
+    /// The `[0]` around a SEQUENCE of Extensions.
+    pub crl_extensions: Option<usize>,
+}
+
+impl TBSCertList {
+    /// The fields of the TBSCertList at the index; `None` if the block is another.
+    pub fn at(outline: &Outline<'_>, index: usize) -> Option<TBSCertList>
+        ensures { (ns : Nodes) → IsStructure (octets_in outline.now) ns → MatchOption result
+            (tbs_cert_list_tree (tree_at ns index) ≡ None)
+            (λ found. tbs_cert_list_tree (tree_at ns index) ≡ Some
+            (option_map (tree_at ns) found.version
+            ∷ Some (tree_at ns found.signature)
+            ∷ Some (tree_at ns found.issuer)
+            ∷ Some (tree_at ns found.this_update)
+            ∷ option_map (tree_at ns) found.next_update
+            ∷ option_map (tree_at ns) found.revoked_certificates
+            ∷ option_map (tree_at ns) found.crl_extensions ∷ [])) }
+    {
+        let mut fields = sequence(outline, index)?;
+        let has_version = begins_with_leaf(outline, &fields, INTEGER);
+        let version = fields.take_if(has_version);
+        let has_signature = begins_with_algorithm(outline, &fields);
+        let signature = fields.take_if(has_signature)?;
+        let has_issuer = begins_with_name(outline, &fields);
+        let issuer = fields.take_if(has_issuer)?;
+        let has_update = begins_with_time(outline, &fields);
+        let this_update = fields.take_if(has_update)?;
+        let has_next = begins_with_time(outline, &fields);
+        let next_update = fields.take_if(has_next);
+        let has_revoked = begins_with_revoked(outline, &fields);
+        let revoked_certificates = fields.take_if(has_revoked);
+        let has_extensions = begins_with_tagged(outline, &fields, 0);
+        let crl_extensions = fields.take_if(has_extensions);
+        if fields.is_some() {
+            return None;
+        }
+        Some(TBSCertList {
+            version,
+            signature,
+            issuer,
+            this_update,
+            next_update,
+            revoked_certificates,
+            crl_extensions,
+        })
+    }
+}
+
+// Whether the block at the index is a TBSCertList.
+fn is_tbs(outline: &Outline<'_>, index: usize) -> bool
+    ensures { (ns : Nodes) → IsStructure (octets_in outline.now) ns
+        → result ≡ is_tbs_cert_list (tree_at ns index) }
+{
+    TBSCertList::at(outline, index).is_some()
+}
+
+// Whether the next field is a TBSCertList.
+fn begins_with_tbs(outline: &Outline<'_>, fields: &Fields<'_>) -> bool
+    ensures { (ns : Nodes) → IsStructure (octets_in outline.now) ns
+        → Tells ns is_tbs_cert_list result (left fields.now) }
+{
+    match fields.first() {
+        Some(index) => is_tbs(outline, index),
+        None => false,
+    }
+}
+
+/// The places of the fields of a CertificateList.
+#[derive(Clone, Copy, Debug)]
+pub struct CertificateList {
+    /// A TBSCertList.
+    pub tbs_cert_list: usize,
+    /// An AlgorithmIdentifier.
+    pub signature_algorithm: usize,
+    /// A BIT STRING.
+    pub signature: usize,
+}
+
+impl CertificateList {
+    /// The fields of the CertificateList at the index; `None` if the block is another.
+    pub fn at(outline: &Outline<'_>, index: usize) -> Option<CertificateList>
+        ensures { (ns : Nodes) → IsStructure (octets_in outline.now) ns → MatchOption result
+            (certificate_list (tree_at ns index) ≡ None)
+            (λ found. certificate_list (tree_at ns index) ≡ Some
+            (Some (tree_at ns found.tbs_cert_list) ∷ Some (tree_at ns found.signature_algorithm)
+            ∷ Some (tree_at ns found.signature) ∷ [])) }
+    {
+        let fields = sequence(outline, index)?;
+        let has_tbs = begins_with_tbs(outline, &fields);
+        let signed = signed_fields(outline, fields, has_tbs)?;
+        Some(CertificateList {
+            tbs_cert_list: signed.content,
+            signature_algorithm: signed.algorithm,
+            signature: signed.signature,
+        })
+    }
+}
