@@ -18,4 +18,5 @@ mod PathSteps
 mod OneHeader
 mod SideBySide
 mod NamedEntries
+mod CertificateFields
 pub mod ListedDepartures

@@ -3,3 +3,4 @@ pub mod Prepended
 pub mod InRecords
 pub mod TripleRecords
 pub mod Named
+pub mod CertificateRecords

@@ -8,6 +8,7 @@ ghost use Rattle.simple_asn1.specs.Tree.{Trees};
 ghost use Rattle.asn1_outline.specs.Entries.{AreEntriesOf, IsOutline};
 ghost use Rattle.asn1_outline.specs.declared.entry.Entry.{Entry};
 ghost use Rattle.asn1_outline.specs.Listing.{AreFound, KeepsOf};
+ghost use Rattle.asn1_outline.specs.Outlines.{entries_in, octets_in};
 ghost use Rattle.asn1_outline.specs.Shapes.{HasShapes, Shapes, entries_of};
 ghost use Rattle.asn1_records.specs.Answers.{IsRefusal, IsRefusedByHeader, IsRefusedStrict};
 ghost use Rattle.asn1_records.specs.Room.{IsNoMemory, OrNoMemory};
@@ -21,6 +22,7 @@ use asn1_outline::entry::Entry;
 use asn1_outline::entry_builder::{EntryBuilder, Found};
 use asn1_outline::header_walk::{check_headers, list_headers_within};
 use asn1_outline::listing::{EntryItems, list_within};
+use asn1_outline::outline::Outline;
 use asn1_outline::strict::check_canonical;
 use asn1_writing::strict::strict_blocks;
 use simple_asn1::{
@@ -93,6 +95,19 @@ pub fn fault_at(located: &LocatedErr) -> Fault
             status: status_of_fault(&located.error),
             offset: located.offset,
         },
+    }
+}
+
+// The outline of a document.
+pub fn outline_of<'a>(alloc: Global, octets: &'a [u8]) -> Result<Outline<'a>, Fault>
+    ensures document { IfOk result (λ outline. (bs : Trees ℕ) × IsDocument octets.now bs
+        × AreEntriesOf octets.now bs (entries_in outline)) }
+    ensures lent { IfOk result (λ outline. octets_in outline ≡ octets.now) }
+    ensures fault { IfErr result (λ f. OrNoMemory (IsRefusal octets.now) f.status f.offset) }
+{
+    match Outline::from_der(alloc, octets) {
+        Ok(outline) => Ok(outline),
+        Err(located) => Err(fault_at(&located)),
     }
 }
 

@@ -8,6 +8,7 @@
 mod alone;
 pub mod bits;
 mod canonical;
+pub mod certificate;
 pub mod components;
 pub mod departures;
 pub mod document_entries;

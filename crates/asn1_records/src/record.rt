@@ -74,6 +74,31 @@ pub struct SignedAnswer {
     pub signature: Block,
 }
 
+/// A certificate and its fields. `simple_asn1.h` describes them.
+#[repr(C)]
+#[derive(Clone, Copy)]
+pub struct CertificateAnswer {
+    pub status: u32,
+    pub offset: usize,
+    pub certificate: Block,
+    pub tbs_certificate: Block,
+    pub version: Block,
+    pub serial_number: Block,
+    pub tbs_signature: Block,
+    pub issuer: Block,
+    pub not_before: Block,
+    pub not_after: Block,
+    pub subject: Block,
+    pub subject_public_key_info: Block,
+    pub public_key_algorithm: Block,
+    pub subject_public_key: Block,
+    pub issuer_unique_id: Block,
+    pub subject_unique_id: Block,
+    pub extensions: Block,
+    pub signature_algorithm: Block,
+    pub signature: Block,
+}
+
 /// Where the item numbers of a path begin, and how many they are.
 #[repr(C)]
 #[derive(Clone, Copy)]
@@ -117,11 +142,25 @@ const _: () = prove!(size_of::<MomentAnswer>() == 32);
 
 const _: () = prove!(size_of::<SignedAnswer>() == 208);
 
+const _: () = prove!(size_of::<CertificateAnswer>() == 1104);
+
 const _: () = prove!(size_of::<Path>() == 16);
 
 const _: () = prove!(size_of::<Value>() == 48);
 
 const _: () = prove!(size_of::<DepartureRecord>() == 16);
+
+pub(crate) const NO_BLOCK: Block = Block {
+    tag: 0,
+    offset: 0,
+    header: 0,
+    contents: 0,
+    items: 0,
+    next: 0,
+    depth: 0,
+    tag_class: 0,
+    constructed: 0,
+};
 
 // The record of an entry.
 pub fn block_of(entry: &Entry) -> Block

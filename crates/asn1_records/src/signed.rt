@@ -9,24 +9,12 @@ ghost use Rattle.asn1_records.specs.Records.{block_of};
 
 use crate::document_entries::{Fault, read_first};
 use crate::encoding::header_at;
-use crate::record::{Block, SignedAnswer, block_of};
+use crate::record::{Block, NO_BLOCK, SignedAnswer, block_of};
 use crate::status::{DONE, NO_MEMORY, NOT_SIGNED};
 use asn1_headers::tags::{BIT_STRING, OBJECT_IDENTIFIER, SEQUENCE};
 use asn1_outline::entry::Entry;
 use simple_asn1::ASN1Class;
 use std::alloc::{AllocError, Global};
-
-const NO_BLOCK: Block = Block {
-    tag: 0,
-    offset: 0,
-    header: 0,
-    contents: 0,
-    items: 0,
-    next: 0,
-    depth: 0,
-    tag_class: 0,
-    constructed: 0,
-};
 
 // How many entries are kept: that of the triple, and that of what was signed.
 const KEPT: usize = 2;

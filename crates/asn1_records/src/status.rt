@@ -33,6 +33,8 @@ pub const NOT_OID: u32 = 16;
 
 pub const TOO_LONG: u32 = 17;
 
+pub const NOT_CERTIFICATE: u32 = 18;
+
 pub fn status_of_fault(e: &ASN1DecodeErr) -> u32
     ensures { result ≡ status_of (fault_of e.now) }
 {

@@ -8,6 +8,7 @@ ghost use Rattle.simple_asn1.specs.Places.{EncodingAt};
 ghost use Rattle.simple_asn1.specs.Shapes.{HasShapes, Shapes, entries_of};
 ghost use Rattle.simple_asn1.specs.Structure.{IsStructure, Nodes, nodes_in_order};
 ghost use Rattle.asn1_records.specs.Answers.{AnswersCheck, AnswersOutline, AnswersRead, AnswersReadStrict, AnswersRewrite, AnswersSigned, AnswersWrite};
+ghost use Rattle.asn1_records.specs.Certificates.{AnswersCertificate};
 ghost use Rattle.asn1_records.specs.Contents.{AnswersComponent, AnswersComponents, AnswersDotted, AnswersFault, AnswersHeader, AnswersShortest, AnswersTag, AnswersTagOctets};
 ghost use Rattle.asn1_records.specs.Departures.{AnswersDepartures};
 ghost use Rattle.asn1_records.specs.Paths.{AnswersValues};
@@ -17,6 +18,7 @@ ghost use Rattle.asn1_records.specs.Status.{done};
 ghost use Rattle.asn1_records.specs.Values.{AnswersBits, AnswersIdentifier, AnswersInteger, AnswersMoment, AnswersText, UniversalAt};
 
 use asn1_records::bits::{bits_at, put_bits, put_boolean};
+use asn1_records::certificate::certificate_in;
 use asn1_records::components::{component_at, put_components, put_dotted, put_shortest};
 use asn1_records::departures::list_departures;
 use asn1_records::document_entries::{
@@ -32,8 +34,8 @@ use asn1_records::put_encodings::{put_encoding, put_spelled};
 use asn1_records::putting::{all_put, not_enough, nothing_put, put_found, put_front, put_records};
 use asn1_records::raw::{put_raw_bits, put_raw_identifier, put_raw_moment, put_raw_text};
 use asn1_records::record::{
-    BitStringAnswer, Block, DepartureRecord, IntegerAnswer, MomentAnswer, Outcome, Path,
-    SignedAnswer, Value,
+    BitStringAnswer, Block, CertificateAnswer, DepartureRecord, IntegerAnswer, MomentAnswer,
+    Outcome, Path, SignedAnswer, Value,
 };
 use asn1_records::signed::signed_in;
 use asn1_records::spelling::spell;
@@ -258,6 +260,18 @@ pub extern "C" fn simple_asn1_signed(alloc: Global, octets: &[u8]) -> SignedAnsw
     ensures { AnswersSigned octets.now result }
 {
     signed_in(alloc, octets)
+}
+
+/// The records of the fields of the certificate that a document begins with (RFC 5280, 4.1), as [`simple_asn1_read`]
+/// writes them; of an absent field all numbers are 0. `version` and `extensions` are the explicit tags, so that what is
+/// inside them begins behind their header. `NOT_CERTIFICATE` if the document begins with another block; for any other
+/// input the first fault, as [`simple_asn1_read`]. No signature, chain or moment is checked. It takes memory for the
+/// records of all blocks.
+#[unsafe(no_mangle)]
+pub extern "C" fn simple_asn1_certificate(alloc: Global, octets: &[u8]) -> CertificateAnswer
+    ensures { AnswersCertificate octets.now result }
+{
+    certificate_in(alloc, octets)
 }
 
 /// Writes the canonical octets of the document that records describe: one with items holds the records after it, any
