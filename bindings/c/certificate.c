@@ -6,6 +6,8 @@
 
 static uint8_t *octets;
 static size_t size;
+static const uint8_t *subject; /* its bytes, how many they are, and the records of its blocks */
+static size_t subject_size;
 static simple_asn1_block *blocks;
 
 static void fail(const char *why)
@@ -37,29 +39,26 @@ static void read_input(void)
         fail("this is PEM; as DER it is: openssl x509 -in FILE -outform DER");
 }
 
-/* Asks how many records there are, and then for these. */
-static void read_blocks(void)
+static simple_asn1_certificate_parts read_certificate(void)
 {
-    simple_asn1_outcome o = simple_asn1_read(octets, size, NULL, 0);
-    if (o.status == SIMPLE_ASN1_NO_ROOM) {
-        blocks = resized(NULL, o.count * sizeof *blocks);
-        o = simple_asn1_read(octets, size, blocks, o.count);
-    }
-    if (o.status) {
-        fprintf(stderr, "refused at offset %zu: %s\n", o.offset, simple_asn1_status_text(o.status));
+    simple_asn1_certificate_parts parts = simple_asn1_certificate(octets, size);
+    if (parts.status) {
+        fprintf(stderr, "refused at offset %zu: %s\n", parts.offset, simple_asn1_status_text(parts.status));
         exit(1);
     }
+    return parts;
 }
 
-/* The index of the field, counted from 0, of the block at the index, where it has so many. */
-static size_t field(size_t block, size_t number)
+/* The records of a name: asks how many there are, and then for these. */
+static void read_subject(const simple_asn1_block *name)
 {
-    size_t found = block + 1;
-    if (number >= blocks[block].items)
-        fail("not a certificate");
-    while (number-- > 0)
-        found = blocks[found].next;
-    return found;
+    subject = octets + name->offset;
+    subject_size = name->header + name->contents;
+    size_t count = simple_asn1_read(subject, subject_size, NULL, 0).count;
+    blocks = resized(NULL, count * sizeof *blocks);
+    simple_asn1_outcome o = simple_asn1_read(subject, subject_size, blocks, count);
+    if (o.status)
+        fail(simple_asn1_status_text(o.status));
 }
 
 typedef simple_asn1_outcome value_call(const uint8_t *octets, size_t size, size_t offset, uint8_t *out, size_t room);
@@ -67,11 +66,11 @@ typedef simple_asn1_outcome value_call(const uint8_t *octets, size_t size, size_
 /* What the call answers of a block, with a 0 behind it, for the caller to free; NULL where it is of another kind. */
 static char *value_of(value_call *call, size_t block, size_t *length)
 {
-    simple_asn1_outcome o = call(octets, size, blocks[block].offset, NULL, 0);
+    simple_asn1_outcome o = call(subject, subject_size, blocks[block].offset, NULL, 0);
     if (o.status && o.status != SIMPLE_ASN1_NO_ROOM)
         return NULL;
     char *value = resized(NULL, o.count + 1);
-    o = call(octets, size, blocks[block].offset, (uint8_t *)value, o.count);
+    o = call(subject, subject_size, blocks[block].offset, (uint8_t *)value, o.count);
     if (o.status)
         fail(simple_asn1_status_text(o.status));
     value[o.count] = 0;
@@ -123,7 +122,7 @@ static void print_value(size_t block)
     } else {
         printf("#");
         for (size_t n = 0; n < blocks[block].header + blocks[block].contents; n++)
-            printf("%02x", octets[blocks[block].offset + n]);
+            printf("%02x", subject[blocks[block].offset + n]);
     }
     free(text);
 }
@@ -134,23 +133,23 @@ static void print_attribute(size_t attribute)
         {"2.5.4.3", "CN"}, {"2.5.4.6", "C"},  {"2.5.4.7", "L"},
         {"2.5.4.8", "ST"}, {"2.5.4.10", "O"}, {"2.5.4.11", "OU"}};
     size_t length;
-    char *type = value_of(simple_asn1_oid, field(attribute, 0), &length);
+    char *type = value_of(simple_asn1_oid, attribute + 1, &length);
     if (!type)
-        fail("not a certificate");
+        fail(simple_asn1_status_text(SIMPLE_ASN1_TOO_LONG));
     const char *name = type;
     for (size_t k = 0; k < sizeof known / sizeof *known; k++)
         if (strcmp(type, known[k][0]) == 0)
             name = known[k][1];
     printf(" %s=", name);
-    print_value(field(attribute, 1));
+    print_value(attribute + 2);
     free(type);
 }
 
-static void print_time(const char *what, size_t block)
+static void print_time(const char *what, const simple_asn1_block *block)
 {
-    simple_asn1_moment m = simple_asn1_time(octets, size, blocks[block].offset);
+    simple_asn1_moment m = simple_asn1_time(octets, size, block->offset);
     if (m.status)
-        fail("not a certificate");
+        fail(simple_asn1_status_text(m.status));
     printf("%s: %04d-%02u-%02uT%02u:%02u:%02u", what, (int)m.year, (unsigned)m.month, (unsigned)m.day,
            (unsigned)m.hour, (unsigned)m.minute, (unsigned)m.second);
     if (m.nanosecond)
@@ -161,21 +160,16 @@ static void print_time(const char *what, size_t block)
 int main(void)
 {
     read_input();
-    read_blocks();
-    size_t content = field(0, 0);
-    size_t version = blocks[field(content, 0)].tag_class == 2; /* [0] is the version, which may be left out */
-    size_t validity = field(content, version + 3);
-    size_t subject = field(content, version + 4);
+    simple_asn1_certificate_parts parts = read_certificate();
+    read_subject(&parts.subject);
 
-    printf("subject:");
-    for (size_t set = 0; set < blocks[subject].items; set++) {
-        size_t attributes = field(subject, set);
-        for (size_t n = 0; n < blocks[attributes].items; n++)
-            print_attribute(field(attributes, n));
-    }
+    printf("subject:"); /* a SEQUENCE of SETs of attributes */
+    for (size_t set = 1; set < blocks[0].next; set = blocks[set].next)
+        for (size_t attribute = set + 1; attribute < blocks[set].next; attribute = blocks[attribute].next)
+            print_attribute(attribute);
     printf("\n");
-    print_time("not before", field(validity, 0));
-    print_time("not after", field(validity, 1));
+    print_time("not before", &parts.not_before);
+    print_time("not after", &parts.not_after);
     free(blocks);
     free(octets);
     return 0;

@@ -109,6 +109,27 @@ static void look_at_outline(const uint8_t *octets, size_t size)
     free(blocks);
 }
 
+static int is_within(const simple_asn1_block *part, const simple_asn1_block *whole)
+{
+    size_t end = whole->offset + whole->header + whole->contents;
+    return whole->offset < part->offset && part->offset + part->header + part->contents <= end;
+}
+
+static void look_at_certificate(const uint8_t *octets, size_t size)
+{
+    simple_asn1_certificate_parts parts = simple_asn1_certificate(octets, size);
+    if (parts.status == SIMPLE_ASN1_OK) {
+        CHECK(parts.certificate.header + parts.certificate.contents <= size);
+        CHECK(is_within(&parts.tbs_certificate, &parts.certificate));
+        CHECK(is_within(&parts.subject, &parts.tbs_certificate));
+        CHECK(is_within(&parts.subject_public_key, &parts.subject_public_key_info));
+        CHECK(is_within(&parts.signature, &parts.certificate));
+        CHECK(simple_asn1_time(octets, size, parts.not_before.offset).status == SIMPLE_ASN1_OK);
+        CHECK(simple_asn1_time(octets, size, parts.not_after.offset).status == SIMPLE_ASN1_OK);
+        CHECK(simple_asn1_bits(octets, size, parts.signature.offset).status == SIMPLE_ASN1_OK);
+    }
+}
+
 static void look_at_signed(const uint8_t *octets, size_t size)
 {
     simple_asn1_signed_parts parts = simple_asn1_signed(octets, size);
@@ -164,6 +185,7 @@ int LLVMFuzzerTestOneInput(const uint8_t *octets, size_t size)
     }
     rewrite(octets, size, blocks, asked.count, any_tag_is_cut, any_is_kept);
     look_at_signed(octets, size);
+    look_at_certificate(octets, size);
     free(blocks);
     return 0;
 }

@@ -15,8 +15,8 @@
  *   these levels alone; of others their blocks, and what is written. simple_asn1_write: the bytes that the records
  *   describe, and what rewriting these takes.
  * - simple_asn1_values: the values, if there is room for all, and these levels. simple_asn1_signed: two records, and
- *   these levels. simple_asn1_departures: 16 bytes for each departure, also inside contents that turn out to be no
- *   encodings, where only that is listed.
+ *   these levels. simple_asn1_certificate: the records of all blocks, and these levels. simple_asn1_departures: 16
+ *   bytes for each departure, also inside contents that turn out to be no encodings, where only that is listed.
  *
  * Where it is not X.690's BER, and what strict reading accepts though DER forbids it:
  *
@@ -64,7 +64,8 @@ enum { /* what calls return */
     SIMPLE_ASN1_NOT_SIGNED = 14,       /* the first block is not a signed triple */
     SIMPLE_ASN1_BAD_RECORD = 15,       /* write: the record at index `offset` cannot be written; the last such one */
     SIMPLE_ASN1_NOT_OID = 16,          /* put: the text is not an OBJECT IDENTIFIER's, as 1.2.840 is */
-    SIMPLE_ASN1_TOO_LONG = 17          /* oid, dotted, tag, put_oid, encoding: too long for text in decimal */
+    SIMPLE_ASN1_TOO_LONG = 17,         /* oid, dotted, tag, put_oid, encoding: too long for text in decimal */
+    SIMPLE_ASN1_NOT_CERTIFICATE = 18   /* the first block is not a certificate */
 };
 
 /* A block. The blocks that it holds come right after it. */
@@ -186,6 +187,28 @@ typedef struct simple_asn1_signed_parts { /* next and depth of the records are 0
     simple_asn1_block signature; /* BIT STRING */
 } simple_asn1_signed_parts;
 
+typedef struct simple_asn1_certificate_parts { /* all records 0 unless the status is SIMPLE_ASN1_OK */
+    uint32_t status;
+    size_t offset;                             /* of the block at fault */
+    simple_asn1_block certificate;             /* the whole */
+    simple_asn1_block tbs_certificate;         /* what is signed: header + contents bytes from octets + offset on */
+    simple_asn1_block version;                 /* [0] around an INTEGER, or absent */
+    simple_asn1_block serial_number;           /* INTEGER */
+    simple_asn1_block tbs_signature;           /* the algorithm of the signature, as what is signed has it */
+    simple_asn1_block issuer;                  /* Name */
+    simple_asn1_block not_before;              /* UTCTime or GeneralizedTime */
+    simple_asn1_block not_after;
+    simple_asn1_block subject;                 /* Name */
+    simple_asn1_block subject_public_key_info; /* the whole public key */
+    simple_asn1_block public_key_algorithm;    /* AlgorithmIdentifier */
+    simple_asn1_block subject_public_key;      /* BIT STRING */
+    simple_asn1_block issuer_unique_id;        /* [1] in place of a BIT STRING, or absent */
+    simple_asn1_block subject_unique_id;       /* [2], or absent */
+    simple_asn1_block extensions;              /* [3] around a SEQUENCE of extensions, or absent */
+    simple_asn1_block signature_algorithm;     /* AlgorithmIdentifier */
+    simple_asn1_block signature;               /* BIT STRING */
+} simple_asn1_certificate_parts;
+
 /* SIMPLE_ASN1_VERSION of the library that the program runs with. */
 uint32_t simple_asn1_version(void);
 
@@ -263,6 +286,12 @@ static inline size_t simple_asn1_oid_room(size_t contents)
  * The algorithm's parameters are the octets from the end of its OBJECT IDENTIFIER to the offset of the signature;
  * simple_asn1_bits says where the bits of the signature are. */
 simple_asn1_signed_parts simple_asn1_signed(const uint8_t *octets, size_t size);
+
+/* The fields of the certificate that a document begins with, where it is one by RFC 5280, section 4.1; nothing else of
+ * it is checked. The records are those that simple_asn1_read writes; of an absent field all numbers are 0. What is
+ * inside version and extensions begins behind their header. simple_asn1_time says which moments not_before and
+ * not_after are, simple_asn1_text what a text in a name says, and simple_asn1_bits where the bits are. */
+simple_asn1_certificate_parts simple_asn1_certificate(const uint8_t *octets, size_t size);
 
 /* Each writes the contents octets of a value, for a record of simple_asn1_write to point at:
  *
@@ -372,6 +401,7 @@ static inline const char *simple_asn1_status_text(uint32_t status)
     case SIMPLE_ASN1_BAD_RECORD: return "a record cannot be written";
     case SIMPLE_ASN1_NOT_OID: return "the text is not an OBJECT IDENTIFIER";
     case SIMPLE_ASN1_TOO_LONG: return "too long for text in decimal";
+    case SIMPLE_ASN1_NOT_CERTIFICATE: return "the first block is not a certificate";
     default: return "unknown status";
     }
 }

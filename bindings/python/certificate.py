@@ -32,29 +32,23 @@ def shown(value):
     return "#" + value.octets.hex() if text is None else escaped(text)
 
 
-def show(document):
-    fields = document[0][0].items
-    if fields[0].tag_class == 2:  # [0] is the version, which may be left out
-        fields = fields[1:]
-    validity, subject = fields[3], fields[4]
+def show(certificate):
+    subject = simple_asn1.read(certificate.subject)[0]
     attributes = [tuple(attribute) for each in subject for attribute in each]
     print("subject:", *(f"{NAMES.get(kind.oid, kind.oid)}={shown(value)}" for kind, value in attributes))
-    print("not before:", validity[0].moment)
-    print("not after:", validity[1].moment)
+    not_before, not_after = certificate.validity
+    print("not before:", not_before)
+    print("not after:", not_after)
 
 
 def main():
     octets = sys.stdin.buffer.read()
     try:
-        document = simple_asn1.read_pem(octets) if is_pem(octets) else simple_asn1.read(octets)
+        show(simple_asn1.Certificate(simple_asn1.pem_objects(octets)[0].octets if is_pem(octets) else octets))
     except simple_asn1.Refused as why:
         sys.exit(f"refused at offset {why.offset}: {simple_asn1.TEXTS.get(why.status, why.status.name)}")
     except ValueError as why:  # of PEM, with its label
         sys.exit(escaped(str(why)))
-    try:
-        show(document)
-    except (IndexError, ValueError):
-        sys.exit("not a certificate")
 
 
 if __name__ == "__main__":

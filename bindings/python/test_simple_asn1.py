@@ -20,6 +20,15 @@ from simple_asn1 import Builder, Moment, NoSuchValue, Paths, PemObject, Refused,
 
 DOCUMENT = bytes.fromhex("30 09 02 01 05 A0 04 0C 02 C3 A4 05 00")
 
+# a certificate that the package `cryptography` made; the offsets in the test are those of `openssl asn1parse`
+CERTIFICATE = bytes.fromhex(
+    "308201063081B9A00302010202021234300506032B65703019310B3009060355040613024348310A300806035504030C01653020170D"
+    "3236303130323033303430355A180F32303536303130323033303430355A3019310B3009060355040613024348310A30080603550403"
+    "0C0165302A300506032B657003210003A107BFF3CE10BE1D70DD18E74BC09967E4D6309BA50D5F1DDC8664125531B8A3233021300F06"
+    "03551D130101FF040530030101FF300E0603551D11040730058203652E78300506032B6570034100CA8392A0AEF788963C2BA366CED2"
+    "C8C180AA9F07C398DA3637C96D8A7A38414962269433865B558217208F1209C497D96049D9286FB99621F1D5561171F18B01"
+)
+
 
 def only(octets):
     return simple_asn1.read(bytes.fromhex(octets)).blocks[0]
@@ -180,6 +189,36 @@ class Reading(unittest.TestCase):
         self.assertEqual(signed.parameters, bytes.fromhex("30 03 02 01 20"))
         self.assertEqual(signed.algorithm_identifier, bytes.fromhex("30 08 06 01 2A 30 03 02 01 20"))
         self.assertEqual((signed.signature, signed.unused_bits), (b"\xab\xc8", 3))
+
+    def test_a_certificate_has_its_fields(self):
+        certificate = simple_asn1.Certificate(CERTIFICATE)
+        self.assertEqual(certificate.octets, CERTIFICATE)
+        self.assertEqual(certificate.tbs_certificate, CERTIFICATE[4:192])
+        self.assertEqual((certificate.version, certificate.serial_number), (2, 0x1234))
+        self.assertEqual(certificate.tbs_signature, CERTIFICATE[16:23])
+        self.assertEqual((certificate.issuer, certificate.subject), (CERTIFICATE[23:50], CERTIFICATE[84:111]))
+        self.assertEqual(str(certificate.not_before), "2026-01-02 03:04:05+00:00")
+        self.assertEqual(str(certificate.not_after), "2056-01-02 03:04:05+00:00")
+        self.assertEqual([str(moment) for moment in certificate.validity],
+                         ["2026-01-02T03:04:05Z", "2056-01-02T03:04:05Z"])
+        self.assertEqual(certificate.subject_public_key_info, CERTIFICATE[111:155])
+        self.assertEqual(certificate.public_key_algorithm, "1.3.101.112")
+        self.assertEqual(certificate.subject_public_key, (CERTIFICATE[123:155], 256))
+        self.assertEqual((certificate.issuer_unique_id, certificate.subject_unique_id), (None, None))
+        self.assertEqual(
+            certificate.extensions,
+            [("2.5.29.19", True, bytes.fromhex("30 03 01 01 FF")),
+             ("2.5.29.17", False, bytes.fromhex("30 05 82 03 65 2E 78"))])
+        self.assertEqual(certificate.signature_algorithm, "1.3.101.112")
+        self.assertEqual(certificate.signature_algorithm_identifier, CERTIFICATE[192:199])
+        self.assertEqual(certificate.signature, (CERTIFICATE[202:266], 512))
+        self.assertEqual(certificate, simple_asn1.Certificate(CERTIFICATE + b"\x05\x00"))
+        self.assertEqual(repr(certificate), "<Certificate of 266 bytes: serial number 4660>")
+
+    def test_another_document_is_no_certificate(self):
+        refused = self.refused(simple_asn1.Certificate, bytes.fromhex("30 03 02 01 05"))
+        self.assertEqual(refused, (Status.NOT_CERTIFICATE, 0))
+        self.assertEqual(self.refused(simple_asn1.Certificate, CERTIFICATE[:-1]), (Status.INCOMPLETE, 0))
 
 
 class Numbered:

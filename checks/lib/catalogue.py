@@ -113,7 +113,7 @@ WHOLE = [
           needs="cc", uses="dumpasn1 man openssl", programs="der_dump"),
     Check("fields", "lib/fields.py", "der_dump --json names each block of certificates, and its path, as RFC 5280 does",
           programs="der_dump"),
-    Check("accounts", "lib/accounts.py", "what der_dump --text says of certificates is what openssl says",
+    Check("accounts", "lib/accounts.py", "what der_dump --text says of certificates and messages is what openssl says",
           needs="openssl", programs="der_dump"),
     Check("arms", "lib/arms.py", "with an arm of a match left out, or a text changed, some row of der_dump fails",
           needs="cc"),
@@ -125,7 +125,8 @@ WHOLE = [
     Check("streams", "scripts/streams", "der_tool and der_signed report each read, write and allocation that fails",
           needs="cc", programs="der_tool der_signed"),
     Check("bindings", "scripts/bindings", "the library in C, Rust and Python: sanitizers, fuzzing, installing, pages",
-          needs="cc", uses="c++ cargo clang make mypy openssl pkg-config python:pip qemu-x86_64 valgrind xxd",
+          needs="cc", uses="c++ cargo clang make mypy openssl pkg-config python:cryptography python:pip qemu-x86_64 "
+          "valgrind xxd",
           after="libraries"),
     Check("growth", "scripts/growth",
           "in C, Rust, Python and der_dump twice the size takes three times as long at most; memory has bounds",
@@ -181,7 +182,8 @@ PACKAGES = {
     "dumpasn1": "dumpasn1",
     "flake8": "flake8", "jq": "jq", "ld": "binutils", "make": "make", "man": "man-db", "mypy": "mypy",
     "nm": "binutils", "objcopy": "binutils", "openssl": "openssl", "pg_config": "postgresql postgresql-server-dev-all",
-    "pkg-config": "pkg-config", "python:distributed": "python3-distributed", "python:jsonschema": "python3-jsonschema",
+    "pkg-config": "pkg-config", "python:cryptography": "python3-cryptography",
+    "python:distributed": "python3-distributed", "python:jsonschema": "python3-jsonschema",
     "python:pip": "python3-pip",
     "qemu-x86_64": "qemu-user", "shellcheck": "shellcheck", "valgrind": "valgrind", "xxd": "xxd",
     # the crates of Rust over which `bindings`, `dropin` and `growth` build

@@ -6,7 +6,8 @@ import os
 import pathlib
 import re
 import struct
-from typing import Any, Callable, Iterable, Iterator, List, NamedTuple, Optional, Sequence, SupportsBytes, Tuple, Union
+from typing import Any, Callable, Dict, Iterable, Iterator, List, NamedTuple, Optional, Sequence, SupportsBytes, Tuple
+from typing import Union
 
 from ._status import Refused, Status, refusal
 
@@ -74,6 +75,31 @@ class MomentAnswer(ctypes.Structure):
 class SignedParts(ctypes.Structure):
     _fields_ = [("status", ctypes.c_uint32), ("offset", ctypes.c_size_t)] + [
         (name, Block) for name in ("content", "algorithm", "signature")
+    ]
+
+
+class CertificateParts(ctypes.Structure):
+    _fields_ = [("status", ctypes.c_uint32), ("offset", ctypes.c_size_t)] + [
+        (name, Block)
+        for name in (
+            "certificate",
+            "tbs_certificate",
+            "version",
+            "serial_number",
+            "tbs_signature",
+            "issuer",
+            "not_before",
+            "not_after",
+            "subject",
+            "subject_public_key_info",
+            "public_key_algorithm",
+            "subject_public_key",
+            "issuer_unique_id",
+            "subject_unique_id",
+            "extensions",
+            "signature_algorithm",
+            "signature",
+        )
     ]
 
 
@@ -216,6 +242,7 @@ def _library() -> Any:
         ("text", Outcome, octets + offset + room),
         ("oid", Outcome, octets + offset + room),
         ("signed", SignedParts, octets),
+        ("certificate", CertificateParts, octets),
         ("put_boolean", Outcome, [ctypes.c_uint8] + room),
         ("put_int64", Outcome, [ctypes.c_int64] + room),
         ("put_bits", Outcome, octets + offset + room),
@@ -451,6 +478,14 @@ def signed(octets: bytes) -> List[Record]:
     if answer.status != Status.OK:
         raise refusal(answer.status, answer.offset)
     return [record_of(part) for part in (answer.content, answer.algorithm, answer.signature)]
+
+
+def certificate(octets: bytes) -> Dict[str, Record]:
+    """The records of a certificate's fields by their names; of an absent one with zeros."""
+    answer = _LIBRARY.simple_asn1_certificate(octets, len(octets))
+    if answer.status != Status.OK:
+        raise refusal(answer.status, answer.offset)
+    return {name: record_of(getattr(answer, name)) for name, kind in CertificateParts._fields_ if kind is Block}
 
 
 def put_boolean(value: bool) -> bytes:

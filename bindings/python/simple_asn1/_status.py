@@ -24,6 +24,7 @@ class Status(enum.IntEnum):
     BAD_RECORD = 15
     NOT_OID = 16
     TOO_LONG = 17
+    NOT_CERTIFICATE = 18
 
     @classmethod
     def _missing_(cls, value: object) -> "Optional[Status]":
@@ -58,6 +59,7 @@ TEXTS = {
     Status.BAD_RECORD: "a record cannot be written",
     Status.NOT_OID: "the text is not an OBJECT IDENTIFIER",
     Status.TOO_LONG: "too long for text in decimal",
+    Status.NOT_CERTIFICATE: "the first block is not a certificate",
 }
 
 

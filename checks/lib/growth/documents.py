@@ -14,7 +14,7 @@ import sys
 
 import wanted
 from bounds import RUNS, SIZES, is_well
-from shapes import ACCOUNTED, DOCUMENTS, TEXTS
+from shapes import ACCOUNTED, CERTIFICATES, DOCUMENTS, TEXTS
 from short import part
 
 # seconds: what takes longer is ended
@@ -102,7 +102,8 @@ def answers(name, make, is_text):
     if is_text:
         return {"dump": dict.fromkeys(LOOKS, 0) | {"--text": 1}}
     look, strict = wanted.of_dump(make(SMALL))
-    library, crate = wanted.of_library(make(DEEP), make(SMALL)), wanted.of_crate(make(DEEP))
+    library = wanted.of_library(make(DEEP), make(SMALL), name in CERTIFICATES)
+    crate = wanted.of_crate(make(DEEP))
     dump = dict.fromkeys(LOOKS, look) | {"--strict": strict, "--json --strict": strict}
     return {"c": library, "python": library, "rust": crate, "dump": dump | {"--text": int(name not in ACCOUNTED)}}
 

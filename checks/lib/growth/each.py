@@ -58,6 +58,7 @@ CALLS = {
     "rewrite": simple_asn1.rewrite,
     "departures": simple_asn1.departures,
     "signed": simple_asn1.Signed,
+    "certificate": simple_asn1.Certificate,
     "values": PATHS.values,
     "write": lambda octets: simple_asn1.write(octets, read(octets).records),
     "pickled": lambda octets: pickle.loads(pickle.dumps(read(octets))),

@@ -255,6 +255,8 @@ DOCUMENTS = {
     "many items that are signed": signed_items,
 }
 
+CERTIFICATES = {it for it in DOCUMENTS if it.startswith("a certificate of")}
+
 # of which der_dump writes an account
 ACCOUNTED = {it for it in DOCUMENTS if it.startswith(("a list of", "a certificate of"))}
 

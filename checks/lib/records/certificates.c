@@ -106,6 +106,40 @@ static void check_signed(const struct document *d)
     CHECK(s.signature.offset == d->blocks[algorithm->next].offset && s.signature.tag == 3);
 }
 
+/* The index of the block so many behind another at the same level. */
+static size_t behind(const struct document *d, size_t index, size_t count)
+{
+    while (count-- > 0)
+        index = d->blocks[index].next;
+    return index;
+}
+
+static int is_record(const struct document *d, const simple_asn1_block *part, size_t index)
+{
+    const simple_asn1_block *b = &d->blocks[index];
+    return part->offset == b->offset && part->header == b->header && part->contents == b->contents &&
+           part->tag_class == b->tag_class && part->tag == b->tag && part->constructed == b->constructed &&
+           part->items == b->items && part->next == b->next && part->depth == b->depth;
+}
+
+static void check_certificate(const struct document *d)
+{
+    simple_asn1_certificate_parts c = simple_asn1_certificate(d->octets, d->size);
+    int has_version = d->blocks[2].tag_class == 2;
+    size_t number = behind(d, 2, (size_t)has_version), validity = behind(d, number, 3), key = behind(d, number, 5);
+    CHECK(c.status == SIMPLE_ASN1_OK && c.offset == 0);
+    CHECK(is_record(d, &c.certificate, 0) && is_record(d, &c.tbs_certificate, 1));
+    CHECK(has_version ? is_record(d, &c.version, 2) : c.version.header == 0);
+    CHECK(is_record(d, &c.serial_number, number) && is_record(d, &c.tbs_signature, behind(d, number, 1)));
+    CHECK(is_record(d, &c.issuer, behind(d, number, 2)) && is_record(d, &c.subject, behind(d, number, 4)));
+    CHECK(is_record(d, &c.not_before, validity + 1) && is_record(d, &c.not_after, behind(d, validity + 1, 1)));
+    CHECK(is_record(d, &c.subject_public_key_info, key) && is_record(d, &c.public_key_algorithm, key + 1));
+    CHECK(is_record(d, &c.subject_public_key, behind(d, key + 1, 1)));
+    CHECK(is_record(d, &c.signature_algorithm, behind(d, 1, 1)) && is_record(d, &c.signature, behind(d, 1, 2)));
+    size_t last = behind(d, key, 1);
+    CHECK(last == behind(d, 1, 1) ? c.extensions.header == 0 : is_record(d, &c.extensions, last));
+}
+
 static size_t check_document(const uint8_t *octets, size_t size)
 {
     simple_asn1_outcome o = simple_asn1_read_strict(octets, size, NULL, 0);
@@ -124,6 +158,7 @@ static size_t check_document(const uint8_t *octets, size_t size)
         check_values(&d, &blocks[i]);
     check_written(&d);
     check_signed(&d);
+    check_certificate(&d);
     free(blocks);
     return count;
 }

@@ -35,6 +35,7 @@ static double seconds(const uint8_t *octets, size_t size, size_t levels)
     CHECK(simple_asn1_rewrite(octets, size, out, size).status == SIMPLE_ASN1_OK && memcmp(out, octets, size) == 0);
     CHECK(simple_asn1_write(octets, size, blocks, o.count, out, size).count == size && memcmp(out, octets, size) == 0);
     CHECK(simple_asn1_signed(octets, size).status == SIMPLE_ASN1_NOT_SIGNED);
+    CHECK(simple_asn1_certificate(octets, size).status == SIMPLE_ASN1_NOT_CERTIFICATE);
     free(blocks), free(out);
     return (double)(clock() - before) / CLOCKS_PER_SEC;
 }

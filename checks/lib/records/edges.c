@@ -17,6 +17,7 @@ static void check_nothing(void)
     CHECK(simple_asn1_text(NULL, 0, 0, NULL, 0).status == SIMPLE_ASN1_NO_SUCH_VALUE);
     CHECK(simple_asn1_oid(NULL, 0, 0, NULL, 0).status == SIMPLE_ASN1_NO_SUCH_VALUE);
     CHECK(simple_asn1_signed(NULL, 0).status == SIMPLE_ASN1_EMPTY);
+    CHECK(simple_asn1_certificate(NULL, 0).status == SIMPLE_ASN1_EMPTY);
     CHECK(simple_asn1_values(NULL, 0, NULL, 0, NULL, 0, NULL, 0).status == SIMPLE_ASN1_EMPTY);
     CHECK(simple_asn1_departures(NULL, 0, NULL, 0).status == SIMPLE_ASN1_EMPTY);
 }
@@ -33,6 +34,7 @@ static void check_answers(void)
     o = simple_asn1_rewrite(five, 5, out, 4);
     CHECK(o.status == SIMPLE_ASN1_NO_ROOM && o.count == 5);
     CHECK(simple_asn1_signed(five, 5).status == SIMPLE_ASN1_NOT_SIGNED);
+    CHECK(simple_asn1_certificate(five, 5).status == SIMPLE_ASN1_NOT_CERTIFICATE);
     o = simple_asn1_check(five, 5);
     CHECK(o.status == SIMPLE_ASN1_OK && o.offset == 0 && o.count == 0);
 
@@ -322,6 +324,7 @@ static void check_signed(void)
 static int check_changed(const uint8_t *octets, size_t size)
 {
     simple_asn1_signed(octets, size);
+    simple_asn1_certificate(octets, size);
     simple_asn1_outcome o = simple_asn1_read(octets, size, NULL, 0);
     if (o.status != SIMPLE_ASN1_NO_ROOM) {
         CHECK(o.status >= SIMPLE_ASN1_EMPTY && o.status < SIMPLE_ASN1_NOT_CANONICAL && o.offset <= size);

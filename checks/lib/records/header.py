@@ -111,6 +111,7 @@ records = {
     "bit_string": _calls.BitString,
     "moment": _calls.MomentAnswer,
     "signed_parts": _calls.SignedParts,
+    "certificate_parts": _calls.CertificateParts,
     "refusal": Refusal,
 }
 same("Python's records and those it hands out", simple_asn1.Record._fields, tuple(f[0] for f in _calls.Block._fields_))
@@ -141,7 +142,7 @@ same("the header's and Python's records", found, wanted)
 source = "".join((top / "crates/asn1_records/src" / name).read_text() for name in ("record.rt", "first_fault.rt"))
 answers = {
     "IntegerAnswer": "integer", "BitStringAnswer": "bit_string", "MomentAnswer": "moment",
-    "SignedAnswer": "signed_parts", "FaultAnswer": "refusal",
+    "SignedAnswer": "signed_parts", "CertificateAnswer": "certificate_parts", "FaultAnswer": "refusal",
     "DepartureRecord": "departure",
 }
 for kind, size in re.findall(r"size_of::<(\w+)>\(\) == (\d+)", source):

@@ -76,6 +76,7 @@ static uint32_t status_of(int call)
     case 17: return simple_asn1_departures(octets, size, departures, 1 << 10).status;
     case 18: return simple_asn1_departures(broken, sizeof broken, departures, 1 << 10).status;
     case 19: return simple_asn1_bits(octets, size, bits).status;
+    case 20: return simple_asn1_certificate(octets, size).status;
     default: return simple_asn1_write(octets, size, blocks, count, out, sizeof out).status;
     }
 }
@@ -96,7 +97,7 @@ int main(int argc, char **argv)
             *kind = blocks[i].offset;
     }
     size_t refused = 0;
-    for (int call = 0; call < 21; call++) {
+    for (int call = 0; call < 22; call++) {
         for (long k = 0;; k++) {
             long before = live;
             asked = 0, left = k;

@@ -64,6 +64,7 @@ static void call_all(const uint8_t *octets, size_t size, simple_asn1_block *bloc
     simple_asn1_rewrite(octets, size, out, sizeof out);
     simple_asn1_write(octets, size, blocks, o.count, out, sizeof out);
     simple_asn1_signed(octets, size);
+    simple_asn1_certificate(octets, size);
     simple_asn1_fault(octets, size / 2, out, sizeof out);
     for (size_t i = 0; i < o.count; i++) {
         simple_asn1_int64(octets, size, blocks[i].offset);

@@ -1,11 +1,10 @@
 //! Shows the subject of a certificate and when it is valid: certificate < FILE.der
 
-use simple_asn1_records::{Block, Class, Document};
+use simple_asn1_records::{Block, Certificate, Document, Fault};
 use std::error::Error;
 use std::io::Read;
 use std::process::ExitCode;
 
-const SHAPE: &str = "not a certificate";
 const PEM: &str = "this is PEM; as DER it is: openssl x509 -in FILE -outform DER";
 
 fn main() -> ExitCode {
@@ -27,34 +26,26 @@ fn shown() -> Result<String, Box<dyn Error>> {
     if octets.first() != Some(&0x30) && octets.windows(11).any(|part| part == b"-----BEGIN ") {
         return Err(PEM.into());
     }
-    let document =
-        Document::read(&octets).map_err(|fault| format!("refused at offset {}: {}", fault.offset, fault.kind))?;
-    certificate_text(&document).ok_or_else(|| SHAPE.into())
+    certificate_text(&octets).map_err(|fault| format!("refused at offset {}: {}", fault.offset, fault.kind).into())
 }
 
-/// The lines of a certificate; of another document none.
-fn certificate_text(document: &Document) -> Option<String> {
-    let content = document.blocks().next()?.items().next()?;
-    // [0] is the version, which may be left out
-    let mut fields = content.items().skip_while(|field| field.class() == Class::ContextSpecific);
-    let validity = fields.nth(3)?;
-    let subject = fields.next()?;
-
+/// The lines of a certificate.
+fn certificate_text(octets: &[u8]) -> Result<String, Fault> {
+    let certificate = Certificate::read(octets)?;
+    let subject = Document::read(certificate.subject())?;
+    let sets = subject.blocks().flat_map(|name| name.items());
     let mut text = String::from("subject:");
-    for attribute in subject.items().flat_map(|set| set.items()) {
-        text += &format!(" {}", attribute_text(attribute)?);
+    for attribute in sets.flat_map(|set| set.items()) {
+        let items: Vec<Block> = attribute.items().collect();
+        text += &format!(" {}", attribute_text(&items[0].oid()?, items[1]));
     }
-    let mut times = validity.items();
-    text += &format!("\nnot before: {}", times.next()?.moment().ok()?);
-    text += &format!("\nnot after: {}\n", times.next()?.moment().ok()?);
-    Some(text)
+    text += &format!("\nnot before: {}", certificate.not_before()?);
+    text += &format!("\nnot after: {}\n", certificate.not_after()?);
+    Ok(text)
 }
 
-fn attribute_text(attribute: Block) -> Option<String> {
-    let mut items = attribute.items();
-    let kind = items.next()?.oid().ok()?;
-    let value = items.next()?;
-    let name = match kind.as_str() {
+fn attribute_text(kind: &str, value: Block) -> String {
+    let name = match kind {
         "2.5.4.3" => "CN",
         "2.5.4.6" => "C",
         "2.5.4.7" => "L",
@@ -63,7 +54,7 @@ fn attribute_text(attribute: Block) -> Option<String> {
         "2.5.4.11" => "OU",
         other => other,
     };
-    Some(format!("{name}={}", value_text(value)))
+    format!("{name}={}", value_text(value))
 }
 
 /// The text of a value, with what would hide or fake a part of it escaped; in hex digits where it has none.

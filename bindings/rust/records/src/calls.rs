@@ -3,7 +3,7 @@
 use crate::Fault;
 pub use simple_asn1_sys::Block as Record;
 use simple_asn1_sys::*;
-pub use simple_asn1_sys::{Path, SignedParts, Value};
+pub use simple_asn1_sys::{CertificateParts, Path, SignedParts, Value};
 
 /// A moment in UTC, to the nanosecond.
 #[derive(Clone, Copy, Debug, PartialEq, Eq, PartialOrd, Ord, Hash)]
@@ -169,6 +169,14 @@ pub fn oid(octets: &[u8], offset: usize, contents: usize) -> Result<Vec<u8>, Fau
 
 pub fn signed(octets: &[u8]) -> Result<SignedParts, Fault> {
     let answer = unsafe { simple_asn1_signed(octets.as_ptr(), octets.len()) };
+    match answer.status {
+        OK => Ok(answer),
+        status => Err(Fault::of_status(status, answer.offset)),
+    }
+}
+
+pub fn certificate(octets: &[u8]) -> Result<CertificateParts, Fault> {
+    let answer = unsafe { simple_asn1_certificate(octets.as_ptr(), octets.len()) };
     match answer.status {
         OK => Ok(answer),
         status => Err(Fault::of_status(status, answer.offset)),

@@ -50,6 +50,8 @@ pub enum FaultKind {
     /// An OBJECT IDENTIFIER has more than 1,024 contents octets, which are not made into text: their digits would take
     /// time that grows as the square of the size. Of a [`Builder`](crate::Builder): a text has more than 4,097 bytes.
     TooLong,
+    /// The first block is not a certificate.
+    NotCertificate,
     /// A status of a later library, by its number there.
     Unknown(u32),
 }
@@ -73,6 +75,7 @@ impl Fault {
             sys::BAD_RECORD => FaultKind::BadRecord,
             sys::NOT_OID => FaultKind::NotOid,
             sys::TOO_LONG => FaultKind::TooLong,
+            sys::NOT_CERTIFICATE => FaultKind::NotCertificate,
             _ => FaultKind::Unknown(status),
         };
         Fault { kind, offset }
@@ -98,6 +101,7 @@ impl fmt::Display for FaultKind {
             FaultKind::BadRecord => "a record cannot be written",
             FaultKind::NotOid => "the text is not an OBJECT IDENTIFIER",
             FaultKind::TooLong => "too long for text in decimal",
+            FaultKind::NotCertificate => "the first block is not a certificate",
             FaultKind::Unknown(status) => return write!(f, "unknown status {status}"),
         })
     }

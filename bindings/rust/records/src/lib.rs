@@ -2,6 +2,7 @@
 
 mod builder;
 mod calls;
+mod certificate;
 mod departures;
 mod fault;
 mod paths;
@@ -9,6 +10,7 @@ mod paths;
 pub use builder::Builder;
 use calls::SignedParts;
 pub use calls::{Moment, Record};
+pub use certificate::{Certificate, Extension};
 pub use departures::{departures, Departure, Rule};
 pub use fault::{Fault, FaultKind};
 pub use paths::{Paths, Value};

@@ -19,6 +19,7 @@ pub const NOT_SIGNED: u32 = 14;
 pub const BAD_RECORD: u32 = 15;
 pub const NOT_OID: u32 = 16;
 pub const TOO_LONG: u32 = 17;
+pub const NOT_CERTIFICATE: u32 = 18;
 
 pub const RULE_LONG_IDENTIFIER: u32 = 1;
 pub const RULE_PADDED_TAG: u32 = 2;
@@ -145,6 +146,30 @@ pub struct SignedParts {
 
 #[repr(C)]
 #[derive(Clone, Copy, Debug, PartialEq, Eq)]
+pub struct CertificateParts {
+    pub status: u32,
+    pub offset: usize,
+    pub certificate: Block,
+    pub tbs_certificate: Block,
+    pub version: Block,
+    pub serial_number: Block,
+    pub tbs_signature: Block,
+    pub issuer: Block,
+    pub not_before: Block,
+    pub not_after: Block,
+    pub subject: Block,
+    pub subject_public_key_info: Block,
+    pub public_key_algorithm: Block,
+    pub subject_public_key: Block,
+    pub issuer_unique_id: Block,
+    pub subject_unique_id: Block,
+    pub extensions: Block,
+    pub signature_algorithm: Block,
+    pub signature: Block,
+}
+
+#[repr(C)]
+#[derive(Clone, Copy, Debug, PartialEq, Eq)]
 pub struct Fault {
     pub status: u32,
     pub offset: usize,
@@ -184,6 +209,7 @@ extern "C" {
     pub fn simple_asn1_text(octets: *const u8, size: usize, offset: usize, out: *mut u8, room: usize) -> Outcome;
     pub fn simple_asn1_oid(octets: *const u8, size: usize, offset: usize, out: *mut u8, room: usize) -> Outcome;
     pub fn simple_asn1_signed(octets: *const u8, size: usize) -> SignedParts;
+    pub fn simple_asn1_certificate(octets: *const u8, size: usize) -> CertificateParts;
     pub fn simple_asn1_put_boolean(value: u8, out: *mut u8, room: usize) -> Outcome;
     pub fn simple_asn1_put_int64(value: i64, out: *mut u8, room: usize) -> Outcome;
     pub fn simple_asn1_put_bits(octets: *const u8, size: usize, bits: usize, out: *mut u8, room: usize) -> Outcome;
