@@ -1,3 +1,4 @@
 mod Growing
+mod Meant
 mod Readers
 mod Texts

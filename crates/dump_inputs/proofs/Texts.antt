@@ -33,21 +33,21 @@ module _ {A B : Type 0} (Is : A → B → List ℕ → Type 0) where
       IsDone task (AreTexts Is (xs ++ x ∷ []) (results ++ last ∷ [])) a c
   IsDone-append_next Dump xs results x last a b c (text, are) (own, is) =
       (text ++ own, AreTexts-append_last xs results x last text own are is)
-  IsDone-append_next (At offset) xs results x last a b c (text, are) (own, is) =
+  IsDone-append_next (At target) xs results x last a b c (text, are) (own, is) =
       (text ++ own, AreTexts-append_last xs results x last text own are is)
-  IsDone-append_next (Extract part offset) xs results x last a b c earlier one =
+  IsDone-append_next (Extract part target) xs results x last a b c earlier one =
       IsWritten-append _ _ _ a b c (AreTexts-append_last xs results x last) earlier one
 
 -- a task is done by no text
 pub IsDone-nil : (task : Task) (Is : List ℕ → Type 0) (a : Option (List ℕ)) → Is [] → IsDone task Is a a
 IsDone-nil Dump Is a is = ([], is)
-IsDone-nil (At offset) Is a is = ([], is)
-IsDone-nil (Extract part offset) Is a is = ([], Appends-nil a, is)
+IsDone-nil (At target) Is a is = ([], is)
+IsDone-nil (Extract part target) Is a is = ([], Appends-nil a, is)
 
 -- a task that was done still is, where octets as they stand are kept
 pub IsDone-kept :
     (task : Task) (Is : List ℕ → Type 0) (a b c : Option (List ℕ)) → IsDone task Is a b →
     (is_extract task ≡ true → Keeps b c) → IsDone task Is a c
 IsDone-kept Dump Is a b c done kept = done
-IsDone-kept (At offset) Is a b c done kept = done
-IsDone-kept (Extract part offset) Is a b c (text, put, is) kept = (text, Appends-kept a b c text put (kept refl), is)
+IsDone-kept (At target) Is a b c done kept = done
+IsDone-kept (Extract part target) Is a b c (text, put, is) kept = (text, Appends-kept a b c text put (kept refl), is)

@@ -1,8 +1,9 @@
-// Whether octets that a text may have spelled by chance are a document.
+// What of octets is a document: whether a text may have spelled them by chance, and whether zeros stand behind it.
 
 use asn1_blocks::encoding::encoding_at;
 use asn1_der::{Rule, departures};
 use asn1_headers::error::ASN1DecodeErr;
+use dump_walk::element_header::{size_of, whole_header};
 use std::alloc::{AllocError, Global};
 
 // How many octets a document has at least.
@@ -41,4 +42,25 @@ fn are_encodings(alloc: Global, octets: &[u8]) -> Result<bool, AllocError> {
         Err(e) if matches!(e.error, ASN1DecodeErr::OutOfMemory) => Err(AllocError),
         Err(_) => Ok(false),
     }
+}
+
+// How many zeros stand behind a document, as in a buffer that is longer than what is in it: behind whole encodings, of
+// which none has the indefinite form of lengths, which ends with zeros itself.
+pub fn zeros_behind(alloc: Global, octets: &[u8]) -> Result<usize, AllocError> {
+    let zeros = octets.iter().rev().take_while(|b| **b == 0).count();
+    let mut rest = octets;
+    while rest.len() > zeros {
+        match whole_header(alloc, rest)? {
+            Some(header) if !header.is_indefinite => {
+                let (_, behind) = rest.split_at(size_of(rest, &header));
+                rest = behind;
+            }
+            _ => return Ok(0),
+        }
+    }
+    Ok(if rest.len() < octets.len() {
+        rest.len()
+    } else {
+        0
+    })
 }

@@ -1,14 +1,16 @@
-// Documents that stand in a text among other words, in hex digits or in base64.
+// Documents that stand in a text among other words, in hex digits, in decimal numbers or in base64.
 //
 // A word is symbols of base64 one behind another. Each is tried by itself, and then those that may spell a document
-// together: hex digits with commas and the like between them, and base64 in lines.
+// together: hex digits or decimal numbers with commas and the like between them, and base64 in lines.
 
+use crate::document::is_document;
 use crate::spelled::{
     digits_in, document_in_digits, document_in_symbols, escaped_symbol, is_line_end, is_symbol,
-    may_begin, may_spell,
+    may_begin, may_spell, octet_in,
 };
 use der_digits::lines::Lines;
 use std::alloc::{AllocError, Global};
+use std::mem;
 
 // A document that stands in a text.
 #[derive(Drop)]
@@ -28,7 +30,7 @@ pub fn documents_in(alloc: Global, text: &[u8]) -> Result<Vec<Found>, AllocError
             search.read_part(part)?;
         }
     }
-    search.end_digits()?;
+    search.end_numbers()?;
     search.end_symbols()?;
     Ok(search.found)
 }
@@ -82,6 +84,8 @@ struct Search {
     // what stands directly before the next word; of `&#` the first of both
     mark: u8,
     digits: Run,
+    // the octets that they spell as decimal numbers
+    octets: Run,
     symbols: Run,
     // how many symbols of base64 have come in this line, and in the one before it
     size: usize,
@@ -99,6 +103,7 @@ impl Search {
             is_at_start: true,
             mark: b'\n',
             digits: Run::new(alloc),
+            octets: Run::new(alloc),
             symbols: Run::new(alloc),
             size: 0,
             size_before: 0,
@@ -142,7 +147,7 @@ impl Search {
             self.end_symbols()?;
         }
         if !is_between && !matches!(mark, b',' | b':' | b'(' | b')') {
-            self.end_digits()?;
+            self.end_numbers()?;
         }
         Ok(())
     }
@@ -165,7 +170,9 @@ impl Search {
             return Ok(());
         }
         // no words were read that may spell a document with this one
-        let is_idle = self.digits.words == 0 && self.symbols.words == 0;
+        let is_idle = [&self.digits, &self.octets, &self.symbols]
+            .iter()
+            .all(|run| run.words == 0);
         if !is_idle || may_spell(word) {
             self.read_symbols_of(word)?;
         }
@@ -181,21 +188,31 @@ impl Search {
             None => document_in_symbols(self.alloc, word)?,
         };
         if let Some(octets) = alone {
-            self.end_digits()?;
+            self.end_numbers()?;
             self.end_symbols()?;
             return self.push_found(octets, self.line);
         }
-        self.read_digits(digits, word)?;
+        // as in `(byte) 0x30`
+        if word != b"byte".as_slice() {
+            self.read_digits(digits)?;
+            self.read_octet(octet_in(word))?;
+        }
         self.read_base64(word)
     }
 
     // Reads a word, as one of those that spell a document in hex digits.
-    fn read_digits(&mut self, digits: Option<&[u8]>, word: &[u8]) -> Result<(), AllocError> {
+    fn read_digits(&mut self, digits: Option<&[u8]>) -> Result<(), AllocError> {
         match digits {
             Some(digits) => self.digits.push(digits, self.line),
-            // as in `(byte) 0x30`
-            None if word == b"byte".as_slice() => Ok(()),
             None => self.end_digits(),
+        }
+    }
+
+    // Reads a word, as one of those that spell a document in decimal numbers, an octet each.
+    fn read_octet(&mut self, octet: Option<u8>) -> Result<(), AllocError> {
+        match octet {
+            Some(octet) => self.octets.push(&[octet], self.line),
+            None => self.end_octets(),
         }
     }
 
@@ -240,6 +257,22 @@ impl Search {
         }
         self.digits.clear();
         Ok(())
+    }
+
+    // The same of decimal numbers.
+    fn end_octets(&mut self) -> Result<(), AllocError> {
+        if is_document(self.alloc, &self.octets.symbols)? {
+            let octets = mem::replace(&mut self.octets.symbols, Vec::new(self.alloc));
+            self.push_found(octets, self.octets.line)?;
+        }
+        self.octets.clear();
+        Ok(())
+    }
+
+    // The same of both.
+    fn end_numbers(&mut self) -> Result<(), AllocError> {
+        self.end_digits()?;
+        self.end_octets()
     }
 
     // The same of base64.

@@ -7,8 +7,9 @@
 //! after a run.
 //!
 //! `sources` reads the inputs, `show` writes their documents, each object of PEM before it decodes the next, and
-//! `blocks` finds the block at an offset, to show it or to write a part of it. `other_forms` knows how forms begin that
-//! are not read.
+//! `blocks` finds the block that is meant, to show it or to write a part of it: one at an offset, or one to which a
+//! path leads (`by_path`). `value_text` has the value of a block as text. `other_forms` knows how forms begin that are
+//! not read.
 //!
 //! In a text in no form of `der_forms`, `found` finds documents among other words, by `spelled` and `document`.
 //! `quoted` reads PEM whose lines have marks around them, and `utf16` text without a byte order mark.
@@ -18,6 +19,7 @@
 
 mod appended;
 mod blocks;
+mod by_path;
 mod document;
 mod found;
 mod other_forms;
@@ -27,6 +29,7 @@ mod show;
 mod sources;
 mod spelled;
 mod utf16;
+mod value_text;
 
 pub use outcome::Outcome;
 pub use sources::{Source, run, status};

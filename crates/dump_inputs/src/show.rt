@@ -1,6 +1,7 @@
 // How documents are shown.
 ghost use Rattle.std.specs.Prelude.{◌≡◌, false, OnOk};
 
+use crate::document::zeros_behind;
 use crate::found::{Found, documents_in};
 use crate::other_forms::other_form;
 use crate::quoted::without_marks;
@@ -26,7 +27,7 @@ type Shown = Result<Verdict, StreamFault>;
 
 // What is said of octets that have no account.
 const NO_ACCOUNT: &str =
-    "no certificate, certification request, list of revoked certificates or key";
+    "no account: none of a type that --text knows, such as a certificate, a list, a key or a message";
 
 // A document that is shown.
 #[derive(Clone, Copy)]
@@ -184,11 +185,29 @@ impl<'o> Show<'o> {
             is_strict: self.options.is_strict,
         };
         let verdict = match document.octets {
-            Ok(octets) => dumper.push_document(self.style, octets, printer)?,
+            Ok(octets) => self.push_rows(&dumper, octets, printer)?,
             Err(why) => push_refusal(why, printer)?,
         };
         printer.end_folds()?;
         Ok(verdict)
+    }
+
+    // Writes the rows of a document, and how many zeros are behind it.
+    fn push_rows<W: Write>(
+        &self,
+        dumper: &Dumper<'_>,
+        octets: &[u8],
+        printer: &mut Printer<W>,
+    ) -> Shown {
+        let zeros = zeros_behind(self.alloc, octets)?;
+        let (document, _) = octets.split_at(octets.len().saturating_sub(zeros));
+        let verdict = dumper.push_document(self.style, document, printer)?;
+        if zeros == 0 {
+            return Ok(verdict);
+        }
+        let bytes = if zeros == 1 { "byte" } else { "bytes" };
+        let why = format!(in self.alloc; "{zeros} {bytes} behind the document, all 00")?;
+        push_refusal(&why, printer)
     }
 
     // Writes the account of a document, or that it has none. It is rejected if it is no whole encodings, and strictly

@@ -88,12 +88,12 @@ fn run_on<B: Before, R: Read + Drop, W: Write>(
 // Writes what is wanted of each input, one after another. Of inputs none of which can be read nothing is written.
 fn answer_all<R: Read + Drop, W: Write>(
     show: &Show<'_>,
-    task: Task,
+    task: Task<'_>,
     sources: &mut [Source<'_, R>],
     printer: &mut Printer<W>,
 ) -> Result<Vec<Outcome>, StreamFault>
-    ensures answered { IfOk result (λ outcomes. IsDone task
-        (AreTexts (IsInputText task) (map (λ source. R.remaining source.reader) sources.old) outcomes.items)
+    ensures answered { IfOk result (λ outcomes. IsDone task.entry
+        (AreTexts (IsInputText task.entry) (map (λ source. R.remaining source.reader) sources.old) outcomes.items)
         (W.contents printer.old.out) (W.contents printer.new.out)) }
     ensures read { IfOk result (λ outcomes. AreReadToEnds outcomes.items
         (map (λ source. R.remaining source.reader) sources.new)) }
@@ -114,15 +114,15 @@ fn answer_all<R: Read + Drop, W: Write>(
 // Writes what is wanted of an input, where it can be read; documents, behind what stands before them all.
 fn answer<R: Read + Drop, W: Write>(
     show: &Show<'_>,
-    task: Task,
+    task: Task<'_>,
     source: &mut Source<'_, R>,
     is_begun: &mut bool,
     printer: &mut Printer<W>,
 ) -> Result<Outcome, StreamFault>
-    ensures answered { IfOk result (λ outcome. IsDone task
-        (IsInputText task (R.remaining source.old.reader) outcome)
+    ensures answered { IfOk result (λ outcome. IsDone task.entry
+        (IsInputText task.entry (R.remaining source.old.reader) outcome)
         (W.contents printer.old.out) (W.contents printer.new.out)) }
-    ensures begun { is_extract task ≡ true → is_begun.new ≡ is_begun.old }
+    ensures begun { is_extract task.entry ≡ true → is_begun.new ≡ is_begun.old }
     ensures read { IfOk result (λ outcome. IsReadToEnd outcome (R.remaining source.new.reader)) }
 {
     let input = match read_all(show.alloc, &mut source.reader) {
@@ -136,11 +136,11 @@ fn answer<R: Read + Drop, W: Write>(
             let verdict = show.push_input(source.name, input, printer)?;
             Ok(Outcome::Written(verdict))
         }
-        Task::At(offset) => {
+        Task::At(target) => {
             show.begin(is_begun, &mut printer.out)?;
-            show.push_at(source.name, input, offset, printer)
+            show.push_at(source.name, input, target, printer)
         }
-        Task::Extract(part, offset) => show.push_part(part, input, offset, &mut printer.out),
+        Task::Extract(part, target) => show.push_part(part, input, target, &mut printer.out),
     }
 }
 

@@ -1,4 +1,5 @@
-// Documents that digits or symbols of a text spell: in hex digits, or in base64, also that of a text of PEM.
+// Documents that digits or symbols of a text spell: in hex digits, in decimal numbers, or in base64, also that of a
+// text of PEM.
 
 use crate::document::{LEAST_OCTETS, is_document};
 use base64::DecodeAllocError;
@@ -9,6 +10,7 @@ use der_digits::Spelling;
 use der_digits::hex_text::{Symbols, spelling_in};
 use der_digits::search::contains;
 use std::alloc::{AllocError, Global};
+use std::str;
 
 // How a text of PEM begins.
 pub const BEGIN: &[u8] = b"-----BEGIN ";
@@ -65,6 +67,14 @@ pub fn digits_in(word: &[u8]) -> Option<&[u8]> {
         digits => digits,
     };
     are_pairs(digits).then_some(digits)
+}
+
+// The octet that a word spells as a decimal number, which may be that of two's complement: `130`, `-126`.
+pub fn octet_in(word: &[u8]) -> Option<u8> {
+    match str::from_utf8(word).ok()?.parse::<i16>().ok()? {
+        number @ -128..=255 => u8::try_from(number.rem_euclid(256)).ok(),
+        _ => None,
+    }
 }
 
 // Whether digits are there, two for each octet, with hyphens between them or without.

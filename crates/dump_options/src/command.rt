@@ -21,14 +21,16 @@ pub fn command<'a>(alloc: Global) -> Result<Command<'a>, AllocError> {
         .arg(arg!(in alloc; [FILE]...
             "Files to read, each in turn; `-`, or no file, is standard input"))?
         .next_help_heading("One block")
-        .arg(arg!(in alloc; --at <OFFSET>
-            "Show only the block that begins at the offset, in bytes, also as 0x1a"))?
-        .arg(arg!(in alloc; --extract <OFFSET>
-            "Write the bytes of the block that begins at the offset"))?
-        .arg(arg!(in alloc; --contents <OFFSET>
-            "Write the contents of the block that begins at the offset"))?
-        .arg(arg!(in alloc; --value <OFFSET>
-            "Write the bytes that the string at the offset holds, its segments joined"))?
+        .arg(arg!(in alloc; --at <BLOCK>
+            "Show only this block; BLOCK is its path, as JSON has it, or its offset in bytes, also as 0x1a"))?
+        .arg(arg!(in alloc; --get <BLOCK>
+            "Write its value as a line of text, such as --get tbsCertificate.validity.notAfter"))?
+        .arg(arg!(in alloc; --extract <BLOCK>
+            "Write its bytes"))?
+        .arg(arg!(in alloc; --contents <BLOCK>
+            "Write its contents"))?
+        .arg(arg!(in alloc; --value <BLOCK>
+            "Write the bytes that it holds as a string, its segments joined"))?
         .next_help_heading("What is shown")
         .arg(arg!(in alloc; --strict
             "Reject documents that are not DER, and list why, after showing them"))?

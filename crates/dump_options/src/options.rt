@@ -8,27 +8,35 @@ use std::alloc::Global;
 use std::convert::AsStr;
 
 // Arguments, each with those that do not go with it: one at most says what is written in place of lines.
-const EXCLUSIONS: [(&str, &[&str]); 12] = [
+const EXCLUSIONS: [(&str, &[&str]); 14] = [
     ("html", &["text"]),
     ("json", &["text", "html"]),
     ("extract", &["text", "html", "json"]),
     ("contents", &["text", "html", "json", "extract"]),
     ("value", &["text", "html", "json", "extract", "contents"]),
+    (
+        "get",
+        &["text", "html", "json", "extract", "contents", "value"],
+    ),
     ("text", &NOT_WITH_JSON),
     ("html", &["color"]),
     ("json", &NOT_WITH_JSON),
     ("extract", &NOT_WITH_OCTETS),
     ("contents", &NOT_WITH_OCTETS),
     ("value", &NOT_WITH_OCTETS),
+    ("get", &NOT_WITH_PART),
     ("plain", &["as"]),
 ];
 
 // JSON has all blocks whole, and an account has no blocks.
 const NOT_WITH_JSON: [&str; 4] = ["color", "full", "flat", "depth"];
 
-// Bytes are shown in no way.
-const NOT_WITH_OCTETS: [&str; 9] = [
-    "at", "strict", "full", "flat", "depth", "oids", "color", "plain", "as",
+// A part of a block is shown in no other way. Its path has the names of fields.
+const NOT_WITH_PART: [&str; 7] = ["at", "strict", "full", "flat", "depth", "color", "plain"];
+
+// Bytes have no names of object identifiers in them either.
+const NOT_WITH_OCTETS: [&str; 8] = [
+    "at", "strict", "full", "flat", "depth", "oids", "color", "plain",
 ];
 
 // The flags that have documents written otherwise than in lines.
@@ -39,10 +47,11 @@ const OUTPUTS: [(&str, Output); 3] = [
 ];
 
 // The arguments that have a part of a block written.
-const PARTS: [(&str, Part); 3] = [
+const PARTS: [(&str, Part); 4] = [
     ("extract", Part::Whole),
     ("contents", Part::Contents),
     ("value", Part::Value),
+    ("get", Part::Text),
 ];
 
 /// What the arguments of a command line ask for.
@@ -51,7 +60,7 @@ pub struct Options<'a> {
     /// The names of the inputs, in order, at least one: `-` is standard input, and any other name that of a file.
     pub inputs: Vec<&'a str>,
     /// What is done with each input.
-    pub task: Task,
+    pub task: Task<'a>,
     /// Documents that are not canonical are rejected.
     pub is_strict: bool,
     /// Values are written whole, however many octets they have.
@@ -94,26 +103,37 @@ pub enum Color {
     Never,
 }
 
-/// What is done with an input. Offsets are counted in octets from the first octet of its document.
+/// What is done with an input.
 #[derive(Clone, Copy, Debug, PartialEq)]
-pub enum Task {
+pub enum Task<'a> {
     /// It is dumped.
     Dump,
-    /// The block at the offset is dumped, alone.
-    At(usize),
-    /// This part of the block at the offset is written.
-    Extract(Part, usize),
+    /// The block is dumped, alone.
+    At(Target<'a>),
+    /// This part of the block is written.
+    Extract(Part, Target<'a>),
 }
 
-/// Which bytes of a block are written.
+/// Which block of a document is meant.
+#[derive(Clone, Copy, Debug, PartialEq)]
+pub enum Target<'a> {
+    /// The one that begins at the offset, counted in octets from the first octet of the document.
+    Offset(usize),
+    /// The one to which these names of fields lead, as JSON has them.
+    Path(&'a str),
+}
+
+/// What of a block is written.
 #[derive(Clone, Copy, Debug, PartialEq)]
 pub enum Part {
-    /// All of them.
+    /// All of its octets.
     Whole,
     /// Its contents octets.
     Contents,
     /// The octets of the value of the string that it is.
     Value,
+    /// Its value as text, in a line; or its contents octets, where it has none.
+    Text,
 }
 
 /// The options that the arguments ask for. The first argument is the program's name.
@@ -160,33 +180,57 @@ fn refuse_exclusions<'a>(matches: &ArgMatches<'_>) -> Result<(), OptionsFault<'a
 }
 
 // What is done with each input.
-fn task_of<'a>(matches: &ArgMatches<'a>) -> Result<Task, OptionsFault<'a>> {
-    if let Some(offset) = number_of(matches, "at")? {
-        return Ok(Task::At(offset));
+fn task_of<'a>(matches: &ArgMatches<'a>) -> Result<Task<'a>, OptionsFault<'a>> {
+    if let Some(target) = target_of(matches, "at")? {
+        return Ok(Task::At(target));
     }
     for (name, part) in PARTS {
-        if let Some(offset) = number_of(matches, name)? {
-            return Ok(Task::Extract(part, offset));
+        if let Some(target) = target_of(matches, name)? {
+            return Ok(Task::Extract(part, target));
         }
     }
     Ok(Task::Dump)
 }
 
-// The number that the value of an argument is, where it has one: in hex digits behind `0x`, or in decimal digits.
+// The block that the value of an argument means, where it has one. A path begins with the name of a field, or with the
+// number of an item in brackets.
+fn target_of<'a>(
+    matches: &ArgMatches<'a>,
+    name: &'static str,
+) -> Result<Option<Target<'a>>, OptionsFault<'a>> {
+    match matches.get_str(name) {
+        None => Ok(None),
+        Some(text) if begins_path(text) => Ok(Some(Target::Path(text))),
+        Some(text) => Ok(Some(Target::Offset(number_in(name, text)?))),
+    }
+}
+
+// Whether a path may begin so.
+fn begins_path(text: &str) -> bool {
+    matches!(
+        text.as_bytes(),
+        [b'a'..=b'z' | b'A'..=b'Z' | b'[', ..]
+    )
+}
+
+// The number that the value of an argument is, where it has one.
 fn number_of<'a>(
     matches: &ArgMatches<'a>,
     name: &'static str,
 ) -> Result<Option<usize>, OptionsFault<'a>> {
-    let Some(text) = matches.get_str(name) else {
-        return Ok(None);
-    };
+    match matches.get_str(name) {
+        None => Ok(None),
+        Some(text) => Ok(Some(number_in(name, text)?)),
+    }
+}
+
+// The number that a text is: in hex digits behind `0x`, or in decimal digits.
+fn number_in<'a>(name: &'static str, text: &'a str) -> Result<usize, OptionsFault<'a>> {
     let number = match text.strip_prefix("0x") {
         Some(digits) => usize::from_str_radix(digits, 16),
         None => text.parse::<usize>(),
     };
-    number
-        .map(Some)
-        .map_err(|_| OptionsFault::NoNumber(name, text))
+    number.map_err(|_| OptionsFault::NoNumber(name, text))
 }
 
 // When lines are colored.

@@ -1,13 +1,14 @@
--- For `blocks::push_part_of`: what it returns is right.
+-- For `show::Show::push_part_of`: what it returns is right.
 use Rattle.std.proofs.Common.{[], ℕ, List, inl, inr, refl}
 use Rattle.std.proofs.KnownBytes.{Appends-nil}
 use Rattle.std.proofs.lemmas.Result.{IfOk-weaker}
-use Rattle.std.specs.Prelude.{Err, None, Some}
+use Rattle.std.specs.Prelude.{Err, None, Option, Some}
 use Rattle.dump_inputs.specs.Blocks.{IsPartOf}
 use Rattle.dump_walk.specs.StringOctets.{HoldsNoOctets, HoldsOctets, IsStringAnswer}
 use Rattle.dump_walk.specs.declared.string_value.NoString.{NoString}
 use Rattle.dump_walk.specs.declared.string_value.NoString.TheVariants.{Malformed, OtherType}
-use Rattle.dump_inputs.proofs.blocks.push_part_of.Goals as goal
+use Rattle.dump_options.specs.declared.options.Part.TheVariants.{Text}
+use Rattle.dump_inputs.proofs.show.Show.push_part_of.Goals as goal
 
 -- a block that is no string, or a malformed one, holds no octets of a string
 HoldsNoOctets-answer :
@@ -44,3 +45,12 @@ returns-in_ok-no_string_text-in-Err g c =
     HoldsNoOctets-answer block c.in-Err.why (rw c.in-Err.is at c.in_ok-octets-in-Value.ensures) in
     let is : IsPartOf c.args.part block c.args.block.now.contents.now None = rw c.in-Value.is none in
     (None, is, ([], Appends-nil (g.W.Write.contents c.args.out.now), refl))
+
+pub returns-in-Text : goal.returns-in-Text
+returns-in-Text g c =
+    let block = c.args.block.now.octets.now in
+    let contents = c.args.block.now.contents.now in
+    let in_part : (octets : Option (List ℕ)) → IsPartOf Text block contents octets
+    → IsPartOf c.args.part block contents octets = λ octets is. rw c.in-Text.is is in
+    IfOk-weaker c.push_text_of.result _ _
+    (λ outcome (octets, is, written). (octets, in_part octets is, written)) c.push_text_of.ensures
