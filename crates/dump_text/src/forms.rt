@@ -3,12 +3,16 @@
 // A path has the names of fields from the outside to the inside, without that of the document. What has no name as a
 // field has that of its type there.
 
+use crate::messages::{ENCRYPTION, message_form, parameter_form, service_form};
+
 // How an account shows documents of some types.
 pub struct Form {
     // the names of the types
     pub types: &'static [&'static str],
     pub title: &'static str,
     pub rows: &'static [Row],
+    // the labels of rows that a document may have nothing for
+    pub optional: &'static [&'static str],
     // of what is signed, where the values of its extensions stand; a digest of it is shown
     pub signed: Option<&'static str>,
 }
@@ -17,7 +21,7 @@ pub struct Form {
 // there.
 pub type Row = (&'static str, &'static str, Parts);
 
-type Parts = &'static [(&'static str, Part)];
+pub type Parts = &'static [(&'static str, Part)];
 
 // How a piece inside a field is shown.
 #[derive(Clone, Copy)]
@@ -36,11 +40,11 @@ pub enum Part {
     // the curve of a key, and how many bits the modulus of one has
     Curve,
     Modulus,
-    // how many there are, from none, and one of them
-    Count,
-    Counted,
-    // the names of bits
+    // how many lines have this label
+    Count(&'static str),
+    // the names of bits, and those as an item
     Bits,
+    Flags,
     // whether the subject is an authority, and how many others may stand below it
     Authority,
     PathLength,
@@ -48,10 +52,27 @@ pub enum Part {
     RelativeName,
     AttributeType,
     AttributeValue,
-    // a GeneralName behind the word for its kind, by its value, or by its contents octets; and the type of an otherName
+    // a GeneralName behind the word for its kind, by its value, or by its contents octets; of an otherName the type and
+    // the value; and a GeneralName that is a field with another name, behind a word
     GeneralName(&'static str),
     GeneralOctets(&'static str),
     TypeId,
+    OtherValue,
+    FieldName(&'static str),
+    // an item: a serial number; contents octets or a time behind a word; a number between words, and how many bits one
+    // has; characters; the name of a number; and the alternative that a tag chooses
+    Serial,
+    Octets(&'static str),
+    Moment(&'static str),
+    Amount(&'static str, &'static str),
+    Size,
+    Characters,
+    NumberName,
+    Alternative,
+    // nothing, but what is inside it may be a document
+    Inside,
+    // a list of signed certificate timestamps, with a line for each
+    Timestamps,
 }
 
 impl Form {
@@ -62,12 +83,25 @@ impl Form {
                 return Some((place, *row));
             }
         }
-        let (name, around) = names.split_last()?;
-        if !self.has_extensions_at(around) {
-            return None;
-        }
-        let row = EXTENSIONS.iter().find(|(own, _, _)| own == name)?;
+        let inside = self.extension_in(names)?;
+        let row = EXTENSIONS
+            .iter()
+            .find(|(path, _, _)| is_path(path, inside))?;
         Some((self.rows.len().saturating_sub(1), *row))
+    }
+
+    // The end of a path that leads into the value of an extension: the names in it.
+    pub fn extension_in<'n>(&self, names: &'n [&'n str]) -> Option<&'n [&'n str]> {
+        let signed = self.signed?;
+        let (around, inside) = names.split_at_checked(signed.split('.').count())?;
+        is_path(signed, around).then_some(inside)
+    }
+
+    // Whether rows have something inside the path.
+    pub fn has_rows_inside(&self, names: &[&str]) -> bool {
+        self.rows
+            .iter()
+            .any(|(path, _, _)| begins_with(path, names))
     }
 
     // Whether the values of extensions stand at the path.
@@ -87,12 +121,27 @@ pub fn begins_with(path: &str, names: &[&str]) -> bool {
     front.eq(names.iter().copied())
 }
 
-// The labels of rows that a document may have nothing for.
-pub const OPTIONAL: &[&str] = &["next update"];
+// How a GeneralName of this alternative is shown.
+pub fn general_part(alternative: &str) -> Option<Part> {
+    let (_, part) = GENERAL_NAMES.iter().find(|(path, _)| *path == alternative)?;
+    Some(*part)
+}
 
-// How accounts show documents of the type with this name.
+// How accounts show documents of the type with this name. Each table is looked into by a function of its own, since the
+// prover has all of a table before it where one is named.
 pub fn form_of(type_name: &str) -> Option<&'static Form> {
-    FORMS.iter().find(|form| form.types.contains(&type_name))
+    if let Some(form) = form_in(FORMS, type_name) {
+        return Some(form);
+    }
+    if let Some(form) = message_form(type_name) {
+        return Some(form);
+    }
+    service_form(type_name).or(parameter_form(type_name))
+}
+
+// How a table shows documents of the type with this name.
+pub fn form_in(forms: &'static [Form], type_name: &str) -> Option<&'static Form> {
+    forms.iter().find(|form| form.types.contains(&type_name))
 }
 
 const FORMS: &[Form] = &[
@@ -109,6 +158,7 @@ const FORMS: &[Form] = &[
             ("tbsCertificate.subjectPublicKeyInfo", "public key", KEY),
             SIGNATURE,
         ],
+        optional: &[],
         signed: Some("tbsCertificate.extensions.Extensions.Extension.extnValue"),
     },
     // RFC 2986, 4
@@ -118,8 +168,14 @@ const FORMS: &[Form] = &[
         rows: &[
             ("certificationRequestInfo.subject", "subject", NAME),
             ("certificationRequestInfo.subjectPKInfo", "public key", KEY),
+            (
+                "certificationRequestInfo.attributes.Attribute",
+                "attribute",
+                ATTRIBUTE,
+            ),
             SIGNATURE,
         ],
+        optional: &["attribute"],
         signed: Some(
             "certificationRequestInfo.attributes.Attribute.values.Extensions.Extension.extnValue",
         ),
@@ -132,9 +188,15 @@ const FORMS: &[Form] = &[
             ("tbsCertList.issuer", "issuer", NAME),
             ("tbsCertList.thisUpdate", "this update", TIME),
             ("tbsCertList.nextUpdate", "next update", END),
-            ("tbsCertList.revokedCertificates", "revoked", REVOKED),
+            (NOWHERE, "revoked", &[("", Part::Count(REVOKED_LABEL))]),
+            (
+                "tbsCertList.revokedCertificates.RevokedCertificate",
+                REVOKED_LABEL,
+                REVOKED,
+            ),
             SIGNATURE,
         ],
+        optional: &["next update", REVOKED_LABEL],
         signed: Some("tbsCertList.crlExtensions.Extensions.Extension.extnValue"),
     },
     // RFC 5280, 4.1
@@ -142,6 +204,7 @@ const FORMS: &[Form] = &[
         types: &["SubjectPublicKeyInfo"],
         title: "public key",
         rows: &[("", "key", KEY)],
+        optional: &[],
         signed: None,
     },
     // RFC 5208, 5, and RFC 5958, 2
@@ -149,13 +212,15 @@ const FORMS: &[Form] = &[
         types: &["PrivateKeyInfo", "OneAsymmetricKey"],
         title: "private key",
         rows: &[("", "key", PRIVATE_KEY)],
+        optional: &[],
         signed: None,
     },
     // RFC 5958, 3
     Form {
         types: &["EncryptedPrivateKeyInfo"],
         title: "encrypted private key",
-        rows: &[("encryptionAlgorithm", "encryption", ALGORITHM)],
+        rows: &[("encryptionAlgorithm", "encryption", ENCRYPTION)],
+        optional: &[],
         signed: None,
     },
     // RFC 5915, 3, and RFC 8017, appendix A.1.2
@@ -163,30 +228,89 @@ const FORMS: &[Form] = &[
         types: &["ECPrivateKey", "RSAPrivateKey"],
         title: "private key",
         rows: &[("", "key", TRADITIONAL_KEY)],
+        optional: &[],
         signed: None,
     },
 ];
 
 // RFC 5280, 4.1.1.2
-const SIGNATURE: Row = ("signatureAlgorithm", "signature", ALGORITHM);
+pub const SIGNATURE: Row = ("signatureAlgorithm", "signature", ALGORITHM);
 
-// RFC 5280, 4.2 and 5.2, by the types of their values
+// RFC 5280, 4.2 and 5.2, and RFC 6962, 3.3, by the paths from the types of their values on
 const EXTENSIONS: &[Row] = &[
     ("KeyUsage", "key usage", &[("", Part::Bits)]),
     ("SubjectAltName", "alternative names", GENERAL_NAMES),
+    ("IssuerAltName", "issuer's names", GENERAL_NAMES),
     ("BasicConstraints", "authority", CONSTRAINTS),
     ("CRLNumber", "number", NUMBER),
     ("ExtKeyUsageSyntax", "extended key usage", PURPOSES),
+    ("CertificatePolicies.PolicyInformation", "policy", POLICY),
+    (
+        "NameConstraints.permittedSubtrees.GeneralSubtree",
+        "name constraint",
+        PERMITTED,
+    ),
+    (
+        "NameConstraints.excludedSubtrees.GeneralSubtree",
+        "name constraint",
+        EXCLUDED,
+    ),
+    (
+        "CRLDistributionPoints.DistributionPoint",
+        "revocation list",
+        POINT,
+    ),
+    (
+        "AuthorityInfoAccessSyntax.AccessDescription",
+        "issuer's service",
+        SERVICE,
+    ),
+    (
+        "SubjectInfoAccessSyntax.AccessDescription",
+        "subject's service",
+        SERVICE,
+    ),
+    (
+        "SubjectKeyIdentifier",
+        "key identifier",
+        &[("", Part::Octets(""))],
+    ),
+    (
+        "AuthorityKeyIdentifier",
+        "issuer's key",
+        &[("keyIdentifier", Part::Octets(""))],
+    ),
+    (
+        "SignedCertificateTimestampList",
+        "timestamp",
+        &[("", Part::Timestamps)],
+    ),
 ];
 
-const NUMBER: Parts = &[("", Part::Number)];
+// The path of no field: of a line that is made of others.
+const NOWHERE: &str = ".";
 
-const TIME: Parts = &[("", Part::Time)];
+const REVOKED_LABEL: &str = "revoked certificate";
+
+pub const NUMBER: Parts = &[("", Part::Number)];
+
+pub const TIME: Parts = &[("", Part::Time)];
 
 const END: Parts = &[("", Part::End)];
 
-// RFC 5280, 4.1.1.2
-const ALGORITHM: Parts = &[("", Part::Text("?")), ("algorithm", Part::Identifier)];
+// RFC 5280, 4.1.1.2, and RFC 4055, 3.1
+pub const ALGORITHM: Parts = &[
+    ("", Part::Text("?")),
+    ("algorithm", Part::Identifier),
+    (
+        "parameters.hashAlgorithm.AlgorithmIdentifier.algorithm",
+        Part::Item,
+    ),
+    (
+        "parameters.saltLength.INTEGER",
+        Part::Amount("salt of ", " bytes"),
+    ),
+];
 
 // RFC 5280, 4.1.2.4
 const NAME: Parts = &[
@@ -202,19 +326,21 @@ const NAME: Parts = &[
     ),
 ];
 
-// RFC 5280, 4.1.2.7, and RFC 8017, appendix A.1.1
-const KEY: Parts = &[
+// RFC 5280, 4.1.2.7, RFC 8017, appendix A.1.1, and RFC 3279, 2.3.2 and 2.3.3
+pub const KEY: Parts = &[
     ("algorithm", Part::Text("?")),
     ("algorithm.algorithm", Part::KeyKind),
     ("algorithm.parameters", Part::Curve),
+    ("algorithm.parameters.p", Part::Size),
     ("subjectPublicKey.RSAPublicKey.modulus", Part::Modulus),
 ];
 
-// RFC 5958, 2, and RFC 8017, appendix A.1.2
+// RFC 5958, 2, RFC 8017, appendix A.1.2, and RFC 3279, 2.3.2 and 2.3.3
 const PRIVATE_KEY: Parts = &[
     ("privateKeyAlgorithm", Part::Text("?")),
     ("privateKeyAlgorithm.algorithm", Part::KeyKind),
     ("privateKeyAlgorithm.parameters", Part::Curve),
+    ("privateKeyAlgorithm.parameters.p", Part::Size),
     ("privateKey.RSAPrivateKey.modulus", Part::Modulus),
 ];
 
@@ -226,13 +352,138 @@ const TRADITIONAL_KEY: Parts = &[
 ];
 
 // RFC 5280, 5.1
-const REVOKED: Parts = &[("", Part::Count), ("RevokedCertificate", Part::Counted)];
+const REVOKED: Parts = &[
+    ("", Part::Text("")),
+    ("userCertificate", Part::Serial),
+    ("revocationDate", Part::Moment("")),
+    (
+        "crlEntryExtensions.Extension.extnValue.CRLReason",
+        Part::NumberName,
+    ),
+];
+
+// RFC 2985, 5.4
+const ATTRIBUTE: Parts = &[
+    ("type", Part::Item),
+    ("values.AttributeValue", Part::Characters),
+    ("values.utf8String", Part::Characters),
+    ("values.printableString", Part::Characters),
+    ("values.bmpString", Part::Characters),
+    ("values.teletexString", Part::Characters),
+];
+
+// RFC 5280, 4.2.1.4
+const POLICY: Parts = &[
+    ("policyIdentifier", Part::Item),
+    (
+        "policyQualifiers.PolicyQualifierInfo.qualifier",
+        Part::Characters,
+    ),
+    (
+        "policyQualifiers.PolicyQualifierInfo.qualifier.noticeRef.organization",
+        Part::Characters,
+    ),
+    (
+        "policyQualifiers.PolicyQualifierInfo.qualifier.explicitText",
+        Part::Characters,
+    ),
+];
+
+// RFC 5280, 4.2.1.10
+const PERMITTED: Parts = &[
+    ("base", Part::FieldName("permitted")),
+    ("base.Name.RelativeDistinguishedName", Part::RelativeName),
+    (
+        "base.Name.RelativeDistinguishedName.AttributeTypeAndValue.type",
+        Part::AttributeType,
+    ),
+    (
+        "base.Name.RelativeDistinguishedName.AttributeTypeAndValue.value",
+        Part::AttributeValue,
+    ),
+];
+
+const EXCLUDED: Parts = &[
+    ("base", Part::FieldName("excluded")),
+    ("base.Name.RelativeDistinguishedName", Part::RelativeName),
+    (
+        "base.Name.RelativeDistinguishedName.AttributeTypeAndValue.type",
+        Part::AttributeType,
+    ),
+    (
+        "base.Name.RelativeDistinguishedName.AttributeTypeAndValue.value",
+        Part::AttributeValue,
+    ),
+];
+
+// RFC 5280, 4.2.1.13
+const POINT: Parts = &[
+    (
+        "distributionPoint.fullName.uniformResourceIdentifier",
+        Part::GeneralName("URI:"),
+    ),
+    (
+        "distributionPoint.fullName.directoryName",
+        Part::GeneralName("DirName:"),
+    ),
+    (
+        "distributionPoint.fullName.directoryName.Name.RelativeDistinguishedName",
+        Part::RelativeName,
+    ),
+    (
+        concat!(
+            "distributionPoint.fullName.directoryName.Name.",
+            "RelativeDistinguishedName.AttributeTypeAndValue.type"
+        ),
+        Part::AttributeType,
+    ),
+    (
+        concat!(
+            "distributionPoint.fullName.directoryName.Name.",
+            "RelativeDistinguishedName.AttributeTypeAndValue.value"
+        ),
+        Part::AttributeValue,
+    ),
+    ("reasons", Part::Flags),
+    ("cRLIssuer.directoryName", Part::GeneralName("by DirName:")),
+    (
+        "cRLIssuer.directoryName.Name.RelativeDistinguishedName",
+        Part::RelativeName,
+    ),
+    (
+        "cRLIssuer.directoryName.Name.RelativeDistinguishedName.AttributeTypeAndValue.type",
+        Part::AttributeType,
+    ),
+    (
+        "cRLIssuer.directoryName.Name.RelativeDistinguishedName.AttributeTypeAndValue.value",
+        Part::AttributeValue,
+    ),
+];
+
+// RFC 5280, 4.2.2
+const SERVICE: Parts = &[
+    ("accessMethod", Part::Item),
+    ("accessLocation", Part::FieldName("")),
+    (
+        "accessLocation.Name.RelativeDistinguishedName",
+        Part::RelativeName,
+    ),
+    (
+        "accessLocation.Name.RelativeDistinguishedName.AttributeTypeAndValue.type",
+        Part::AttributeType,
+    ),
+    (
+        "accessLocation.Name.RelativeDistinguishedName.AttributeTypeAndValue.value",
+        Part::AttributeValue,
+    ),
+];
 
 // RFC 5280, 4.2.1.6
 const GENERAL_NAMES: Parts = &[
     ("", Part::Text("")),
     ("otherName", Part::GeneralName("othername:")),
     ("otherName.type-id", Part::TypeId),
+    ("otherName.value.UTF8String", Part::OtherValue),
     ("rfc822Name", Part::GeneralName("email:")),
     ("dNSName", Part::GeneralName("DNS:")),
     ("x400Address", Part::GeneralOctets("other:")),

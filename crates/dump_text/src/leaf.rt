@@ -2,6 +2,7 @@
 use crate::forms::Part;
 use crate::open_line::AUTHORITY;
 use asn1_headers::tags::PRINTABLE_STRING;
+use asn1_numbers::number::big_int::BigInt;
 use dump_names::Names;
 use dump_values::Time;
 use dump_values::tag::universal_tag;
@@ -135,4 +136,64 @@ fn end_text(end: &Time, contents: &[u8], now: Option<DateTime>) -> Result<String
         }
     }
     Ok(text)
+}
+
+// What is shown of a piece as an item, where something is.
+pub fn item_of(
+    alloc: Global,
+    names: &Names,
+    part: Part,
+    piece: &Piece<'_>,
+) -> Result<Option<String>, AllocError> {
+    let text = match (part, piece.value()) {
+        (Part::Serial, Some(LeafValue::Integer(number))) => {
+            format!(in alloc; "serial {}", number_text(alloc, number.octets())?)?
+        }
+        // what is constructed is shown by what stands inside it, as an item
+        (Part::Octets(_), _) if matches!(piece.kind, PieceKind::Opened(_, _, _)) => {
+            String::new(alloc)
+        }
+        (Part::Octets(word), _) => {
+            format!(in alloc; "{word}{}", hex::encode_upper(alloc, piece.contents())?)?
+        }
+        (Part::Moment(word), Some(LeafValue::Moment(time) | LeafValue::BerTime(time))) => {
+            format!(in alloc; "{word}{}", time.text)?
+        }
+        (Part::Amount(before, behind), Some(LeafValue::Integer(number))) => {
+            format!(in alloc; "{before}{}{behind}", decimal_text(alloc, number)?)?
+        }
+        (Part::Size, Some(LeafValue::Integer(number))) => {
+            format!(in alloc; "{} bits", bit_count(number.octets()))?
+        }
+        (Part::NumberName, Some(LeafValue::Integer(number))) => {
+            match piece.names(&names.shapes).and_then(|named| named.value) {
+                Some(name) => String::from_str(alloc, name)?,
+                None => decimal_text(alloc, number)?,
+            }
+        }
+        (Part::Flags, _) => return piece.bits_text(alloc, &names.shapes),
+        (Part::Characters, _) => match characters_of(piece) {
+            Some(characters) => String::from_str(alloc, characters)?,
+            None => return Ok(None),
+        },
+        (Part::Alternative, _) => {
+            match piece
+                .names(&names.shapes)
+                .and_then(|named| named.alternative)
+            {
+                Some(name) => String::from_str(alloc, name)?,
+                None => return Ok(None),
+            }
+        }
+        _ => return Ok(None),
+    };
+    Ok(Some(text))
+}
+
+// A number in decimal; `?` of one that is too large to be meant.
+fn decimal_text(alloc: Global, number: &BigInt) -> Result<String, AllocError> {
+    match number.to_i128() {
+        Some(number) => format!(in alloc; "{number}"),
+        None => String::from_str(alloc, "?"),
+    }
 }

@@ -1,5 +1,5 @@
 // The lines of an account: its title, and a label and a value each.
-ghost use Rattle.std.specs.Prelude.{IfOk, OnOk, string_bytes};
+ghost use Rattle.std.specs.Prelude.{OnOk, string_bytes};
 ghost use Rattle.dump_text.specs.Shown.{AreLines};
 
 use der_io::push_shown;
@@ -16,19 +16,23 @@ pub struct Line {
     pub value: String,
 }
 
-// The text of a title and of lines: `\u{..}` stands in the place of each character that is not shown, and a line feed
-// behind each line.
-pub fn joined(alloc: Global, title: &str, lines: &[Line]) -> Result<String, AllocError>
-    ensures { IfOk result (λ text. AreLines (string_bytes text)) }
+// Pushes a title and lines: `\u{..}` stands in the place of each character that is not shown, and a line feed behind
+// each line.
+pub fn push_lines(
+    alloc: Global,
+    title: &str,
+    lines: &[Line],
+    text: &mut String,
+) -> Result<(), AllocError>
+    ensures { OnOk result (AreLines (string_bytes text.old) → AreLines (string_bytes text.new)) }
 {
-    let mut text = String::new(alloc);
-    push_line(title, &mut text)?;
+    push_line(title, text)?;
     for line in lines {
         let Line { label, value, .. } = line;
         let shown = format!(in alloc; "  {label:<LABEL_WIDTH$}{value}")?;
-        push_line(&shown, &mut text)?;
+        push_line(&shown, text)?;
     }
-    Ok(text)
+    Ok(())
 }
 
 fn push_line(line: &str, text: &mut String) -> Result<(), AllocError>

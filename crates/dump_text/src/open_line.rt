@@ -1,6 +1,6 @@
 // The line of a field, while the pieces inside the field are seen.
-use crate::forms::{Part, Row};
-use crate::leaf::{bit_count, identifier_of, text_of};
+use crate::forms::{Part, Row, general_part};
+use crate::leaf::{bit_count, characters_of, identifier_of, item_of, text_of};
 use crate::name::NameText;
 use asn1_numbers::number::big_int::BigInt;
 use dump_names::Names;
@@ -25,8 +25,6 @@ pub struct OpenLine {
     text: Option<String>,
     // the name that has not ended
     name: NameText,
-    // how many there are, where they are counted
-    count: Option<usize>,
 }
 
 impl OpenLine {
@@ -39,7 +37,6 @@ impl OpenLine {
             depth,
             text: None,
             name: NameText::new(alloc),
-            count: None,
         }
     }
 
@@ -53,27 +50,70 @@ impl OpenLine {
         encoding: &[u8],
     ) -> Result<(), AllocError> {
         match (part, piece.value()) {
-            (Part::Count, _) => self.count = Some(0),
-            (Part::Counted, _) => self.count = self.count.map(|n: usize| n.saturating_add(1)),
-            (Part::RelativeName, _) => self.name.begin_relative(),
-            (Part::AttributeType, _) => self.name.push_type(names, piece)?,
-            (Part::AttributeValue, _) => self.name.push_value(piece, encoding)?,
-            (Part::Item, _) => self.push_item(identifier_of(piece, names))?,
-            (Part::TypeId, _) => self.push(identifier_of(piece, names))?,
-            (Part::GeneralName(kind), _) => {
-                self.push_item(kind)?;
-                self.push_general_name(names, piece)?;
+            (Part::Modulus, Some(LeafValue::Integer(modulus))) => self.push_modulus(modulus),
+            (Part::PathLength, Some(LeafValue::Integer(most))) => self.push_path_length(most),
+            (Part::Item, _) => self.push_item(identifier_of(piece, names)),
+            (
+                Part::Serial
+                | Part::Octets(_)
+                | Part::Moment(_)
+                | Part::Amount(_, _)
+                | Part::Size
+                | Part::Flags
+                | Part::Characters
+                | Part::NumberName
+                | Part::Alternative,
+                _,
+            ) => self.see_item(names, part, piece),
+            (
+                Part::RelativeName
+                | Part::AttributeType
+                | Part::AttributeValue
+                | Part::GeneralName(_)
+                | Part::GeneralOctets(_)
+                | Part::TypeId
+                | Part::OtherValue
+                | Part::FieldName(_),
+                _,
+            ) => self.see_name(names, part, piece, encoding),
+            _ => {
+                self.text = text_of(self.alloc, names, now, part, piece)?.or(self.text.take());
+                Ok(())
             }
-            (Part::GeneralOctets(kind), _) => {
-                self.push_item(kind)?;
-                let octets = encoding.get(piece.sizes().header..).unwrap_or(&[]);
-                self.push(&hex::encode(self.alloc, octets)?)?;
-            }
-            (Part::Modulus, Some(LeafValue::Integer(modulus))) => self.push_modulus(modulus)?,
-            (Part::PathLength, Some(LeafValue::Integer(most))) => self.push_path_length(most)?,
-            _ => self.text = text_of(self.alloc, names, now, part, piece)?.or(self.text.take()),
         }
-        Ok(())
+    }
+
+    // Sees a piece that is shown as an item.
+    fn see_item(&mut self, names: &Names, part: Part, piece: &Piece<'_>) -> Result<(), AllocError> {
+        match item_of(self.alloc, names, part, piece)? {
+            Some(item) => self.push_item(&item),
+            None => Ok(()),
+        }
+    }
+
+    // Sees a piece of a name.
+    fn see_name(
+        &mut self,
+        names: &Names,
+        part: Part,
+        piece: &Piece<'_>,
+        encoding: &[u8],
+    ) -> Result<(), AllocError> {
+        match part {
+            Part::RelativeName => {
+                self.name.begin_relative();
+                Ok(())
+            }
+            Part::AttributeType => self.name.push_type(names, piece),
+            Part::AttributeValue => self.name.push_value(piece, encoding),
+            Part::TypeId => self.push(identifier_of(piece, names)),
+            Part::OtherValue => self.push_other_value(piece),
+            Part::FieldName(word) => self.push_field_name(names, word, piece, encoding),
+            _ => {
+                self.push_item("")?;
+                self.push_general(names, part, piece, encoding)
+            }
+        }
     }
 
     fn push(&mut self, text: &str) -> Result<(), AllocError> {
@@ -120,6 +160,55 @@ impl OpenLine {
         }
     }
 
+    // Pushes a GeneralName that is a field with another name, behind a word and a space.
+    fn push_field_name(
+        &mut self,
+        names: &Names,
+        word: &str,
+        piece: &Piece<'_>,
+        encoding: &[u8],
+    ) -> Result<(), AllocError> {
+        let named = piece.names(&names.shapes);
+        let alternative = named.and_then(|named| named.alternative);
+        let Some(part) = alternative.and_then(general_part) else {
+            return Ok(());
+        };
+        self.push(word)?;
+        self.push(" ")?;
+        self.push_general(names, part, piece, encoding)
+    }
+
+    // Pushes a GeneralName behind the word for its kind.
+    fn push_general(
+        &mut self,
+        names: &Names,
+        part: Part,
+        piece: &Piece<'_>,
+        encoding: &[u8],
+    ) -> Result<(), AllocError> {
+        match part {
+            Part::GeneralName(kind) => {
+                self.push(kind)?;
+                self.push_general_name(names, piece)
+            }
+            Part::GeneralOctets(kind) => {
+                self.push(kind)?;
+                let octets = encoding.get(piece.sizes().header..).unwrap_or(&[]);
+                self.push(&hex::encode(self.alloc, octets)?)
+            }
+            _ => Ok(()),
+        }
+    }
+
+    // Pushes the value of an otherName behind its type, if it is characters.
+    fn push_other_value(&mut self, piece: &Piece<'_>) -> Result<(), AllocError> {
+        let Some(characters) = characters_of(piece) else {
+            return Ok(());
+        };
+        self.push(":")?;
+        self.push(characters)
+    }
+
     // The value of a GeneralName (RFC 5280, section 4.2.1.6). Of one that holds others its parts follow.
     fn push_general_name(&mut self, names: &Names, piece: &Piece<'_>) -> Result<(), AllocError> {
         match piece.value() {
@@ -133,9 +222,6 @@ impl OpenLine {
     // What is shown of the field, if something is.
     pub fn into_text(mut self) -> Result<Option<String>, AllocError> {
         self.push_name()?;
-        match self.count {
-            Some(count) => Ok(Some(format!(in self.alloc; "{count}")?)),
-            None => Ok(self.text),
-        }
+        Ok(self.text)
     }
 }

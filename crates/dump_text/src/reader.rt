@@ -1,12 +1,13 @@
 // Going over the pieces of a document for its account.
-ghost use Rattle.std.specs.Prelude.{◌<◌, IfOk, IfSome, string_bytes};
+ghost use Rattle.std.specs.Prelude.{◌<◌, IfSome, OnOk, string_bytes};
 ghost use Rattle.dump_text.specs.Shown.{AreLines};
 
-use crate::Account;
-use crate::forms::{Form, OPTIONAL, Part, Row, begins_with, is_path};
-use crate::lines::{Line, joined};
+use crate::forms::{Form, Part, Parts, Row, begins_with, is_path};
+use crate::lines::{Line, push_lines};
 use crate::open_line::OpenLine;
+use crate::timestamps::timestamps_in;
 use dump_names::Names;
+use dump_shapes::Named;
 use dump_values::faults::Fault;
 use dump_walk::piece::{Piece, PieceKind};
 use dump_walk::place::Place;
@@ -21,6 +22,34 @@ const FINGERPRINT: usize = usize::MAX - 1;
 
 const NOT_DER: usize = usize::MAX;
 
+// Where a document stands that is inside another: its shape, and which octets of the other one it has.
+#[derive(Clone, Copy, Drop)]
+pub struct Inside {
+    pub shape: usize,
+    pub start: usize,
+    pub end: usize,
+}
+
+// What was seen of a document, beside its lines.
+#[derive(Drop)]
+pub struct Seen {
+    // where documents stand inside it
+    pub inside: Vec<Inside>,
+    // why the octets are no whole encodings
+    pub fault: Option<Fault>,
+}
+
+// How many lines one behind another have one label at most: a list may have many more revoked certificates.
+const MOST_ALIKE: usize = 50_000;
+
+// Lines with this label that are left out, which would stand at the place.
+#[derive(Clone, Copy, Drop)]
+struct LeftOut {
+    place: usize,
+    label: &'static str,
+    count: usize,
+}
+
 // What an account has so far. It is of the first outermost encoding.
 #[derive(Drop)]
 pub struct Reader<'a> {
@@ -33,6 +62,11 @@ pub struct Reader<'a> {
     // the line of a field that has not ended
     open: Option<OpenLine>,
     lines: Vec<Line>,
+    // how many lines with the label of the last one stand one behind another, with those that are left out
+    alike: usize,
+    left_out: Vec<LeftOut>,
+    // where certificates and lists of revoked ones stand in the document
+    inside: Vec<Inside>,
     // how many octets the encoding has, once it has ended
     size: Option<usize>,
     // why the octets are no whole encodings, and whether the encoding itself is none
@@ -84,6 +118,9 @@ impl<'a> Reader<'a> {
             path: Vec::new(alloc),
             open: None,
             lines: Vec::new(alloc),
+            alike: 0,
+            left_out: Vec::new(alloc),
+            inside: Vec::new(alloc),
             size: None,
             fault: None,
             is_cut: false,
@@ -109,7 +146,30 @@ impl<'a> Reader<'a> {
             self.open = None;
             return Ok(());
         }
-        self.show(piece, encoding_of(octets, piece))
+        let encoding = encoding_of(octets, piece);
+        self.keep_inside(piece, named, encoding)?;
+        self.show(piece, encoding)
+    }
+
+    // Keeps in mind where a document of its own stands inside the document: an encoding with these names.
+    fn keep_inside(
+        &mut self,
+        piece: &Piece<'_>,
+        named: Option<Named>,
+        encoding: &[u8],
+    ) -> Result<(), AllocError> {
+        let Some(type_name) = named.and_then(type_inside) else {
+            return Ok(());
+        };
+        let start = piece.document_offset()?;
+        let end = checked_sum(start, encoding.len())?;
+        match self.names.shapes.named(type_name) {
+            Some(shape) if start > 0 && start < end => {
+                self.inside.push(Inside { shape, start, end })?;
+                Ok(())
+            }
+            _ => Ok(()),
+        }
     }
 
     // Ends the line of a field that is not around what comes next, at the depth.
@@ -124,11 +184,51 @@ impl<'a> Reader<'a> {
     }
 
     fn push(&mut self, place: usize, label: &'static str, value: String) -> Result<(), AllocError> {
+        let is_alike = self
+            .lines
+            .last()
+            .is_some_and(|line: &Line| line.label == label);
+        self.alike = if is_alike {
+            self.alike.saturating_add(1)
+        } else {
+            1
+        };
+        if self.alike > MOST_ALIKE {
+            return self.leave_out(place, label);
+        }
         self.lines.push(Line {
             place,
             label,
             value,
         })?;
+        Ok(())
+    }
+
+    // Counts a line that is left out.
+    fn leave_out(&mut self, place: usize, label: &'static str) -> Result<(), AllocError> {
+        let mut all = self.left_out.iter_mut();
+        if let Some(left) = all.find(|left: &&mut LeftOut| left.label == label) {
+            left.count = left.count.saturating_add(1);
+            return Ok(());
+        }
+        self.left_out.push(LeftOut {
+            place,
+            label,
+            count: 1,
+        })?;
+        Ok(())
+    }
+
+    // Adds how many lines are left out.
+    fn add_left_out(&mut self) -> Result<(), AllocError> {
+        for left in &self.left_out {
+            let value = format!(in self.alloc; "and {} more", left.count)?;
+            self.lines.push(Line {
+                place: left.place,
+                label: left.label,
+                value,
+            })?;
+        }
         Ok(())
     }
 
@@ -145,31 +245,57 @@ impl<'a> Reader<'a> {
         Ok(())
     }
 
-    // Shows the piece, which is this encoding, on the line that has it.
+    // Shows the piece, which is this encoding, on the line that has it. A line that is open ends where an extension has
+    // one inside it.
     fn show(&mut self, piece: &Piece<'_>, encoding: &[u8]) -> Result<(), AllocError> {
         let depth = piece.place.depth;
-        if self.open.is_none()
-            && let Some((place, row)) = self.form.row_at(inside_of(&self.path, 0))
-        {
+        if let Some((place, row)) = self.row_here() {
             self.open = Some(OpenLine::new(self.alloc, row, place, depth));
         }
         let Some(open) = &mut self.open else {
             return Ok(());
         };
         match part_at(open.row, inside_of(&self.path, open.depth)) {
+            Some(Part::Timestamps) => self.push_timestamps(piece.contents()),
             Some(part) => open.see(self.names, self.now, part, piece, encoding),
             None => Ok(()),
         }
     }
 
+    // The row of the piece that was seen last, and its place.
+    fn row_here(&self) -> Option<(usize, Row)> {
+        let path = inside_of(&self.path, 0);
+        let found = self.form.row_at(path);
+        let is_extension = self.form.extension_in(path).is_some();
+        found.filter(|_| is_extension || self.open.is_none())
+    }
+
+    // Pushes a line for each timestamp of a list.
+    fn push_timestamps(&mut self, list: &[u8]) -> Result<(), AllocError> {
+        let Some((place, (_, label, _))) = self.open.as_ref().map(|open| (open.place, open.row))
+        else {
+            return Ok(());
+        };
+        for timestamp in timestamps_in(self.alloc, list)? {
+            if let Some(text) = timestamp.text(self.alloc)? {
+                self.push(place, label, text)?;
+            }
+        }
+        Ok(())
+    }
+
     // Whether something may be shown of what is inside the piece that was seen last.
     fn shows_inside(&self) -> bool {
+        let path = inside_of(&self.path, 0);
+        if self.form.has_extensions_at(path) {
+            return true;
+        }
         match &self.open {
             Some(open) => {
                 let inside = inside_of(&self.path, open.depth);
                 open.row.2.iter().any(|(path, _)| begins_with(path, inside))
             }
-            None => self.form.has_extensions_at(inside_of(&self.path, 0)),
+            None => self.form.has_rows_inside(path),
         }
     }
 
@@ -181,11 +307,12 @@ impl<'a> Reader<'a> {
         }
     }
 
-    // The account of the octets, all of whose pieces were seen. `None` where a field is missing that it needs.
-    pub fn finish(mut self, octets: &[u8]) -> Result<Option<Account>, AllocError>
-        ensures { IfOk result (λ found. IfSome found (λ account. AreLines (string_bytes account.text))) }
+    // Pushes the lines of the octets, all of whose pieces were seen, and returns what else was seen of them. `None`
+    // where a field is missing that an account needs: it has no lines.
+    pub fn finish(mut self, octets: &[u8], text: &mut String) -> Result<Option<Seen>, AllocError>
+        ensures { OnOk result (AreLines (string_bytes text.old) → AreLines (string_bytes text.new)) }
     {
-        if !self.is_cut && !self.add_absent()? {
+        if !self.is_cut && !self.add_counts()? {
             return Ok(None);
         }
         if self.form.signed.is_some() && !self.is_cut {
@@ -195,26 +322,58 @@ impl<'a> Reader<'a> {
             let digest = hex::encode_upper(self.alloc, &Sha256::digest(encoding))?;
             self.push(FINGERPRINT, "SHA-256", digest)?;
         }
+        self.add_left_out()?;
         self.lines.sort_by_key(|line: &Line| line.place)?;
-        Ok(Some(Account {
-            text: joined(self.alloc, self.form.title, &self.lines)?,
+        push_lines(self.alloc, self.form.title, &self.lines, text)?;
+        Ok(Some(Seen {
+            inside: self.inside,
             fault: self.fault,
         }))
     }
 
-    // Adds the lines of counts of what is absent, and returns whether nothing else is that the account needs.
-    fn add_absent(&mut self) -> Result<bool, AllocError> {
+    // Adds the lines that count others, and returns whether all others are there that the account needs.
+    fn add_counts(&mut self) -> Result<bool, AllocError> {
         for (place, (_, label, parts)) in self.form.rows.iter().enumerate() {
-            let is_there = self.lines.iter().any(|line: &Line| line.label == *label);
-            match parts {
-                _ if is_there || OPTIONAL.contains(label) => {}
-                [(_, Part::Count), ..] => {
-                    self.push(place, label, String::from_str(self.alloc, "0")?)?;
-                }
-                _ => return Ok(false),
+            if let Some(counted) = counted_in(parts) {
+                let count = self.count_of(counted);
+                self.push(place, label, format!(in self.alloc; "{count}")?)?;
+            } else if self.count_of(label) == 0 && !self.form.optional.contains(label) {
+                return Ok(false);
             }
         }
         Ok(true)
+    }
+
+    // How many lines have the label, with those that are left out.
+    fn count_of(&self, label: &str) -> usize {
+        let shown = self.lines.iter().filter(|line: &&Line| line.label == label);
+        let left_out = self
+            .left_out
+            .iter()
+            .filter(|left: &&LeftOut| left.label == label);
+        left_out.fold(
+            shown.count(),
+            |count: usize, left: &LeftOut| count.saturating_add(left.count),
+        )
+    }
+}
+
+// The name of the type of a piece with these names, if accounts of it are shown inside others: those of a certificate
+// and of a list, also as one of a set of CMS (RFC 5652, 10.2.1 and 10.2.2).
+fn type_inside(named: Named) -> Option<&'static str> {
+    match (named.of, named.field) {
+        ("Certificate", _) | ("CertificateChoices", Some("certificate")) => Some("Certificate"),
+        ("CertificateList", _) | ("RevocationInfoChoice", Some("crl")) => Some("CertificateList"),
+        _ => None,
+    }
+}
+
+// The label of the lines that are counted, if a line does that.
+fn counted_in(parts: Parts) -> Option<&'static str> {
+    let (_, part) = *parts.first()?;
+    match part {
+        Part::Count(label) => Some(label),
+        _ => None,
     }
 }
 
