@@ -221,6 +221,7 @@ def all_rows(rows, inside=False):
 
 MOST_LEVELS = 40
 BLOCK_LINE = re.compile(r"([ >]) *(\d+) +(\d+) +(\d+|inf)  ( *)(.*)")
+BEHIND = re.compile(r"! (\d+) bytes? behind the document, all 00")
 CLASSES = {"universal": "UNIVERSAL ", "application": "APPLICATION ", "context-specific": "", "private": "PRIVATE "}
 
 
@@ -281,8 +282,12 @@ def check_shown(dump, documents, lines):
     """A row for each line of a dump, in the same order, with what it shows."""
     rows = nested = 0
     for octets, read, shown in zip(documents, lines, dump.shown(documents), strict=True):
+        # zeros behind a document are blocks in JSON alone
+        behind = sum(int(it[1]) for it in map(BEHIND.fullmatch, shown) if it)
+        if not octets.endswith(bytes(behind)):
+            fail(f"{octets.hex()[:80]} does not end with {behind} zeros")
         shown = [it for it in shown if it[:1] != "!"]
-        each = list(all_rows(read[0].get("blocks", [])))
+        each = [it for it in all_rows(read[0].get("blocks", [])) if it[0]["offset"] < len(octets) - behind]
         rows, nested = rows + len(each), nested + sum(inside for _, inside in each)
         if len(each) != len(shown):
             fail(f"{octets.hex()[:80]} has {len(each)} blocks in JSON, {len(shown)} lines")
