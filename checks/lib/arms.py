@@ -8,7 +8,8 @@ what it took; a text becomes another one. Then each row of der_dump is run, whic
 each body is run with the rows that reach it, until one of them fails. Bodies that no row sees, and may not, are lines
 of data/arms/unseen, with the reason; others that are not seen, and lines that no longer hold, are printed and fail.
 
-It takes about six minutes of processor time. `cc` has to be there: a library, loaded before others, has the switch.
+It takes about forty minutes of processor time, since a row takes half a second in an unproved program. `cc` has to be
+there: a library, loaded before others, has the switch.
 """
 import collections
 import concurrent.futures
