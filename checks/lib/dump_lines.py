@@ -287,7 +287,8 @@ def check_shown(dump, documents, lines):
         if not octets.endswith(bytes(behind)):
             fail(f"{octets.hex()[:80]} does not end with {behind} zeros")
         shown = [it for it in shown if it[:1] != "!"]
-        each = [it for it in all_rows(read[0].get("blocks", [])) if it[0]["offset"] < len(octets) - behind]
+        each = [it for it in all_rows(read[0].get("blocks", []))
+                if not behind or it[0]["offset"] < len(octets) - behind]
         rows, nested = rows + len(each), nested + sum(inside for _, inside in each)
         if len(each) != len(shown):
             fail(f"{octets.hex()[:80]} has {len(each)} blocks in JSON, {len(shown)} lines")
