@@ -6,9 +6,10 @@ What a contract leaves open, a wrong body passes the prover, so that rows have t
 wrong bodies at once, each behind a switch, and is built once, unproved. An arm is left out, where a later arm `_` takes
 what it took; a text becomes another one. Then each row of der_dump is run, which shows the bodies that it reaches, and
 each body is run with the rows that reach it, until one of them fails. Bodies that no row sees, and may not, are lines
-of data/arms/unseen, with the reason; others that are not seen, and lines that no longer hold, are printed and fail.
+of data/arms/unseen, with the reason; others that are not seen, and lines that no longer hold, are printed and fail. Of
+a body with such a line only the quickest rows are run.
 
-It takes about forty minutes of processor time, since a row takes half a second in an unproved program. `cc` has to be
+It takes about half an hour of processor time, since a row takes half a second in an unproved program. `cc` has to be
 there: a library, loaded before others, has the switch.
 """
 import collections
@@ -123,6 +124,7 @@ def reached(rows, program, library, room):
 def judge(rows, room, bodies, program, library):
     """Says which bodies no row sees; 1 where there are others than those that may be unseen."""
     found = reached(rows, program, library, room)
+    known = allowed(DATA / "unseen")
 
     seen = set()
 
@@ -137,10 +139,10 @@ def judge(rows, room, bodies, program, library):
 
     with concurrent.futures.ThreadPoolExecutor(os.cpu_count()) as pool:
         list(pool.map(look_first, bodies))
-        # of a body that none sees all rows are run, these side by side
-        left = [(body, row) for body in bodies if body not in seen for row in found[body.number][FIRST:]]
+        # of a body that none of these sees all rows are run, these side by side, unless it may be unseen
+        left = [(body, row) for body in bodies if body not in seen and name_of(body) not in known
+                for row in found[body.number][FIRST:]]
         list(pool.map(lambda it: look(*it), left))
-    known = allowed(DATA / "unseen")
     unseen = [body for body in bodies if body not in seen]
     unexpected = [body for body in unseen if name_of(body) not in known]
     for body in unexpected:
