@@ -1,12 +1,14 @@
--- The size of an encoding, by its header, for `encoding::encoding_size` and `encoding::encoding_at`, and
+-- The size of an encoding, by its header, for `encoding::any_encoding_size`, `encoding::encoding_size` and
 -- for the crates above.
-use Rattle.std.proofs.Common.{◌≡◌, ℕ, ◌+◌, ◌<◌, ◌≤◌, List, [], ◌++◌, length, take, drop, refl, sym, ap, ◌∙◌, subst, arith, length-append, length-drop, min}
-use Rattle.std.proofs.lemmas.List.{take-append-drop, take_at, length-take-le, drop_at}
+use Rattle.std.proofs.Common.{◌≡◌, ℕ, ◌+◌, ◌%◌, ◌<◌, ◌≤◌, List, [], ◌∷◌, ◌++◌, inl, length, take, drop, refl, sym, ap, ◌∙◌, subst, arith, length-append, length-drop}
+use Rattle.std.specs.Prelude.{slice_index_or}
+use Rattle.std.proofs.lemmas.List.{take-append-drop, take_at, length-take-le}
 use Rattle.std.proofs.Math.Seq.{take-add}
 use Rattle.std.proofs.Math.ListN.{drop_of_length-le}
 use Rattle.asn1_headers.specs.Header.{BeginsWithNo, IsIdentifier, IsLength, IsSomeIdentifier}
 use Rattle.asn1_blocks.specs.Places.{EncodingAt, IsEncoding, TreeAt}
 use Rattle.asn1_blocks.proofs.Slices.{EncodingAt-tree_octets}
+use Rattle.asn1_headers.proofs.Fronts.{leading_octet-parts}
 use Rattle.asn1_headers.proofs.Prefixes.{IsIdentifier-unique, IsLength-unique, Encoding-not_empty, IsIdentifier-not_empty}
 use Rattle.asn1_blocks.proofs.Faults.{IsLength-first, append-encoding_parts}
 
@@ -130,15 +132,25 @@ EncodingAt-tree document offset octets t =
     subst (λ z. EncodingAt document z octets) t.offset_is
     (EncodingAt-tree_octets document t.all t.tree octets t.read t.own_octets)
 
--- octets are the encoding at their front and what stands behind it
-pub EncodingAt-append :
-    (octets part after : List ℕ) → EncodingAt octets 0 part → after ≡ drop (min (length part) (length octets)) octets →
-    octets ≡ part ++ after
-EncodingAt-append octets part after at is =
-    let l : length part ≤ length octets = omega (arith, ap length at.at_offset, length-append part at.rest) in
-    let least : min (length part) (length octets) ≡ length part = omega (arith, l) in
-    let e : after ≡ at.rest =
-    is ∙ (ap (λ m. drop m octets) least
-    ∙ (ap (drop (length part)) at.at_offset ∙ drop_at part at.rest (length part) refl))
-    in
-    at.at_offset ∙ ap (λ z. part ++ z) (sym e)
+-- a leading octet of a low tag number, a length octet of the short form and as many octets as it says are an encoding
+pub IsEncoding-short : (octets : List ℕ) → 2 ≤ length octets → slice_index_or octets 0 0 < 256 →
+    slice_index_or octets 0 0 % 32 < 31 → slice_index_or octets 1 0 < 128 →
+    2 + slice_index_or octets 1 0 ≤ length octets →
+    IsEncoding (take (2 + slice_index_or octets 1 0) octets)
+IsEncoding-short [] two octet low short fits = absurd (omega (arith, two))
+IsEncoding-short (b ∷ []) two octet low short fits = absurd (omega (arith, two))
+IsEncoding-short (b ∷ l ∷ rest) two octet low short fits =
+    let (c, k, e) = leading_octet-parts b octet in
+    IsEncoding-front (b ∷ l ∷ rest) 1 1 l (b % 32) (c, k, (low, e)) (omega arith) (inl (short, refl, refl))
+    (omega arith) (omega (arith, fits))
+
+-- no encoding begins with a leading octet of a low tag number and a length octet of more octets than are left
+pub IsEncoding-not_short_cut_off : (octets : List ℕ) → 2 ≤ length octets → slice_index_or octets 0 0 < 256 →
+    slice_index_or octets 0 0 % 32 < 31 → slice_index_or octets 1 0 < 128 →
+    length octets < 2 + slice_index_or octets 1 0 → (x rest : List ℕ) → octets ≡ x ++ rest → IsEncoding x → ⊥
+IsEncoding-not_short_cut_off [] two octet low short few = absurd (omega (arith, two))
+IsEncoding-not_short_cut_off (b ∷ []) two octet low short few = absurd (omega (arith, two))
+IsEncoding-not_short_cut_off (b ∷ l ∷ octets) two octet low short few =
+    let (c, k, e) = leading_octet-parts b octet in
+    IsEncoding-not_cut_off (b ∷ l ∷ octets) 1 1 l (b % 32) (c, k, (low, e)) (omega arith) (inl (short, refl, refl))
+    (omega arith) (omega (arith, few))

@@ -12,7 +12,7 @@ use Rattle.asn1_blocks.specs.Places.{IsEncoding}
 use Rattle.asn1_headers.specs.HeaderFault.{HeaderFault, no_identifier, no_length, too_far, too_long}
 use Rattle.asn1_blocks.specs.Grammar.{IsBlock, of_not_universal, of_unknown_tag, of_leaf, of_group, AreBlocks, no_blocks, more_blocks, EncodesAll, BlocksFaultAt, in_header, in_contents, in_item}
 use Rattle.asn1_blocks.specs.Inner.BlockFault.{BlockFaultAt, at_header, at_leaf, at_item}
-use Rattle.asn1_blocks.proofs.Leaves.{leaf_tag-not_group_tag, LeafContents-no_fault, LeafFault-is_leaf_tag, is_known_tag-is_leaf_tag, is_leaf_tag-not_group_tag, is_known_tag-unknown}
+use Rattle.asn1_blocks.proofs.Leaves.{leaf_tag-not_group_tag, LeafFault-is_leaf_tag, is_known_tag-is_leaf_tag, is_leaf_tag-not_group_tag, is_known_tag-unknown}
 use Rattle.asn1_headers.proofs.Prefixes.{BeginsWithNo-append, Encoding-unique, IsIdentifier-unique, IsLength-unique}
 use Rattle.asn1_blocks.proofs.FaultyBlocks.{Encoding-append_not_empty}
 use Rattle.asn1_blocks.proofs.OneReading.{IsBlock-not_empty, IsBlock-encodes}
@@ -169,7 +169,7 @@ LeafFault-not_contents : (n : ℕ) (contents : List ℕ) (e : DecodeFault) → L
     ⊥
 LeafFault-not_contents n contents e p (is_unknown u) =
     false≢true (sym (is_known_tag-unknown n u) ∙ is_known_tag-is_leaf_tag n (LeafFault-is_leaf_tag n contents e p))
-LeafFault-not_contents n contents e p (is_leaf l t q) = LeafContents-no_fault n contents e l t q p
+LeafFault-not_contents n contents e p (is_leaf l t q) = p.none l t q
 LeafFault-not_contents n contents e p (is_group g t bs) =
     is_leaf_tag-not_group_tag n g (LeafFault-is_leaf_tag n contents e p) t
 

@@ -11,7 +11,7 @@ use Rattle.asn1_numbers.specs.Octets.{AreOctets}
 use Rattle.asn1_numbers.specs.TwosComplement.{signed_number}
 use Rattle.asn1_leaves.specs.StringKind.{StringKind, utf8, printable, teletex, ia5, universal, bmp}
 use Rattle.asn1_blocks.specs.Tree.{Leaf, boolean, integer, bit_string, octet_string, null, object_identifier, text, utc_time, generalized_time}
-use Rattle.asn1_blocks.specs.Contents.{string_tag, leaf_tag, group_tag, is_string_tag, is_leaf_tag, is_group_tag, is_known_tag, IsUnknownTag, IsFaithfulLeaf, LeafContents, LeafFault, of_boolean, of_bit_string, of_object_identifier, of_utc_time, of_generalized_time, of_text, leaf_contents, leaf_write_fault, normalized_leaf}
+use Rattle.asn1_blocks.specs.Contents.{string_tag, leaf_tag, group_tag, is_string_tag, is_leaf_tag, is_group_tag, is_known_tag, IsUnknownTag, IsFaithfulLeaf, LeafContents, LeafFault, leaf_contents, leaf_fault, leaf_write_fault, normalized_leaf}
 use Rattle.asn1_leaves.specs.Contents.Boolean.{BooleanFault}
 use Rattle.asn1_leaves.specs.Contents.BitString.{BitStringFault}
 use Rattle.asn1_leaves.specs.Contents.GeneralizedTime.{GeneralizedTimeFault}
@@ -20,13 +20,13 @@ use Rattle.asn1_leaves.specs.Contents.ObjectIdentifier.{ObjectIdentifierFault}
 use Rattle.asn1_leaves.specs.Contents.UtcTime.{UtcTimeFault}
 use Rattle.asn1_leaves.specs.Contents.Text.{text_form, TextContents, TextFault}
 use Rattle.asn1_numbers.proofs.SignedNumbers.{signed_number-shortest_octets}
-use Rattle.asn1_leaves.proofs.Leaves.Boolean.{BooleanContents-unique, BooleanFault-unique, BooleanContents-no_fault, BooleanContents-or_fault, BooleanFault-of_reading, BooleanContents-written}
+use Rattle.asn1_leaves.proofs.Leaves.Boolean.{BooleanContents-unique, BooleanContents-or_fault, BooleanFault-of_reading, BooleanContents-written}
 use Rattle.asn1_leaves.proofs.Leaves.Integer.{IntegerContents-unique}
-use Rattle.asn1_leaves.proofs.Leaves.BitString.{BitStringContents-unique, BitStringFault-unique, BitStringContents-no_fault, BitStringContents-or_fault, BitStringFault-of_reading, bit_string_write_fault-read, BitStringContents-written, bit_string_write_fault-faithful, IsFaithfulBitString-written, IsFaithfulBitString-read, bit_string_contents-written_bits}
-use Rattle.asn1_leaves.proofs.Leaves.GeneralizedTime.{GeneralizedTimeContents-unique, GeneralizedTimeFault-unique, GeneralizedTimeContents-no_fault, GeneralizedTimeContents-or_fault, GeneralizedTimeFault-of_reading, moment_write_fault-generalized_time_read, GeneralizedTimeContents-written, moment_write_fault-faithful_generalized_time, IsFaithfulGeneralizedTime-written, IsFaithfulGeneralizedTime-read}
-use Rattle.asn1_leaves.proofs.Leaves.ObjectIdentifier.{ObjectIdentifierContents-unique, ObjectIdentifierFault-unique, ObjectIdentifierContents-no_fault, ObjectIdentifierContents-or_fault, ObjectIdentifierFault-of_reading, object_identifier_write_fault-read, ObjectIdentifierContents-written, object_identifier_write_fault-faithful, IsFaithfulObjectIdentifier-written, IsFaithfulObjectIdentifier-read}
-use Rattle.asn1_leaves.proofs.Leaves.UtcTime.{UtcTimeContents-unique, UtcTimeFault-unique, UtcTimeContents-no_fault, UtcTimeContents-or_fault, UtcTimeFault-of_reading, moment_write_fault-utc_time_read, UtcTimeContents-written, moment_write_fault-faithful_utc_time, IsFaithfulUtcTime-written, IsFaithfulUtcTime-read}
-use Rattle.asn1_leaves.proofs.Leaves.Text.{TextContents-unique, TextFault-unique, TextContents-no_fault, TextContents-or_fault, TextFault-of_reading, text_write_fault-read, TextContents-written, text_write_fault-characters, HasCharacters-written, HasCharacters-read}
+use Rattle.asn1_leaves.proofs.Leaves.BitString.{BitStringContents-unique, BitStringContents-or_fault, BitStringFault-of_reading, bit_string_write_fault-read, BitStringContents-written, bit_string_write_fault-faithful, IsFaithfulBitString-written, IsFaithfulBitString-read, bit_string_contents-written_bits}
+use Rattle.asn1_leaves.proofs.Leaves.GeneralizedTime.{GeneralizedTimeContents-unique, GeneralizedTimeContents-or_fault, GeneralizedTimeFault-of_reading, moment_write_fault-generalized_time_read, GeneralizedTimeContents-written, moment_write_fault-faithful_generalized_time, IsFaithfulGeneralizedTime-written, IsFaithfulGeneralizedTime-read}
+use Rattle.asn1_leaves.proofs.Leaves.ObjectIdentifier.{ObjectIdentifierContents-unique, ObjectIdentifierContents-or_fault, ObjectIdentifierFault-of_reading, object_identifier_write_fault-read, ObjectIdentifierContents-written, object_identifier_write_fault-faithful, IsFaithfulObjectIdentifier-written, IsFaithfulObjectIdentifier-read}
+use Rattle.asn1_leaves.proofs.Leaves.UtcTime.{UtcTimeContents-unique, UtcTimeContents-or_fault, UtcTimeFault-of_reading, moment_write_fault-utc_time_read, UtcTimeContents-written, moment_write_fault-faithful_utc_time, IsFaithfulUtcTime-written, IsFaithfulUtcTime-read}
+use Rattle.asn1_leaves.proofs.Leaves.Text.{TextContents-unique, TextContents-no_fault, TextContents-or_fault, TextFault-of_reading, text_write_fault-read, TextContents-written, text_write_fault-characters, HasCharacters-written, HasCharacters-read}
 
 -- the tag of each kind of string is the tag of a string
 is_string_tag-string_tag : (kind : StringKind) → is_string_tag (string_tag kind) ≡ true
@@ -196,7 +196,7 @@ LeafContents-unique (text j cs) (text k ds) contents e p q =
 LeafContents-unique l m contents e p q = absurd (AreAlike-same_tag l m e)
 
 -- the fault of contents octets of the tag of a leaf
-abbrev FaultOf : Leaf → List ℕ → DecodeFault → Type 0
+abbrev pub FaultOf : Leaf → List ℕ → DecodeFault → Type 0
 FaultOf (boolean b) contents e = BooleanFault contents e
 FaultOf (integer n) contents e = ⊥
 FaultOf (bit_string n v) contents e = BitStringFault contents e
@@ -207,83 +207,128 @@ FaultOf (utc_time m) contents e = UtcTimeFault contents e
 FaultOf (generalized_time m) contents e = GeneralizedTimeFault contents e
 FaultOf (text kind cs) contents e = TextFault (text_form kind) contents e
 
--- a moment for leaves of which the tag alone matters
-some_moment : Moment
-some_moment = record { year = pos 0; month = 1; day = 1; hour = 0; minute = 0; second = 0; nanosecond = 0 }
-
--- a leaf of the tag, and the fault of contents octets of its kind
-record IsFaultByLeaf (n : ℕ) (contents : List ℕ) (e : DecodeFault) : Type 0 where
-  pub leaf : Leaf
-  pub tag : n ≡ leaf_tag leaf
-  pub fault : FaultOf leaf contents e
-
--- a fault of contents octets is one of the kind of a leaf
-LeafFault-by_leaf : (n : ℕ) (contents : List ℕ) (e : DecodeFault) → LeafFault n contents e → IsFaultByLeaf n contents e
-LeafFault-by_leaf n contents e (of_boolean t f) = record { leaf = boolean true; tag = t; fault = f }
-LeafFault-by_leaf n contents e (of_bit_string t f) = record { leaf = bit_string 0 []; tag = t; fault = f }
-LeafFault-by_leaf n contents e (of_object_identifier t f) = record { leaf = object_identifier []; tag = t; fault = f }
-LeafFault-by_leaf n contents e (of_utc_time t f) = record { leaf = utc_time some_moment; tag = t; fault = f }
-LeafFault-by_leaf n contents e (of_generalized_time t f) =
-    record { leaf = generalized_time some_moment; tag = t; fault = f }
-LeafFault-by_leaf n contents e (of_text kind t f) = record { leaf = text kind []; tag = t; fault = f }
-
--- contents octets with the fault of a leaf have the tag of a leaf
-pub LeafFault-is_leaf_tag : (n : ℕ) (contents : List ℕ) (e : DecodeFault) → LeafFault n contents e →
-    is_leaf_tag n ≡ true
-LeafFault-is_leaf_tag n contents e f =
-    let l = LeafFault-by_leaf n contents e f in ap is_leaf_tag l.tag ∙ is_leaf_tag-leaf_tag l.leaf
-
 -- contents octets that mean a leaf have no fault of a leaf with its tag
 FaultOf-not_contents : (l m : Leaf) (contents : List ℕ) (e : DecodeFault) → leaf_tag l ≡ leaf_tag m →
     LeafContents l contents →
     FaultOf m contents e → ⊥
-FaultOf-not_contents (boolean a) (boolean b) contents e t p f = BooleanContents-no_fault a contents e p f
+FaultOf-not_contents (boolean a) (boolean b) contents e t p f = f.0 a p
 FaultOf-not_contents l (integer n) contents e t p f = f
-FaultOf-not_contents (bit_string n v) (bit_string k w) contents e t p f = BitStringContents-no_fault n v contents e p f
+FaultOf-not_contents (bit_string n v) (bit_string k w) contents e t p f = f.0 n v p
 FaultOf-not_contents l (octet_string v) contents e t p f = f
 FaultOf-not_contents l null contents e t p f = f
-FaultOf-not_contents (object_identifier ms) (object_identifier ns) contents e t p f =
-    ObjectIdentifierContents-no_fault ms contents e p f
-FaultOf-not_contents (utc_time m) (utc_time n) contents e t p f = UtcTimeContents-no_fault m contents e p f
-FaultOf-not_contents (generalized_time m) (generalized_time n) contents e t p f =
-    GeneralizedTimeContents-no_fault m contents e p f
+FaultOf-not_contents (object_identifier ms) (object_identifier ns) contents e t p f = f.1 ms p
+FaultOf-not_contents (utc_time m) (utc_time n) contents e t p f = f.0 m p
+FaultOf-not_contents (generalized_time m) (generalized_time n) contents e t p f = f.0 m p
 FaultOf-not_contents (text j cs) (text k ds) contents e t p f =
     let s : j ≡ k = AreAlike-same_tag (text j cs) (text k ds) t in
     TextContents-no_fault (text_form j) cs contents e p (subst (λ z. TextFault (text_form z) contents e) (sym s) f)
 FaultOf-not_contents l m contents e t p f = AreAlike-same_tag l m t
 
--- contents octets at fault mean no leaf
-pub LeafContents-no_fault : (n : ℕ) (contents : List ℕ) (e : DecodeFault) (l : Leaf) → n ≡ leaf_tag l →
-    LeafContents l contents
-    → LeafFault n contents e → ⊥
-LeafContents-no_fault n contents e l t p f = let m = LeafFault-by_leaf n contents e f in
-    FaultOf-not_contents l m.leaf contents e (sym t ∙ m.tag) p m.fault
+-- the fault of a string of characters by its tag
+leaf_fault-text : (kind : StringKind) (contents : List ℕ) (e : DecodeFault) → TextFault (text_form kind) contents e →
+    e ≡ leaf_fault (string_tag kind) contents
+leaf_fault-text utf8 contents e f = f.1
+leaf_fault-text printable contents e f = f.1
+leaf_fault-text teletex contents e f = f.1
+leaf_fault-text ia5 contents e f = absurd f
+leaf_fault-text universal contents e f = f.1
+leaf_fault-text bmp contents e f = f.1
 
--- contents octets have at most one fault of leaves with one tag
-FaultOf-unique : (l m : Leaf) (contents : List ℕ) (e d : DecodeFault) → leaf_tag l ≡ leaf_tag m → FaultOf l contents e →
-    FaultOf m contents d → e ≡ d
-FaultOf-unique (boolean a) (boolean b) contents e d t p q = BooleanFault-unique contents e d p q
-FaultOf-unique (integer n) m contents e d t p q = absurd p
-FaultOf-unique (bit_string n v) (bit_string k w) contents e d t p q = BitStringFault-unique contents e d p q
-FaultOf-unique (octet_string v) m contents e d t p q = absurd p
-FaultOf-unique null m contents e d t p q = absurd p
-FaultOf-unique (object_identifier ms) (object_identifier ns) contents e d t p q =
-    ObjectIdentifierFault-unique contents e d p q
-FaultOf-unique (utc_time m) (utc_time n) contents e d t p q = UtcTimeFault-unique contents e d p q
-FaultOf-unique (generalized_time m) (generalized_time n) contents e d t p q =
-    GeneralizedTimeFault-unique contents e d p q
-FaultOf-unique (text j cs) (text k ds) contents e d t p q =
-    let s : j ≡ k = AreAlike-same_tag (text j cs) (text k ds) t in
-    TextFault-unique (text_form j) contents e d p (subst (λ z. TextFault (text_form z) contents d) (sym s) q)
-FaultOf-unique l m contents e d t p q = absurd (AreAlike-same_tag l m t)
+-- the fault of the kind of a leaf is that of its tag
+leaf_fault-kind : (l : Leaf) (contents : List ℕ) (e : DecodeFault) → FaultOf l contents e →
+    e ≡ leaf_fault (leaf_tag l) contents
+leaf_fault-kind (boolean b) contents e f = f.1
+leaf_fault-kind (integer n) contents e f = absurd f
+leaf_fault-kind (bit_string n v) contents e f = f.1
+leaf_fault-kind (octet_string v) contents e f = absurd f
+leaf_fault-kind null contents e f = absurd f
+leaf_fault-kind (object_identifier ns) contents e f = f.0
+leaf_fault-kind (utc_time m) contents e f = f.1
+leaf_fault-kind (generalized_time m) contents e f = f.1
+leaf_fault-kind (text kind cs) contents e f = leaf_fault-text kind contents e f
+
+-- contents octets with the fault of the kind of a leaf have that of its tag
+pub LeafFault-kind : (l : Leaf) (n : ℕ) (contents : List ℕ) (e : DecodeFault) → n ≡ leaf_tag l →
+    FaultOf l contents e → LeafFault n contents e
+LeafFault-kind l n contents e t f = record {
+  kind = l;
+  of_kind = t;
+  none = λ m s p. FaultOf-not_contents m l contents e (sym s ∙ t) p f;
+  is = leaf_fault-kind l contents e f ∙ ap (λ z. leaf_fault z contents) (sym t);
+}
+
+-- a moment for leaves of which the tag alone matters
+pub some_moment : Moment
+some_moment = record { year = pos 0; month = 1; day = 1; hour = 0; minute = 0; second = 0; nanosecond = 0 }
+
+-- contents octets with a fault of a string of characters have that of its tag
+pub LeafFault-text : (kind : StringKind) (n : ℕ) (contents : List ℕ) (e : DecodeFault) → n ≡ string_tag kind →
+    TextFault (text_form kind) contents e → LeafFault n contents e
+LeafFault-text kind = LeafFault-kind (text kind [])
+
+-- contents octets with a fault of a UTCTime have that of its tag
+pub LeafFault-utc_time : (n : ℕ) (contents : List ℕ) (e : DecodeFault) → n ≡ UTC_TIME → UtcTimeFault contents e →
+    LeafFault n contents e
+LeafFault-utc_time = LeafFault-kind (utc_time some_moment)
+
+-- contents octets with a fault of a GeneralizedTime have that of its tag
+pub LeafFault-generalized_time : (n : ℕ) (contents : List ℕ) (e : DecodeFault) → n ≡ GENERALIZED_TIME →
+    GeneralizedTimeFault contents e → LeafFault n contents e
+LeafFault-generalized_time = LeafFault-kind (generalized_time some_moment)
+
+-- contents octets with the fault of a leaf have the tag of a leaf
+pub LeafFault-is_leaf_tag : (n : ℕ) (contents : List ℕ) (e : DecodeFault) → LeafFault n contents e →
+    is_leaf_tag n ≡ true
+LeafFault-is_leaf_tag n contents e f = ap is_leaf_tag f.of_kind ∙ is_leaf_tag-leaf_tag f.kind
 
 -- contents octets with a tag have at most one fault
 pub LeafFault-unique : (n : ℕ) (contents : List ℕ) (e d : DecodeFault) → LeafFault n contents e →
     LeafFault n contents d → e ≡ d
-LeafFault-unique n contents e d f g =
-    let l = LeafFault-by_leaf n contents e f in
-    let m = LeafFault-by_leaf n contents d g in
-    FaultOf-unique l.leaf m.leaf contents e d (sym l.tag ∙ m.tag) l.fault m.fault
+LeafFault-unique n contents e d f g = f.is ∙ sym g.is
+
+-- contents octets of a leaf's tag mean a leaf, or they are at fault
+pub data LeafMeaning (n : ℕ) (contents : List ℕ) : Type 0 where
+  means_leaf : (l : Leaf) → n ≡ leaf_tag l → LeafContents l contents → LeafMeaning n contents
+  means_fault : (e : DecodeFault) → LeafFault n contents e → LeafMeaning n contents
+
+-- contents octets mean a leaf of the leaf's kind, or have the fault of this kind
+data KindMeaning (l : Leaf) (contents : List ℕ) : Type 0 where
+  means_kind : (m : Leaf) → leaf_tag m ≡ leaf_tag l → LeafContents m contents → KindMeaning l contents
+  means_fault_of : (e : DecodeFault) → FaultOf l contents e → KindMeaning l contents
+
+-- contents octets mean a leaf of each kind, or are at fault
+KindMeaning-total : (l : Leaf) (contents : List ℕ) → KindMeaning l contents
+KindMeaning-total (boolean b) contents =
+    elim (BooleanContents-or_fault contents)
+    [ inl m ↦ means_kind (boolean m.0) refl m.1 | inr f ↦ means_fault_of f.0 f.1 ]
+KindMeaning-total (integer z) contents = means_kind (integer (signed_number contents)) refl refl
+KindMeaning-total (bit_string k v) contents =
+    elim (BitStringContents-or_fault contents)
+    [ inl m ↦ means_kind (bit_string m.0 m.1) refl m.2 | inr f ↦ means_fault_of f.0 f.1 ]
+KindMeaning-total (octet_string v) contents = means_kind (octet_string contents) refl refl
+KindMeaning-total null contents = means_kind null refl tt
+KindMeaning-total (object_identifier ns) contents =
+    elim (ObjectIdentifierContents-or_fault contents)
+    [ inl m ↦ means_kind (object_identifier m.0) refl m.1 | inr f ↦ means_fault_of f.0 f.1 ]
+KindMeaning-total (utc_time m) contents =
+    elim (UtcTimeContents-or_fault contents)
+    [ inl m ↦ means_kind (utc_time m.0) refl m.1 | inr f ↦ means_fault_of f.0 f.1 ]
+KindMeaning-total (generalized_time m) contents =
+    elim (GeneralizedTimeContents-or_fault contents)
+    [ inl m ↦ means_kind (generalized_time m.0) refl m.1 | inr f ↦ means_fault_of f.0 f.1 ]
+KindMeaning-total (text kind cs) contents =
+    elim (TextContents-or_fault (text_form kind) contents)
+    [ inl m ↦ means_kind (text kind m.0) refl m.1 | inr f ↦ means_fault_of f.0 f.1 ]
+
+-- a fault of contents octets is that of the kind of its leaf
+pub FaultOf-leaf_fault : (n : ℕ) (contents : List ℕ) (e : DecodeFault) (f : LeafFault n contents e) →
+    FaultOf f.kind contents e
+FaultOf-leaf_fault n contents e f = elim (KindMeaning-total f.kind contents) [
+  | means_kind m t p ↦ absurd (f.none m (f.of_kind ∙ sym t) p)
+  | means_fault_of d g ↦
+      let same = LeafFault-unique n contents d e (LeafFault-kind f.kind n contents d f.of_kind g) f in
+      subst (FaultOf f.kind contents) same g
+]
 
 -- the fault of the kind of a leaf is one of reading
 FaultOf-of_reading : (l : Leaf) (contents : List ℕ) (e : DecodeFault) → FaultOf l contents e → IsOfReading e
@@ -299,37 +344,14 @@ FaultOf-of_reading (text kind cs) contents e f = TextFault-of_reading (text_form
 
 -- the fault of a leaf is one of reading
 pub LeafFault-of_reading : (n : ℕ) (contents : List ℕ) (e : DecodeFault) → LeafFault n contents e → IsOfReading e
-LeafFault-of_reading n contents e f =
-    let l = LeafFault-by_leaf n contents e f in FaultOf-of_reading l.leaf contents e l.fault
-
--- contents octets of a leaf's tag mean a leaf, or they are at fault
-pub data LeafMeaning (n : ℕ) (contents : List ℕ) : Type 0 where
-  means_leaf : (l : Leaf) → n ≡ leaf_tag l → LeafContents l contents → LeafMeaning n contents
-  means_fault : (e : DecodeFault) → LeafFault n contents e → LeafMeaning n contents
+LeafFault-of_reading n contents e f = FaultOf-of_reading f.kind contents e (FaultOf-leaf_fault n contents e f)
 
 -- contents octets with the tag of the leaf mean a leaf of its kind, or are at fault
 LeafMeaning-same_tag : (l : Leaf) (n : ℕ) (contents : List ℕ) → n ≡ leaf_tag l → LeafMeaning n contents
-LeafMeaning-same_tag (boolean b) n contents t =
-    elim (BooleanContents-or_fault contents)
-    [ inl m ↦ means_leaf (boolean m.0) t m.1 | inr f ↦ means_fault f.0 (of_boolean t f.1) ]
-LeafMeaning-same_tag (integer z) n contents t = means_leaf (integer (signed_number contents)) t refl
-LeafMeaning-same_tag (bit_string k v) n contents t =
-    elim (BitStringContents-or_fault contents)
-    [ inl m ↦ means_leaf (bit_string m.0 m.1) t m.2 | inr f ↦ means_fault f.0 (of_bit_string t f.1) ]
-LeafMeaning-same_tag (octet_string v) n contents t = means_leaf (octet_string contents) t refl
-LeafMeaning-same_tag null n contents t = means_leaf null t tt
-LeafMeaning-same_tag (object_identifier ns) n contents t =
-    elim (ObjectIdentifierContents-or_fault contents)
-    [ inl m ↦ means_leaf (object_identifier m.0) t m.1 | inr f ↦ means_fault f.0 (of_object_identifier t f.1) ]
-LeafMeaning-same_tag (utc_time m) n contents t =
-    elim (UtcTimeContents-or_fault contents)
-    [ inl m ↦ means_leaf (utc_time m.0) t m.1 | inr f ↦ means_fault f.0 (of_utc_time t f.1) ]
-LeafMeaning-same_tag (generalized_time m) n contents t =
-    elim (GeneralizedTimeContents-or_fault contents)
-    [ inl m ↦ means_leaf (generalized_time m.0) t m.1 | inr f ↦ means_fault f.0 (of_generalized_time t f.1) ]
-LeafMeaning-same_tag (text kind cs) n contents t =
-    elim (TextContents-or_fault (text_form kind) contents)
-    [ inl m ↦ means_leaf (text kind m.0) t m.1 | inr f ↦ means_fault f.0 (of_text kind t f.1) ]
+LeafMeaning-same_tag l n contents t = elim (KindMeaning-total l contents) [
+  | means_kind m s p ↦ means_leaf m (t ∙ sym s) p
+  | means_fault_of e f ↦ means_fault e (LeafFault-kind l n contents e t f)
+]
 
 -- the tag of a string of characters is the tag of some leaf
 is_string_tag-leaf : (n : ℕ) → is_string_tag n ≡ true → (l : Leaf) × (n ≡ leaf_tag l)

@@ -1,6 +1,7 @@
 pub mod BlockLists
 pub mod AsciiTexts
 pub mod Leaves
+pub mod KindFaults
 pub mod OneReading
 pub mod FaultyBlocks
 pub mod Faults

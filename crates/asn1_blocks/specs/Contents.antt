@@ -1,21 +1,21 @@
 -- Contents octets of class Universal: a module for each kind that has a rule says what the octets mean, how they are at
 -- fault, what is written and what can't be; here is which tag has which.
-use Rattle.std.specs.Prelude.{◌≡◌, ◌≢◌, ◌==◌, ◌||◌, ℕ, Bool, List, [], Option, None}
+use Rattle.std.specs.Prelude.{◌≡◌, ◌≢◌, ◌==◌, ◌||◌, ℕ, Bool, List, [], length, if◌then◌else◌, Option, None}
 use Rattle.asn1_blocks.specs.declared.block.GroupKind.{GroupKind}
 use Rattle.asn1_blocks.specs.declared.block.GroupKind.TheVariants.{Sequence, Set}
 use Rattle.asn1_headers.specs.declared.tags.TheConstants.{BOOLEAN, INTEGER, BIT_STRING, OCTET_STRING, NULL, OBJECT_IDENTIFIER, UTF8_STRING, SEQUENCE, SET, PRINTABLE_STRING, TELETEX_STRING, IA5_STRING, UTC_TIME, GENERALIZED_TIME, UNIVERSAL_STRING, BMP_STRING}
 use Rattle.asn1_headers.specs.declared.error.ASN1EncodeErr.{ASN1EncodeErr}
 use Rattle.asn1_leaves.specs.StringKind.{StringKind, utf8, printable, teletex, ia5, universal, bmp}
 use Rattle.asn1_blocks.specs.Tree.{Leaf, boolean, integer, bit_string, octet_string, null, object_identifier, text, utc_time, generalized_time}
-use Rattle.asn1_headers.specs.Fault.{DecodeFault}
-use Rattle.asn1_leaves.specs.Contents.Boolean.{BooleanContents, BooleanFault, boolean_contents}
+use Rattle.asn1_headers.specs.Fault.{DecodeFault, bad_boolean_length, incomplete, printable_string_failure, utf8_fault}
+use Rattle.asn1_leaves.specs.Contents.Boolean.{BooleanContents, boolean_contents}
 use Rattle.asn1_leaves.specs.Contents.Integer.{IntegerContents, integer_contents}
-use Rattle.asn1_leaves.specs.Contents.BitString.{BitStringContents, BitStringFault, IsFaithfulBitString, bit_string_contents, bit_string_write_fault, written_bits}
-use Rattle.asn1_leaves.specs.Contents.GeneralizedTime.{GeneralizedTimeContents, GeneralizedTimeFault, IsFaithfulGeneralizedTime, generalized_time_contents}
+use Rattle.asn1_leaves.specs.Contents.BitString.{BitStringContents, IsFaithfulBitString, bit_string_contents, bit_string_fault, bit_string_write_fault, written_bits}
+use Rattle.asn1_leaves.specs.Contents.GeneralizedTime.{GeneralizedTimeContents, IsFaithfulGeneralizedTime, generalized_time_contents, generalized_time_fault}
 use Rattle.asn1_leaves.specs.Contents.Moment.{moment_write_fault}
-use Rattle.asn1_leaves.specs.Contents.ObjectIdentifier.{IsFaithfulObjectIdentifier, ObjectIdentifierContents, ObjectIdentifierFault, object_identifier_contents, object_identifier_write_fault}
-use Rattle.asn1_leaves.specs.Contents.UtcTime.{IsFaithfulUtcTime, UtcTimeContents, UtcTimeFault, utc_time_contents}
-use Rattle.asn1_leaves.specs.Contents.Text.{text_form, HasCharacters, TextContents, TextFault, text_contents, text_write_fault}
+use Rattle.asn1_leaves.specs.Contents.ObjectIdentifier.{IsFaithfulObjectIdentifier, ObjectIdentifierContents, object_identifier_contents, object_identifier_write_fault}
+use Rattle.asn1_leaves.specs.Contents.UtcTime.{IsFaithfulUtcTime, UtcTimeContents, utc_time_contents, utc_time_fault}
+use Rattle.asn1_leaves.specs.Contents.Text.{text_form, HasCharacters, TextContents, text_contents, text_write_fault}
 
 -- the tag number of a string of characters (X.680 table 8)
 abbrev pub string_tag : StringKind → ℕ
@@ -77,17 +77,23 @@ LeafContents (text kind cs) contents = TextContents (text_form kind) cs contents
 LeafContents (utc_time m) contents = UtcTimeContents m contents
 LeafContents (generalized_time m) contents = GeneralizedTimeContents m contents
 
--- the contents octets of this tag mean no leaf, with this fault
-pub data LeafFault (tag : ℕ) (contents : List ℕ) (fault : DecodeFault) : Type 0 where
-  of_boolean : tag ≡ BOOLEAN → BooleanFault contents fault → LeafFault tag contents fault
-  of_bit_string : tag ≡ BIT_STRING → BitStringFault contents fault → LeafFault tag contents fault
-  of_object_identifier : tag ≡ OBJECT_IDENTIFIER → ObjectIdentifierFault contents fault
-      → LeafFault tag contents fault
-  of_utc_time : tag ≡ UTC_TIME → UtcTimeFault contents fault → LeafFault tag contents fault
-  of_generalized_time : tag ≡ GENERALIZED_TIME → GeneralizedTimeFault contents fault
-      → LeafFault tag contents fault
-  of_text : (kind : StringKind) → tag ≡ string_tag kind → TextFault (text_form kind) contents fault
-      → LeafFault tag contents fault
+-- the fault of contents octets that mean no leaf of this tag
+abbrev pub leaf_fault : ℕ → List ℕ → DecodeFault
+leaf_fault tag contents =
+    if tag == BOOLEAN then bad_boolean_length (length contents)
+    else if tag == BIT_STRING then bit_string_fault contents
+    else if tag == OBJECT_IDENTIFIER then incomplete
+    else if tag == UTC_TIME then utc_time_fault contents
+    else if tag == GENERALIZED_TIME then generalized_time_fault contents
+    else if tag == PRINTABLE_STRING then printable_string_failure
+    else utf8_fault contents
+
+-- the contents octets of this tag, that of a leaf, mean none, with this fault
+pub record LeafFault (tag : ℕ) (contents : List ℕ) (fault : DecodeFault) : Type 0 where
+  pub kind : Leaf
+  pub of_kind : tag ≡ leaf_tag kind
+  pub none : (l : Leaf) → tag ≡ leaf_tag l → LeafContents l contents → ⊥
+  pub is : fault ≡ leaf_fault tag contents
 
 -- the contents octets of a leaf that are written
 abbrev pub leaf_contents : Leaf → List ℕ

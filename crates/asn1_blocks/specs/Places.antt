@@ -1,5 +1,6 @@
 -- Where the blocks of a document stand, and which octets they have.
-use Rattle.std.specs.Prelude.{◌≡◌, ◌&&◌, ℕ, ◌+◌, ◌-◌, ◌<◌, ◌≤◌, ◌++◌, Bool, List, length, drop, slice_range}
+use denote.Ref.{Bor}
+use Rattle.std.specs.Prelude.{◌≡◌, ◌&&◌, ℕ, ◌+◌, ◌-◌, ◌<◌, ◌≤◌, ◌++◌, Bool, List, length, drop, slice_range, MatchOption, Option}
 use Rattle.asn1_headers.specs.declared.header.ASN1Class.{ASN1Class}
 use Rattle.asn1_blocks.specs.declared.block.GroupKind.{GroupKind}
 use Rattle.asn1_blocks.specs.declared.parsed.PlacedHeader.{PlacedHeader}
@@ -83,6 +84,12 @@ pub record EncodingAt (document : List ℕ) (offset : ℕ) (octets : List ℕ) :
 -- no encoding stands at the offset
 abbrev pub HasNoEncodingAt : List ℕ → ℕ → Type 0
 HasNoEncodingAt document offset = (octets : List ℕ) → EncodingAt document offset octets → ⊥
+
+-- of octets the encoding at the front is given, and the octets behind it are left; or none begins, and all are left
+abbrev pub GivesEncoding : List ℕ → Option (Bor (List ℕ)) → List ℕ → Type 0
+GivesEncoding octets given rest =
+    MatchOption given (HasNoEncodingAt octets 0 × (rest ≡ octets))
+    (λ encoding. IsEncoding encoding.now × (octets ≡ encoding.now ++ rest))
 
 -- the octets are those of a tree of the document, and stand at the offset
 pub record TreeAt (document : List ℕ) (offset : ℕ) (octets : List ℕ) : Type 0 where

@@ -146,7 +146,7 @@ fn check_leaf(alloc: Global, tag: &BigUint, contents: &[u8]) -> Result<(), ASN1D
 {
     match tag.to_u64() {
         Some(tag) => {
-            if are_meant(tag, contents) {
+            if are_clearly_meant(tag, contents) {
                 Ok(())
             } else {
                 check_by_reading(alloc, tag, contents)
@@ -158,24 +158,24 @@ fn check_leaf(alloc: Global, tag: &BigUint, contents: &[u8]) -> Result<(), ASN1D
 
 // Whether contents octets with a tag of this number mean a leaf, without the fault where they do not.
 #[inline(always)]
-fn are_meant(tag: u64, contents: &[u8]) -> bool
+fn are_clearly_meant(tag: u64, contents: &[u8]) -> bool
     ensures { IsTrue result → IsNoLeafOrMeant tag contents.now }
 {
     match tag {
-        BOOLEAN => boolean::are_meant(contents),
+        BOOLEAN => boolean::are_clearly_meant(contents),
         INTEGER => true,
-        BIT_STRING => bit_string::are_meant(contents),
+        BIT_STRING => bit_string::are_clearly_meant(contents),
         OCTET_STRING => true,
         NULL => true,
-        OBJECT_IDENTIFIER => object_identifier::are_meant(contents),
-        UTF8_STRING => text::are_meant(TextForm::Utf8, contents),
-        PRINTABLE_STRING => text::are_meant(TextForm::Printable, contents),
-        TELETEX_STRING => text::are_meant(TextForm::Utf8, contents),
+        OBJECT_IDENTIFIER => object_identifier::are_clearly_meant(contents),
+        UTF8_STRING => text::are_clearly_meant(TextForm::Utf8, contents),
+        PRINTABLE_STRING => text::are_clearly_meant(TextForm::Printable, contents),
+        TELETEX_STRING => text::are_clearly_meant(TextForm::Utf8, contents),
         IA5_STRING => true,
-        UTC_TIME => utc_time::are_meant(contents),
-        GENERALIZED_TIME => generalized_time::are_meant(contents),
-        UNIVERSAL_STRING => text::are_meant(TextForm::Utf8, contents),
-        BMP_STRING => text::are_meant(TextForm::Utf8, contents),
+        UTC_TIME => utc_time::are_clearly_meant(contents),
+        GENERALIZED_TIME => generalized_time::are_clearly_meant(contents),
+        UNIVERSAL_STRING => text::are_clearly_meant(TextForm::Utf8, contents),
+        BMP_STRING => text::are_clearly_meant(TextForm::Utf8, contents),
         _ => true,
     }
 }

@@ -1,11 +1,33 @@
 // Encodings by their headers.
-ghost use Rattle.std.specs.Prelude.{◌≡◌, ℕ, ◌*◌, ◌++◌, ◌<◌, ◌≤◌, List, length, take, IfSome, IfNone, IsSomeAnd};
-ghost use Rattle.asn1_blocks.specs.Places.{EncodingAt, HasNoEncodingAt, IsEncoding, TreeAt};
+ghost use Rattle.std.specs.Prelude.{◌≡◌, ℕ, ◌*◌, ◌/◌, ◌++◌, ◌<◌, ◌≤◌, List, length, take, IfSome, IfNone, IsSomeAnd};
+ghost use Rattle.std.specs.Iterator.{at_most};
+ghost use Rattle.asn1_blocks.specs.Places.{EncodingAt, GivesEncoding, HasNoEncodingAt, IsEncoding, TreeAt};
 
 use asn1_headers::header::{identifier_at, length_at};
 
-// The size of the encoding at the front, as its header tells it.
+// The size of the encoding at the front, as its header tells it. Most headers have two octets: these have code of their
+// own, which takes a few instructions.
+#[inline(always)]
 fn encoding_size(octets: &[u8]) -> Option<usize>
+    ensures found { IfSome result (λ n.
+        (2 ≤ n) × (n ≤ length octets.now) × IsEncoding (take n octets.now)) }
+    ensures none { IfNone result ((x rest : List ℕ) → octets.now ≡ x ++ rest → IsEncoding x → ⊥) }
+{
+    match octets {
+        [identifier, length, rest @ ..] if *identifier % 32 != 31 && *length < 128 => {
+            let contents = *length as usize;
+            if contents <= rest.len() {
+                Some(2 + contents)
+            } else {
+                None
+            }
+        }
+        _ => any_encoding_size(octets),
+    }
+}
+
+// The size of the encoding at the front, whatever header it has.
+fn any_encoding_size(octets: &[u8]) -> Option<usize>
     ensures found { IfSome result (λ n.
         (2 ≤ n) × (n ≤ length octets.now) × IsEncoding (take n octets.now)) }
     ensures none { IfNone result ((x rest : List ℕ) → octets.now ≡ x ++ rest → IsEncoding x → ⊥) }
@@ -58,22 +80,36 @@ pub fn encoding_at(document: &[u8], offset: usize) -> Option<&[u8]>
     Some(octets)
 }
 
-// The size of the encoding at the front, as its header tells it. Most headers have two octets: these have code of their
-// own, which takes a few instructions.
-#[inline(always)]
-fn front_size(octets: &[u8]) -> Option<usize>
-    ensures { IfSome result (λ n. (2 ≤ n) × (n ≤ length octets.now)) }
-{
-    match octets {
-        [identifier, length, rest @ ..] if *identifier % 32 != 31 && *length < 128 => {
-            let contents = *length as usize;
-            if contents <= rest.len() {
-                Some(2 + contents)
-            } else {
-                None
-            }
-        }
-        _ => encoding_size(octets),
+// Encodings one after another at the front of octets, by their headers (X.690 8.1.1): what stands inside one is not
+// looked at. They end where no further encoding begins. It takes no memory.
+#[derive(Drop)]
+pub struct Encodings<'a> {
+    // What is left behind those that were given.
+    pub rest: &'a [u8],
+}
+
+impl<'a> Encodings<'a> {
+    pub fn of(octets: &'a [u8]) -> Encodings<'a>
+        ensures { result.rest.now ≡ octets.now }
+    {
+        Encodings { rest: octets }
+    }
+}
+
+impl<'a> Iterator for Encodings<'a> {
+    type Item = &'a [u8];
+
+    ghost next_gives = { λ s encoding t. GivesEncoding s.rest.now encoding t.rest.now };
+
+    // An encoding has two octets or more.
+    ghost remaining = { λ s. at_most (length s.rest.now / 2) };
+
+    #[inline(always)]
+    fn next(&mut self) -> Option<&'a [u8]> {
+        let size = encoding_size(self.rest)?;
+        let (encoding, rest) = self.rest.split_at(size);
+        self.rest = rest;
+        Some(encoding)
     }
 }
 
@@ -83,11 +119,5 @@ fn front_size(octets: &[u8]) -> Option<usize>
 pub fn encoding_count(octets: &[u8]) -> usize
     ensures { 2 * result ≤ length octets.now }
 {
-    let mut count = 0;
-    let mut rest = octets;
-    while let Some(size) = front_size(rest) {
-        count += 1;
-        rest = &rest[size..];
-    }
-    count
+    Encodings::of(octets).count()
 }

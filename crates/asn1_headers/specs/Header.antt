@@ -1,5 +1,5 @@
 -- Identifier octets, length octets, and the encodings that they lead.
-use Rattle.std.specs.Prelude.{◌≡◌, ℕ, ◌+◌, ◌*◌, ◌-◌, ◌<◌, ◌≤◌, ◌⊎◌, ◌++◌, Bool, true, false, List, [], ◌∷◌, length, take, nat_lt, if◌then◌else◌}
+use Rattle.std.specs.Prelude.{◌≡◌, ℕ, ◌+◌, ◌*◌, ◌-◌, ◌<◌, ◌≤◌, ◌⊎◌, ◌++◌, Bool, List, [], ◌∷◌, length, take, nat_lt, if◌then◌else◌}
 use Rattle.std.specs.Int.Digits.{number_from_digits, digits_of}
 use Rattle.asn1_headers.specs.declared.header.ASN1Class.{ASN1Class}
 use Rattle.asn1_headers.specs.declared.header.ASN1Class.TheVariants.{Universal, Application, ContextSpecific, Private}
@@ -15,8 +15,7 @@ class_number Private = 3
 
 -- bit 6: 0 for primitive, 1 for constructed (X.690 8.1.2.5)
 abbrev pub constructed_bit : Bool → ℕ
-constructed_bit true = 1
-constructed_bit false = 0
+constructed_bit constructed = if constructed then 1 else 0
 
 -- the leading octet of identifier octets, whose bits 5 to 1 are these (X.690 8.1.2.2)
 abbrev pub leading_octet : ASN1Class → Bool → ℕ → ℕ

@@ -1,6 +1,7 @@
 -- Octets that are DER have no first fault but that of a string, of too many bits or of second 60, for
 -- `laws::law_der_is_read`.
-use Rattle.std.proofs.Common.{◌≡◌, ℕ, ◌+◌, ◌<◌, ◌≤◌, ◌^◌, true, false, List, [], ◌∷◌, ◌++◌, inl, inr, length, refl, ap, ◌∙◌, subst, arith, length-append, append_assoc}
+use Rattle.std.proofs.Common.{◌≡◌, ℕ, ◌+◌, ◌-◌, ◌*◌, ◌<◌, ◌≤◌, ◌^◌, true, false, List, [], ◌∷◌, ◌++◌, inl, inr, length, refl, sym, ap, ◌∙◌, subst, arith, length-append, append_assoc}
+use Rattle.std.proofs.lemmas.Bool.{cases_lt}
 use Rattle.std.proofs.lemmas.Str.{IsUtf8-from_is_utf8}
 use Rattle.asn1_headers.specs.Fault.{DecodeFault}
 use Rattle.asn1_headers.specs.declared.header.ASN1Class.TheVariants.{Universal}
@@ -8,10 +9,13 @@ use Rattle.asn1_leaves.specs.Contents.BitString.{BitStringFault}
 use Rattle.asn1_leaves.specs.Contents.GeneralizedTime.{GeneralizedTimeContents}
 use Rattle.asn1_leaves.specs.Contents.Moment.{Moment}
 use Rattle.asn1_leaves.specs.Contents.ObjectIdentifier.{ObjectIdentifierContents}
-use Rattle.asn1_leaves.specs.Contents.Text.{TextFault, text_form}
 use Rattle.asn1_leaves.specs.StringKind.{StringKind, utf8, printable, teletex, ia5, universal, bmp}
 use Rattle.asn1_leaves.proofs.Leaves.ObjectIdentifier.{ObjectIdentifierContents-ended}
-use Rattle.asn1_blocks.specs.Contents.{LeafFault, group_tag, of_bit_string, of_boolean, of_generalized_time, of_object_identifier, of_text, of_utc_time, string_tag}
+use Rattle.asn1_leaves.proofs.Leaves.BitString.{BitStringFault-far}
+use Rattle.asn1_leaves.proofs.Leaves.Boolean.{BooleanContents-one}
+use Rattle.asn1_blocks.specs.Contents.{LeafFault, group_tag, leaf_tag, string_tag}
+use Rattle.asn1_blocks.specs.Tree.{Leaf, boolean, integer, bit_string, octet_string, null, object_identifier, text, utc_time, generalized_time}
+use Rattle.asn1_blocks.proofs.Leaves.{FaultOf, FaultOf-leaf_fault}
 use Rattle.asn1_blocks.specs.Grammar.{AreBlocks, BlocksFaultAt, FirstFault, in_contents, in_header, in_item, more_blocks, no_blocks}
 use Rattle.asn1_blocks.proofs.Faults.{IsEncoding-block}
 use Rattle.asn1_der.specs.Contents.{HasDerContents, are_subidentifiers, is_bit_string, is_boolean}
@@ -40,14 +44,17 @@ length-is_boolean (b ∷ c ∷ more) t = absurd cc
 IsFaultOfDer-bit_string : (contents : List ℕ) (e : DecodeFault) → is_bit_string contents ≡ true →
     BitStringFault contents e →
     IsFaultOfDer contents e
-IsFaultOfDer-bit_string [] e t f = absurd f
-IsFaultOfDer-bit_string (u ∷ []) e t (inl f) = absurd (omega (arith, f.0))
-IsFaultOfDer-bit_string (u ∷ []) e t (inr f) =
+IsFaultOfDer-bit_string [] e t f = absurd (f.0 0 [] (refl, refl))
+IsFaultOfDer-bit_string (u ∷ []) e t f =
     let none : u ≡ 0 = grind (arith, t) in
-    absurd (omega (arith, f.1, none))
-IsFaultOfDer-bit_string (u ∷ first ∷ more) e t (inl f) = of_bits (length (u ∷ first ∷ more)) (omega (arith, f.0)) f.1
-IsFaultOfDer-bit_string (u ∷ first ∷ more) e t (inr f) =
-    absurd (omega (arith, f.1, is_bit_string-few_unused u first more t))
+    absurd (f.0 0 [] (refl, omega (arith, none), omega arith))
+IsFaultOfDer-bit_string (u ∷ first ∷ more) e t f =
+    let v = first ∷ more in
+    elim (cases_lt (8 * length v) (2 ^ 64)) [
+      | inl near ↦ absurd (f.0 (8 * length v - u) v
+          (refl, omega (arith, is_bit_string-few_unused u first more t), near))
+      | inr far ↦ of_bits (length (u ∷ v)) (omega (arith, far)) (f.1 ∙ sym (BitStringFault-far u v far).1)
+    ]
 
 -- subidentifiers that are DER are the contents octets of an OBJECT IDENTIFIER
 are_subidentifiers-components : (contents : List ℕ) → are_subidentifiers contents ≡ true →
@@ -66,35 +73,43 @@ IsMoment-contents P contents (m, h) f = f m h
 
 -- a string that is DER has a fault only if it is read as UTF-8 and has another code in DER
 IsFaultOfDer-text : (kind : StringKind) (contents : List ℕ) (e : DecodeFault) →
-    HasDerContents (string_tag kind) contents →
-    TextFault (text_form kind) contents e
-    → IsFaultOfDer contents e
-IsFaultOfDer-text utf8 contents e d f = absurd (f.0 (IsUtf8-from_is_utf8 contents d.0))
-IsFaultOfDer-text printable contents e d f = absurd (f.0 d.0)
+    HasDerContents (string_tag kind) contents → LeafFault (string_tag kind) contents e →
+    IsFaultOfDer contents e
+IsFaultOfDer-text utf8 contents e d f =
+    let (cs, means) = IsUtf8-from_is_utf8 contents d.0 in
+    absurd (f.none (text utf8 cs) refl means)
+IsFaultOfDer-text printable contents e d f = absurd (f.none (text printable contents) refl (d.0, refl))
 IsFaultOfDer-text teletex contents e d f = of_string teletex contents refl f
-IsFaultOfDer-text ia5 contents e d f = absurd f
+IsFaultOfDer-text ia5 contents e d f = absurd (f.none (text ia5 contents) refl refl)
 IsFaultOfDer-text universal contents e d f = of_string universal contents refl f
 IsFaultOfDer-text bmp contents e d f = of_string bmp contents refl f
+
+-- contents octets of a kind that are DER have no fault but that of a string, of too many bits or of second 60
+IsFaultOfDer-kind : (l : Leaf) (contents : List ℕ) (e : DecodeFault) → HasDerContents (leaf_tag l) contents →
+    LeafFault (leaf_tag l) contents e → FaultOf l contents e → IsFaultOfDer contents e
+IsFaultOfDer-kind (boolean b) contents e d f own =
+    let (c, means) = BooleanContents-one contents (length-is_boolean contents d.0) in
+    absurd (own.0 c means)
+IsFaultOfDer-kind (integer n) contents e d f own = absurd own
+IsFaultOfDer-kind (bit_string n v) contents e d f own = IsFaultOfDer-bit_string contents e d.0 own
+IsFaultOfDer-kind (octet_string v) contents e d f own = absurd own
+IsFaultOfDer-kind null contents e d f own = absurd own
+IsFaultOfDer-kind (object_identifier ns) contents e d f own =
+    let (ms, means) = are_subidentifiers-components contents d.0 in
+    absurd (own.1 ms means)
+IsFaultOfDer-kind (utc_time m) contents e d f own = let (n, means) = d.1 in absurd (own.0 n means)
+IsFaultOfDer-kind (generalized_time m) contents e d f own = elim d.1.0 [
+  | inl moment ↦ absurd (IsMoment-contents ⊥ contents moment own.0)
+  | inr second ↦ of_second_60 contents second f
+]
+IsFaultOfDer-kind (text kind cs) contents e d f own = IsFaultOfDer-text kind contents e d f
 
 -- contents octets that are DER have no fault but that of a string, of too many bits or of second 60
 IsFaultOfDer-leaf : (n : ℕ) (contents : List ℕ) (e : DecodeFault) → HasDerContents n contents → LeafFault n contents e →
     IsFaultOfDer contents e
-IsFaultOfDer-leaf n contents e d (of_boolean t f) =
-    absurd (f.0 (length-is_boolean contents (subst (λ z. HasDerContents z contents) t d).0))
-IsFaultOfDer-leaf n contents e d (of_bit_string t f) =
-    IsFaultOfDer-bit_string contents e (subst (λ z. HasDerContents z contents) t d).0 f
-IsFaultOfDer-leaf n contents e d (of_object_identifier t f) =
-    let (ns, means) = are_subidentifiers-components contents (subst (λ z. HasDerContents z contents) t d).0 in
-    absurd (f.1 ns means)
-IsFaultOfDer-leaf n contents e d (of_utc_time t f) = let (m, means) = (subst (λ z. HasDerContents z contents) t d).1 in
-    absurd (f.0 m means)
-IsFaultOfDer-leaf n contents e d (of_generalized_time t f) =
-    elim (subst (λ z. HasDerContents z contents) t d).1.0 [
-      | inl moment ↦ absurd (IsMoment-contents ⊥ contents moment f.0)
-      | inr second ↦ of_second_60 contents second f
-    ]
-IsFaultOfDer-leaf n contents e d (of_text kind t f) =
-    IsFaultOfDer-text kind contents e (subst (λ z. HasDerContents z contents) t d) f
+IsFaultOfDer-leaf n contents e d f =
+    IsFaultOfDer-kind f.kind contents e (subst (λ z. HasDerContents z contents) f.of_kind d)
+    (subst (λ z. LeafFault z contents e) f.of_kind f) (FaultOf-leaf_fault n contents e f)
 
 -- the type of a string is not a constructed type
 is_constructed_type-string_tag : (kind : StringKind) → is_constructed_type (string_tag kind) ≡ false
@@ -105,16 +120,22 @@ is_constructed_type-string_tag ia5 = refl
 is_constructed_type-string_tag universal = refl
 is_constructed_type-string_tag bmp = refl
 
+-- the type of a leaf is not a constructed type
+is_constructed_type-leaf_tag : (l : Leaf) → is_constructed_type (leaf_tag l) ≡ false
+is_constructed_type-leaf_tag (boolean b) = refl
+is_constructed_type-leaf_tag (integer n) = refl
+is_constructed_type-leaf_tag (bit_string n v) = refl
+is_constructed_type-leaf_tag (octet_string v) = refl
+is_constructed_type-leaf_tag null = refl
+is_constructed_type-leaf_tag (object_identifier ns) = refl
+is_constructed_type-leaf_tag (utc_time m) = refl
+is_constructed_type-leaf_tag (generalized_time m) = refl
+is_constructed_type-leaf_tag (text kind cs) = is_constructed_type-string_tag kind
+
 -- a tag number is of no constructed type if contents octets have a fault of a leaf with it
 is_constructed_type-leaf_fault : (n : ℕ) (contents : List ℕ) (e : DecodeFault) → LeafFault n contents e →
     is_constructed_type n ≡ false
-is_constructed_type-leaf_fault n contents e (of_boolean t f) = ap is_constructed_type t
-is_constructed_type-leaf_fault n contents e (of_bit_string t f) = ap is_constructed_type t
-is_constructed_type-leaf_fault n contents e (of_object_identifier t f) = ap is_constructed_type t
-is_constructed_type-leaf_fault n contents e (of_utc_time t f) = ap is_constructed_type t
-is_constructed_type-leaf_fault n contents e (of_generalized_time t f) = ap is_constructed_type t
-is_constructed_type-leaf_fault n contents e (of_text kind t f) =
-    ap is_constructed_type t ∙ is_constructed_type-string_tag kind
+is_constructed_type-leaf_fault n contents e f = ap is_constructed_type f.of_kind ∙ is_constructed_type-leaf_tag f.kind
 
 -- what stands behind blocks in encodings of DER is encodings of DER
 AreDer-behind_blocks : (x front rest : List ℕ) → AreBlocks front → x ≡ front ++ rest → length x < 2 ^ 64 → AreDer x →

@@ -1,5 +1,5 @@
--- Contents octets of a GeneralizedTime that are written as they are, for `contents::generalized_time::are_canonical`,
--- and for `asn1_laws`.
+-- Contents octets of a GeneralizedTime that are written as they are, for `are_clearly_canonical` of
+-- `contents::generalized_time`, and for `asn1_laws`.
 use Rattle.std.proofs.Common.{◌≡◌, ◌≢◌, ℕ, ◌+◌, ◌-◌, ◌<◌, ◌≤◌, ◌⊎◌, true, List, [], ◌∷◌, ◌++◌, inl, inr, length, get_or, refl, sym, ap, ◌∙◌, arith, length-append}
 use Rattle.std.specs.Char.{is_ascii_digit}
 use Rattle.std.specs.List.{list_all}

@@ -1,4 +1,4 @@
--- Fractions of a second that do not end in 0, for `contents::generalized_time::are_canonical` and `asn1_laws`.
+-- Fractions of a second that do not end in 0, for `contents::generalized_time::are_clearly_canonical` and `asn1_laws`.
 use Rattle.std.proofs.Common.{◌≡◌, ◌≢◌, ℕ, zero, suc, ◌+◌, ◌-◌, ◌*◌, ◌/◌, ◌%◌, ◌<◌, ◌≤◌, ◌^◌, true, List, [], ◌∷◌, ◌⊎◌, inl, inr, length, get_or, refl, sym, ap, ap₂, ◌∙◌, arith, mul-le-mul_right, sub-one, ◌++◌, length-append}
 use Rattle.std.specs.Char.{is_ascii_digit}
 use Rattle.std.specs.List.{list_all}

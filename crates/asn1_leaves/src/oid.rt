@@ -222,7 +222,7 @@ pub fn read(alloc: Global, contents: &[u8]) -> Result<OID, ASN1DecodeErr>
     ensures found { IfOk result (λ oid. ObjectIdentifierContents oid contents.now) }
     ensures refused { IfErr result (OutOfMemoryOr (ObjectIdentifierFault contents.now)) }
 {
-    if contents.len() <= 24 && object_identifier::are_shortest(contents) {
+    if contents.len() <= 24 && object_identifier::are_clearly_shortest(contents) {
         return Ok(OID::from_short(alloc, contents));
     }
     Ok(OID::new(object_identifier::read(alloc, contents)?))

@@ -63,7 +63,7 @@ StandsAt-drop x s y a =
     ∙ ap (λ z. z ++ drop (length y) (drop s x)) (ap (λ n. take n (drop s x)) (sym size) ∙ a.octets_are)
 
 -- a slice of octets that stand in a document is one of the document
-slice_range-inside : (x : List ℕ) (s : ℕ) (y : List ℕ) (i j a b : ℕ) → StandsAt x s y → i ≤ j → j ≤ length y →
+pub slice_range-inside : (x : List ℕ) (s : ℕ) (y : List ℕ) (i j a b : ℕ) → StandsAt x s y → i ≤ j → j ≤ length y →
     a ≡ s + i → b ≡ s + j →
     slice_range x a b ≡ slice_range y i j
 slice_range-inside x s y i j a b st order within first last =

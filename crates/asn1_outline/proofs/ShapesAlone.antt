@@ -75,7 +75,7 @@ HeaderFound-unique x p e h g within f f' =
 module _ (x : List ℕ) (small : length x < 2 ^ 64) where
   mutual
     -- octets whose headers have shapes have no header fault
-    AreShapes-no_fault : (s p e : ℕ) (a : Shapes) (fault : DecodeFault) (o : ℕ) → e ≤ length x → AreShapes x p e a →
+    pub AreShapes-no_fault : (s p e : ℕ) (a : Shapes) (fault : DecodeFault) (o : ℕ) → e ≤ length x → AreShapes x p e a →
         HeadersFaultAt x s p e fault o → ⊥
     AreShapes-no_fault s p e a fault o within (no_more end) (in_header more w) = omega (arith, end, more)
     AreShapes-no_fault s p e a fault o within (no_more end) (in_item f u i q) =

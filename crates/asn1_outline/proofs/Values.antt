@@ -12,9 +12,9 @@ use Rattle.asn1_headers.specs.declared.header.ASN1Class.TheVariants.{Application
 use Rattle.asn1_headers.proofs.Prefixes.{SameEncoding, Encoding-unique, Encoding-not_empty, IsIdentifier-unique}
 use Rattle.asn1_leaves.specs.StringKind.{StringKind}
 use Rattle.asn1_blocks.specs.BlockParts.{leaf_bits, leaf_boolean, leaf_integer, leaf_moment, leaf_octets, leaf_oid, tree_bits, tree_boolean, tree_integer, tree_leaf, tree_moment, tree_octets, tree_oid, tree_tag, tree_text}
-use Rattle.asn1_blocks.specs.Contents.{LeafContents, LeafFault, group_tag, is_known_tag, is_leaf_tag, leaf_tag, of_generalized_time, of_text, of_utc_time, string_tag}
+use Rattle.asn1_blocks.specs.Contents.{LeafContents, LeafFault, group_tag, is_known_tag, is_leaf_tag, leaf_tag, string_tag}
 use Rattle.asn1_blocks.specs.Inner.LeafBlocks.{IsLeafOf}
-use Rattle.asn1_blocks.proofs.Leaves.{is_known_tag-group_tag, LeafContents-unique, is_known_tag-leaf_tag, LeafContents-no_fault, is_leaf_tag-leaf_tag, is_known_tag-is_leaf_tag, is_leaf_tag-not_group_tag, string_tag-lt, is_known_tag-unknown}
+use Rattle.asn1_blocks.proofs.Leaves.{LeafFault-generalized_time, LeafFault-text, LeafFault-utc_time, is_known_tag-group_tag, LeafContents-unique, is_known_tag-leaf_tag, is_leaf_tag-leaf_tag, is_known_tag-is_leaf_tag, is_leaf_tag-not_group_tag, string_tag-lt, is_known_tag-unknown}
 use Rattle.asn1_headers.specs.Fault.{DecodeFault}
 use Rattle.asn1_headers.specs.declared.tags.TheConstants.{ENUMERATED, GENERAL_STRING, NUMERIC_STRING, VISIBLE_STRING, GENERALIZED_TIME, UTC_TIME}
 use Rattle.asn1_leaves.specs.Contents.GeneralizedTime.{GeneralizedTimeContents, GeneralizedTimeFault}
@@ -177,7 +177,7 @@ IsLeafOf-leaf o n v (unknown c k p m w) l s t e = absurd s
 -- contents octets of a leaf that was read have no fault
 pub IsLeafOf-no_fault : (o n : ℕ) (v : List ℕ) (b : Tree ℕ) (fault : DecodeFault) → IsLeafOf o n v b →
     LeafFault n v fault → ⊥
-IsLeafOf-no_fault o n v (leaf p m) fault (_, tag, means) f = LeafContents-no_fault n v fault m tag means f
+IsLeafOf-no_fault o n v (leaf p m) fault (_, tag, means) f = f.none m tag means
 IsLeafOf-no_fault o n v (group p g bs) fault s f = s
 IsLeafOf-no_fault o n v (explicit c p m b) fault s f = s
 IsLeafOf-no_fault o n v (unknown c k p m w) fault s f = s
@@ -208,7 +208,7 @@ IsEntryOf-no_text_fault x b r kind fault e class tag f =
     let v = slice_range x (r.offset + r.header) (r.offset + r.header + r.contents) in
     IsLeafOf-no_fault (tree_offset b) (string_tag kind) v b fault
     (IsLeafOf-entry x b r (string_tag kind) e class tag small t)
-    (of_text kind refl f)
+    (LeafFault-text kind (string_tag kind) v fault refl f)
 
 -- a tree whose encoding is of no string has no text
 tree_text-not_string_encoding :
@@ -498,11 +498,12 @@ IsEntryOf-no_time_fault x b r v fault e class same f = elim f [
   | inl (tag, own) ↦
       IsLeafOf-no_fault (tree_offset b) UTC_TIME (contents_octets x r) b fault
       (IsLeafOf-entry x b r UTC_TIME e class tag (omega arith) refl)
-      (of_utc_time refl (subst (λ z. UtcTimeFault z fault) same own))
+      (LeafFault-utc_time UTC_TIME (contents_octets x r) fault refl (subst (λ z. UtcTimeFault z fault) same own))
   | inr (tag, own) ↦
       IsLeafOf-no_fault (tree_offset b) GENERALIZED_TIME (contents_octets x r) b fault
       (IsLeafOf-entry x b r GENERALIZED_TIME e class tag (omega arith) refl)
-      (of_generalized_time refl (subst (λ z. GeneralizedTimeFault z fault) same own))
+      (LeafFault-generalized_time GENERALIZED_TIME (contents_octets x r) fault refl
+      (subst (λ z. GeneralizedTimeFault z fault) same own))
 ]
 
 -- a tree has the tag number of its octets

@@ -11,15 +11,15 @@ use crate::entry::Entry;
 use asn1_blocks::contents::is_group_tag;
 use asn1_headers::header::{ASN1Class, length_size};
 use asn1_writing::frequent::begin_with_frequent;
-use asn1_writing::in_place::are_leaf_contents_canonical;
+use asn1_writing::in_place::are_leaf_contents_clearly_canonical;
 
 // Whether the entries of a document are found to be those of a canonical one: `false` says nothing.
-pub(crate) fn are_canonical_by_entries(octets: &[u8], entries: &[Entry]) -> bool
+pub(crate) fn are_clearly_canonical(octets: &[u8], entries: &[Entry]) -> bool
     requires { IsOutline octets.now entries.now }
     ensures { IsTrue result → (bs : Trees ℕ) → IsDocument octets.now bs → octets.now ≡ all_canonical bs }
 {
     for entry in entries {
-        if !is_canonical(octets, entry) {
+        if !is_clearly_canonical(octets, entry) {
             return false;
         }
     }
@@ -29,7 +29,7 @@ pub(crate) fn are_canonical_by_entries(octets: &[u8], entries: &[Entry]) -> bool
 // Whether the encoding of the entry has the shortest header, and the contents octets that are written for a leaf. Of a
 // header of two octets, the octets say in a few comparisons what the fields of the entry say in many.
 #[inline(always)]
-fn is_canonical(octets: &[u8], entry: &Entry) -> bool
+fn is_clearly_canonical(octets: &[u8], entry: &Entry) -> bool
     requires { HasHeaderAt octets.now entry.now }
     ensures { IsTrue result → HasCanonicalAt octets.now entry.now.offset }
 {
@@ -39,28 +39,28 @@ fn is_canonical(octets: &[u8], entry: &Entry) -> bool
             return true;
         }
     }
-    is_canonical_by_fields(octets, entry)
+    is_clearly_canonical_by_fields(octets, entry)
 }
 
 // Whether the encoding of the entry has the shortest header, and the contents octets that are written for a leaf, by
 // the fields of the entry.
 #[inline(always)]
-fn is_canonical_by_fields(octets: &[u8], entry: &Entry) -> bool
+fn is_clearly_canonical_by_fields(octets: &[u8], entry: &Entry) -> bool
     requires { HasHeaderAt octets.now entry.now }
     ensures { IsTrue result → HasCanonicalAt octets.now entry.now.offset }
 {
-    if !is_shortest(octets, entry) {
+    if !is_clearly_shortest(octets, entry) {
         return false;
     }
     match entry.class {
-        ASN1Class::Universal => is_canonical_universal(octets, entry),
+        ASN1Class::Universal => is_clearly_canonical_universal(octets, entry),
         _ => true,
     }
 }
 
 // Whether an encoding of class Universal with the shortest header is canonical, its blocks aside.
 #[inline(always)]
-fn is_canonical_universal(octets: &[u8], entry: &Entry) -> bool
+fn is_clearly_canonical_universal(octets: &[u8], entry: &Entry) -> bool
     requires there { HasHeaderAt octets.now entry.now }
     requires shortest { HasShortestAt octets.now entry.now }
     ensures { IsTrue result → HasCanonicalAt octets.now entry.now.offset }
@@ -71,12 +71,12 @@ fn is_canonical_universal(octets: &[u8], entry: &Entry) -> bool
     if entry.constructed {
         return false;
     }
-    are_leaf_contents_canonical(entry.tag, entry.contents_in(octets))
+    are_leaf_contents_clearly_canonical(entry.tag, entry.contents_in(octets))
 }
 
 // Whether the header of the entry has its shortest form, and a tag number below 31. 80 is as short as 00.
 #[inline(always)]
-fn is_shortest(octets: &[u8], entry: &Entry) -> bool
+fn is_clearly_shortest(octets: &[u8], entry: &Entry) -> bool
     requires { HasHeaderAt octets.now entry.now }
     ensures { IsTrue result → HasShortestAt octets.now entry.now }
 {

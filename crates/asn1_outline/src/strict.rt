@@ -9,13 +9,13 @@ ghost use Rattle.asn1_writing.specs.Canonical.{all_canonical};
 ghost use Rattle.asn1_writing.specs.ReadBack.{CanonicalDocument};
 ghost use Rattle.asn1_writing.specs.Strict.{StrictFaultAt};
 
-use crate::canonical::are_canonical_by_entries;
+use crate::canonical::are_clearly_canonical;
 use crate::entry::Entry;
 use crate::outline::Outline;
 use asn1_blocks::block::discard::discard;
 use asn1_blocks::read_loop::out_of_memory;
 use asn1_headers::error::LocatedErr;
-use asn1_writing::in_place::are_canonical_in_place;
+use asn1_writing::in_place::are_clearly_canonical_in_place;
 use asn1_writing::strict::strict_blocks;
 use std::alloc::Global;
 
@@ -72,10 +72,10 @@ pub fn check_canonical(alloc: Global, octets: &[u8], entries: &[Entry]) -> Resul
         ((bs : Trees ℕ) → IsDocument octets.now bs → octets.now ≡ all_canonical bs) }
     ensures fault { IfErr result (OutOfMemoryOrAt (StrictFaultAt octets.now)) }
 {
-    if entries.len() <= MOST_ENTRIES && are_canonical_by_entries(octets, entries) {
+    if entries.len() <= MOST_ENTRIES && are_clearly_canonical(octets, entries) {
         return Ok(());
     }
-    match are_canonical_in_place(alloc, octets) {
+    match are_clearly_canonical_in_place(alloc, octets) {
         Ok(true) => Ok(()),
         Ok(false) => check_blocks(alloc, octets),
         Err(_) => Err(out_of_memory(0)),

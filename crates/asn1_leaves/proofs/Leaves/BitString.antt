@@ -1,11 +1,12 @@
 -- What is known of the contents octets of a BIT STRING, for `asn1_blocks`.
-use Rattle.std.proofs.Common.{◌≡◌, ℕ, zero, suc, ◌+◌, ◌-◌, ◌*◌, ◌<◌, ◌≤◌, ◌^◌, ◌⊎◌, List, [], ◌∷◌, None, length, inl, inr, refl, sym, ap, ◌∙◌, subst, arith}
-use Rattle.std.specs.Prelude.{pos, ◌-ℤ◌, All, if◌then◌else◌}
+use Rattle.std.proofs.Common.{◌≡◌, ℕ, true, false, zero, suc, ◌+◌, ◌-◌, ◌*◌, ◌<◌, ◌≤◌, ◌^◌, ◌⊎◌, List, [], ◌∷◌, None, length, inl, inr, refl, sym, ap, ◌∙◌, subst, arith}
+use Rattle.std.specs.Prelude.{pos, ◌-ℤ◌, All, nat_lt, slice_index, if◌then◌else◌}
 use Rattle.std.proofs.lemmas.Bool.{cases_lt}
+use Rattle.std.proofs.lemmas.Bool.Decides.{nat_tests}
 use Rattle.std.proofs.lemmas.Grind.{common_steps}
 use Rattle.std.proofs.lemmas.List.Elements.{All-head}
 use Rattle.asn1_headers.specs.Fault.{DecodeFault, IsOfReading, length_too_large, invalid_bit_string_length}
-use Rattle.asn1_leaves.specs.Contents.BitString.{BitStringContents, BitStringFault, IsFaithfulBitString, bit_string_contents, bit_string_write_fault, written_bits}
+use Rattle.asn1_leaves.specs.Contents.BitString.{BitStringContents, BitStringFault, IsFaithfulBitString, bit_string_contents, bit_string_fault, bit_string_write_fault, written_bits}
 use Rattle.std.proofs.Math.Dec.{eqb-suc-zero}
 
 -- contents octets mean one number of bits, and one list of octets
@@ -16,39 +17,46 @@ BitStringContents-unique m n v w (u ∷ contents) p q =
     let f : v ≡ w = p.0 ∙ sym q.0 in
     (omega (arith, p.1, q.1, ap length f), f)
 
--- contents octets have at most one fault
-pub BitStringFault-unique : (contents : List ℕ) (e d : DecodeFault) → BitStringFault contents e →
-    BitStringFault contents d → e ≡ d
-BitStringFault-unique [] e d p q = absurd p
-BitStringFault-unique (u ∷ v) e d (inl p) (inl q) = p.1 ∙ sym q.1
-BitStringFault-unique (u ∷ v) e d (inl p) (inr q) = absurd (omega (arith, p.0, q.0))
-BitStringFault-unique (u ∷ v) e d (inr p) (inl q) = absurd (omega (arith, p.0, q.0))
-BitStringFault-unique (u ∷ v) e d (inr (_, _, p)) (inr (_, _, q)) = p ∙ sym q
+-- more octets than a usize can count the bits of mean no bits
+pub BitStringFault-far : (u : ℕ) (v : List ℕ) → 2 ^ 64 ≤ 8 * length v →
+    BitStringFault (u ∷ v) (length_too_large (length (u ∷ v)))
+BitStringFault-far u v far = (
+  λ n w p. omega (arith, far, p.2, ap length p.0),
+  grind (arith, nat_tests, far),
+)
 
--- contents octets that mean bits have no fault
-pub BitStringContents-no_fault : (n : ℕ) (v contents : List ℕ) (e : DecodeFault) → BitStringContents n v contents →
-    BitStringFault contents e → ⊥
-BitStringContents-no_fault n v [] e p f = f
-BitStringContents-no_fault n v (u ∷ contents) e (same, _, fits) (inl f) = omega (arith, fits, f.0, ap length same)
-BitStringContents-no_fault n v (u ∷ contents) e p (inr f) = omega (arith, p.1, f.1, ap length p.0)
+-- octets with fewer bits than are unused mean no bits
+pub BitStringFault-few : (u : ℕ) (v : List ℕ) → 8 * length v < 2 ^ 64 → 8 * length v < u →
+    BitStringFault (u ∷ v) (invalid_bit_string_length (pos (8 * length v) -ℤ pos u))
+BitStringFault-few u v near few = (
+  λ n w p. omega (arith, few, p.1, ap length p.0),
+  grind (arith, nat_tests, near),
+)
 
 -- contents octets that mean no bits have a fault
 pub BitStringContents-or_fault : (contents : List ℕ)
     → ((n : ℕ) × (v : List ℕ) × BitStringContents n v contents) ⊎ ((e : DecodeFault) × BitStringFault contents e)
 BitStringContents-or_fault [] = inl (0, [], (refl, refl))
 BitStringContents-or_fault (u ∷ v) = elim (cases_lt (8 * length v) (2 ^ 64)) [
-  | inr far ↦ inr (length_too_large (length (u ∷ v)), inl (far, refl))
+  | inr far ↦ inr (length_too_large (length (u ∷ v)), BitStringFault-far u v far)
   | inl near ↦ elim (cases_lt (8 * length v) u) [
-    | inl more ↦ inr (invalid_bit_string_length (pos (8 * length v) -ℤ pos u), inr (near, more, refl))
+    | inl more ↦ inr (invalid_bit_string_length (pos (8 * length v) -ℤ pos u), BitStringFault-few u v near more)
     | inr enough ↦ inl (8 * length v - u, v, (refl, omega arith, near))
   ]
 ]
 
 -- the fault of contents octets that mean no bits is one of reading
+IsOfReading-bit_string_fault : (contents : List ℕ) → IsOfReading (bit_string_fault contents)
+IsOfReading-bit_string_fault contents =
+    let bits = 8 * (length contents - 1) in
+    elim (nat_lt bits (2 ^ 64)) as
+    (λ near. IsOfReading (if near then invalid_bit_string_length (pos bits -ℤ pos (slice_index contents 0))
+    else length_too_large (length contents)))
+    [ true ↦ tt | false ↦ tt ]
+
+-- each fault of a BIT STRING is one of reading
 pub BitStringFault-of_reading : (contents : List ℕ) (e : DecodeFault) → BitStringFault contents e → IsOfReading e
-BitStringFault-of_reading [] e f = absurd f
-BitStringFault-of_reading (u ∷ v) e (inl f) = subst IsOfReading (sym f.1) tt
-BitStringFault-of_reading (u ∷ v) e (inr (_, _, f)) = subst IsOfReading (sym f) tt
+BitStringFault-of_reading contents e f = subst IsOfReading (sym f.1) (IsOfReading-bit_string_fault contents)
 
 -- bits that octets mean can be written
 pub bit_string_write_fault-read : (n : ℕ) (v contents : List ℕ) → All (λ b. b < 256) contents →

@@ -1,4 +1,4 @@
--- What is known of the contents octets of a BOOLEAN, for `contents::boolean::are_meant` and `asn1_blocks`.
+-- What is known of the contents octets of a BOOLEAN, for `contents::boolean::are_clearly_meant` and `asn1_blocks`.
 use Rattle.std.proofs.Common.{◌≡◌, ℕ, ◌==◌, ◌⊎◌, Bool, true, false, not, List, [], ◌∷◌, length, inl, inr, refl, sym, ap, ◌∙◌, subst, arith}
 use Rattle.asn1_headers.specs.Fault.{DecodeFault, IsOfReading, bad_boolean_length}
 use Rattle.asn1_leaves.specs.Contents.Boolean.{BooleanContents, BooleanFault, boolean_contents}
@@ -11,23 +11,25 @@ BooleanContents-unique a b contents (x, p, r) (y, q, s) =
     let g : x ≡ y = cc in
     r ∙ (ap (λ z. not (z == 0)) g ∙ sym s)
 
--- contents octets have at most one fault
-pub BooleanFault-unique : (contents : List ℕ) (e d : DecodeFault) → BooleanFault contents e → BooleanFault contents d →
-    e ≡ d
-BooleanFault-unique contents e d p q = p.1 ∙ sym q.1
+-- one octet means a value
+pub BooleanContents-one : (contents : List ℕ) → length contents ≡ 1 → (b : Bool) × BooleanContents b contents
+BooleanContents-one [] e = absurd (omega (arith, e))
+BooleanContents-one (x ∷ []) e = (not (x == 0), (x, refl, refl))
+BooleanContents-one (x ∷ y ∷ rest) e = absurd (omega (arith, e))
 
--- contents octets that mean a value have no fault
-pub BooleanContents-no_fault : (b : Bool) (contents : List ℕ) (e : DecodeFault) → BooleanContents b contents →
-    BooleanFault contents e → ⊥
-BooleanContents-no_fault b contents e p f = f.0 (ap length p.1)
+-- contents octets that are not one mean no value
+pub BooleanFault-not_one : (contents : List ℕ) → (length contents ≡ 1 → ⊥) →
+    BooleanFault contents (bad_boolean_length (length contents))
+BooleanFault-not_one contents other = (λ b p. other (ap length p.1), refl)
 
 -- contents octets that mean no value have a fault
 pub BooleanContents-or_fault : (contents : List ℕ) →
     ((b : Bool) × BooleanContents b contents) ⊎ ((e : DecodeFault) × BooleanFault contents e)
-BooleanContents-or_fault [] = inr (bad_boolean_length 0, ((λ e. omega (arith, e)), refl))
+BooleanContents-or_fault [] = inr (bad_boolean_length 0, BooleanFault-not_one [] (λ e. omega (arith, e)))
 BooleanContents-or_fault (x ∷ []) = inl (not (x == 0), (x, refl, refl))
 BooleanContents-or_fault (x ∷ y ∷ rest) =
-    inr (bad_boolean_length (length (x ∷ y ∷ rest)), ((λ e. omega (arith, e)), refl))
+    let contents = x ∷ y ∷ rest in
+    inr (bad_boolean_length (length contents), BooleanFault-not_one contents (λ e. omega (arith, e)))
 
 -- the fault of contents octets that mean no value is one of reading
 pub BooleanFault-of_reading : (contents : List ℕ) (e : DecodeFault) → BooleanFault contents e → IsOfReading e

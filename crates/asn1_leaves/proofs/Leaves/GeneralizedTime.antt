@@ -170,17 +170,6 @@ GeneralizedTimeContents-unique m n contents p q =
     let d = IsEnd-contents m contents p in
     second_moment-contents m contents p.digits p d ∙ sym (second_moment-contents n contents p.digits q d)
 
--- contents octets have at most one fault
-pub GeneralizedTimeFault-unique : (contents : List ℕ) (e d : DecodeFault) → GeneralizedTimeFault contents e →
-    GeneralizedTimeFault contents d → e ≡ d
-GeneralizedTimeFault-unique contents e d p q = p.1 ∙ sym q.1
-
--- contents octets at fault mean no moment
-pub GeneralizedTimeContents-no_fault : (m : Moment) (contents : List ℕ) (e : DecodeFault) →
-    GeneralizedTimeContents m contents
-    → GeneralizedTimeFault contents e → ⊥
-GeneralizedTimeContents-no_fault m contents e p f = f.0 m p
-
 -- the fault of contents octets that mean no moment is one of reading
 IsOfReading-generalized_time_fault : (contents : List ℕ) → IsOfReading (generalized_time_fault contents)
 IsOfReading-generalized_time_fault contents = elim (cases_lt (length contents) 15) [

@@ -34,16 +34,6 @@ ObjectIdentifierContents-unique (v ∷ w ∷ ms) (x ∷ y ∷ ns) contents (b, o
     let second_is : w ≡ y = first.1 in
     cc
 
--- contents octets have at most one fault
-pub ObjectIdentifierFault-unique : (contents : List ℕ) (e d : DecodeFault) → ObjectIdentifierFault contents e
-    → ObjectIdentifierFault contents d → e ≡ d
-ObjectIdentifierFault-unique contents e d p q = p.0 ∙ sym q.0
-
--- contents octets that mean components have no fault
-pub ObjectIdentifierContents-no_fault : (ns contents : List ℕ) (e : DecodeFault) → ObjectIdentifierContents ns contents
-    → ObjectIdentifierFault contents e → ⊥
-ObjectIdentifierContents-no_fault ns contents e p f = f.1 ns p
-
 -- each number is that of a pair of first components
 pub AreFirstTwo-some : (b : ℕ) → (x : ℕ) × (y : ℕ) × AreFirstTwo x y b
 AreFirstTwo-some b = elim (cases_lt b 40) [

@@ -18,13 +18,6 @@ TextContents-unique Utf8 cs ds contents p q = encodes_same cs ds (p.1 ∙ sym q.
 TextContents-unique Printable cs ds contents p q = p.1 ∙ sym q.1
 TextContents-unique Octets cs ds contents p q = p ∙ sym q
 
--- contents octets have at most one fault
-pub TextFault-unique : (form : TextForm) (contents : List ℕ) (e d : DecodeFault) → TextFault form contents e →
-    TextFault form contents d → e ≡ d
-TextFault-unique Utf8 contents e d p q = p.1 ∙ sym q.1
-TextFault-unique Printable contents e d p q = p.1 ∙ sym q.1
-TextFault-unique Octets contents e d p q = absurd p
-
 -- contents octets that mean characters have no fault
 pub TextContents-no_fault : (form : TextForm) (cs contents : List ℕ) (e : DecodeFault) → TextContents form cs contents →
     TextFault form contents e → ⊥

@@ -110,16 +110,6 @@ pub UtcTimeContents-unique : (m n : Moment) (contents : List ℕ) → UtcTimeCon
     m ≡ n
 UtcTimeContents-unique m n contents p q = utc_moment-contents m contents p ∙ sym (utc_moment-contents n contents q)
 
--- contents octets have at most one fault
-pub UtcTimeFault-unique : (contents : List ℕ) (e d : DecodeFault) → UtcTimeFault contents e → UtcTimeFault contents d →
-    e ≡ d
-UtcTimeFault-unique contents e d p q = p.1 ∙ sym q.1
-
--- contents octets at fault mean no moment
-pub UtcTimeContents-no_fault : (m : Moment) (contents : List ℕ) (e : DecodeFault) → UtcTimeContents m contents →
-    UtcTimeFault contents e → ⊥
-UtcTimeContents-no_fault m contents e p f = f.0 m p
-
 -- the fault of contents octets that mean no moment is one of reading
 pub UtcTimeFault-of_reading : (contents : List ℕ) (e : DecodeFault) → UtcTimeFault contents e → IsOfReading e
 UtcTimeFault-of_reading contents e f = subst IsOfReading (sym f.1) tt

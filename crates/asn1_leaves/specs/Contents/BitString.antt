@@ -1,5 +1,5 @@
 -- Contents octets of a BIT STRING (X.690 8.6): the number of its bits, and the octets that hold them.
-use Rattle.std.specs.Prelude.{◌≡◌, ◌==◌, ◌||◌, ◌⊎◌, ℕ, ◌+◌, ◌-◌, ◌*◌, ◌^◌, ◌<◌, ◌≤◌, ◌-ℤ◌, pos, List, [], ◌∷◌, length, nat_lt, if◌then◌else◌, Option, Some, None}
+use Rattle.std.specs.Prelude.{◌≡◌, ◌==◌, ◌||◌, ◌⊎◌, ℕ, ◌+◌, ◌-◌, ◌*◌, ◌^◌, ◌<◌, ◌≤◌, ◌-ℤ◌, pos, List, [], ◌∷◌, length, slice_index, nat_lt, if◌then◌else◌, Option, Some, None}
 use Rattle.asn1_headers.specs.declared.error.ASN1EncodeErr.{ASN1EncodeErr}
 use Rattle.asn1_headers.specs.declared.error.ASN1EncodeErr.TheVariants.{BitStringLength}
 use Rattle.asn1_headers.specs.Fault.{DecodeFault, length_too_large, invalid_bit_string_length}
@@ -10,13 +10,17 @@ abbrev pub BitStringContents : ℕ → List ℕ → List ℕ → Type 0
 BitStringContents n v [] = (n ≡ 0) × (v ≡ [])
 BitStringContents n v (u ∷ contents) = (v ≡ contents) × (n + u ≡ 8 * length v) × (8 * length v < 2 ^ 64)
 
+-- the fault of octets that mean no BIT STRING: fewer bits than are unused, or more than a usize can count
+abbrev pub bit_string_fault : List ℕ → DecodeFault
+bit_string_fault contents =
+    let bits = 8 * (length contents - 1) in
+    if nat_lt bits (2 ^ 64) then invalid_bit_string_length (pos bits -ℤ pos (slice_index contents 0))
+    else length_too_large (length contents)
+
 -- the octets mean no BIT STRING, with this fault
 abbrev pub BitStringFault : List ℕ → DecodeFault → Type 0
-BitStringFault [] fault = ⊥
-BitStringFault (u ∷ v) fault =
-    ((2 ^ 64 ≤ 8 * length v) × (fault ≡ length_too_large (length (u ∷ v))))
-    ⊎ ((8 * length v < 2 ^ 64) × (8 * length v < u)
-    × (fault ≡ invalid_bit_string_length (pos (8 * length v) -ℤ pos u)))
+BitStringFault contents fault =
+    ((n : ℕ) (v : List ℕ) → BitStringContents n v contents → ⊥) × (fault ≡ bit_string_fault contents)
 
 -- the octets that are written: none of no bits, where X.690 8.6.2.3 has the one octet 00
 abbrev pub bit_string_contents : ℕ → List ℕ → List ℕ

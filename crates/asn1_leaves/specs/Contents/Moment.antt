@@ -48,11 +48,7 @@ two_digits n = digit (n / 10) ∷ digit (n % 10) ∷ []
 -- month, day, hour, minute and second: MMDDhhmmss
 abbrev pub from_month : Moment → List ℕ
 from_month m =
-    two_digits m.month
-    ++ (two_digits m.day
-    ++ (two_digits m.hour
-    ++ (two_digits m.minute
-    ++ two_digits m.second)))
+    two_digits m.month ++ (two_digits m.day ++ (two_digits m.hour ++ (two_digits m.minute ++ two_digits m.second)))
 
 -- why a moment can't be written: its year is below 0
 abbrev pub year_write_fault : ℤ → Option ASN1EncodeErr

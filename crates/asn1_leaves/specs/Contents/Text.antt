@@ -8,16 +8,13 @@ use Rattle.asn1_leaves.specs.declared.contents.text.TextForm.TheVariants.{Utf8, 
 use Rattle.asn1_headers.specs.declared.error.ASN1EncodeErr.{ASN1EncodeErr}
 use Rattle.asn1_headers.specs.declared.error.ASN1EncodeErr.TheVariants.{CharacterTooLarge}
 use Rattle.asn1_headers.specs.Fault.{DecodeFault, utf8_fault, printable_string_failure}
-use Rattle.asn1_leaves.specs.StringKind.{StringKind, utf8, printable, teletex, ia5, universal, bmp}
+use Rattle.asn1_leaves.specs.StringKind.{StringKind, printable, ia5}
 
--- the form of a string. X.690 8.23 has UTF-8 for a UTF8String alone
+-- the form of a string: UTF-8 of all but two kinds, where X.690 8.23 has it of a UTF8String alone
 abbrev pub text_form : StringKind → TextForm
-text_form utf8 = Utf8
 text_form printable = Printable
-text_form teletex = Utf8
 text_form ia5 = Octets
-text_form universal = Utf8
-text_form bmp = Utf8
+text_form kind = Utf8
 
 -- the characters of a PrintableString (X.680 table 10)
 abbrev pub is_printable : ℕ → Bool

@@ -30,11 +30,10 @@ century_shown a b =
 
 -- the text of a fault: the number of octets, or each octet as the character of its number
 abbrev pub utc_time_fault : List ℕ → DecodeFault
-utc_time_fault contents = invalid_date_value (
-    if length contents == 13
+utc_time_fault contents =
+    invalid_date_value (if length contents == 13
     then century_shown (slice_index contents 0) (slice_index contents 1) ++ encode_utf8_all contents
-    else decimal (length contents)
-    )
+    else decimal (length contents))
 
 -- the contents octets mean no moment, with this fault
 abbrev pub UtcTimeFault : List ℕ → DecodeFault → Type 0

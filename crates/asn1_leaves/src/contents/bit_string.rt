@@ -18,7 +18,7 @@ pub fn read(alloc: Global, contents: &[u8]) -> Result<(usize, Vec<u8>), ASN1Deco
 
 // Whether the contents octets mean bits.
 #[inline(always)]
-pub fn are_meant(contents: &[u8]) -> bool
+pub fn are_clearly_meant(contents: &[u8]) -> bool
     ensures { IsTrue result → (n : ℕ) × (v : List ℕ) × BitStringContents n v contents.now }
 {
     let Some((unused, octets)) = contents.split_first() else {
@@ -91,7 +91,7 @@ pub fn is_faithful(bits: usize, octets: &[u8]) -> bool
 }
 
 // Whether contents octets are found to be those that are written of what they mean: of no bits none are written.
-pub fn are_canonical(contents: &[u8]) -> bool
+pub fn are_clearly_canonical(contents: &[u8]) -> bool
     ensures { IsTrue result → (n : ℕ) (v : List ℕ) → BitStringContents n v contents.now
         → contents.now ≡ bit_string_contents n v }
 {

@@ -18,7 +18,7 @@ pub fn read(contents: &[u8]) -> Result<bool, ASN1DecodeErr>
 
 // Whether contents octets mean a truth value.
 #[inline(always)]
-pub fn are_meant(contents: &[u8]) -> bool
+pub fn are_clearly_meant(contents: &[u8]) -> bool
     ensures { IsTrue result → (b : Bool) × BooleanContents b contents.now }
 {
     contents.len() == 1
@@ -39,7 +39,7 @@ pub fn push<S: Sink>(value: bool, out: &mut S)
 }
 
 // Whether contents octets are found to be those that are written of what they mean.
-pub fn are_canonical(contents: &[u8]) -> bool
+pub fn are_clearly_canonical(contents: &[u8]) -> bool
     ensures { IsTrue result → (b : Bool) → BooleanContents b contents.now
         → contents.now ≡ boolean_contents b }
 {

@@ -30,7 +30,7 @@ pub fn read(alloc: Global, contents: &[u8]) -> Result<DateTime, ASN1DecodeErr>
 
 // Whether the contents octets mean a moment.
 #[inline(always)]
-pub fn are_meant(contents: &[u8]) -> bool
+pub fn are_clearly_meant(contents: &[u8]) -> bool
     ensures { IsTrue result → (m : Moment) × GeneralizedTimeContents m contents.now }
 {
     moment(contents).is_some()
@@ -278,7 +278,7 @@ pub fn is_faithful(d: &DateTime) -> bool
 // Whether contents octets that mean a moment are those that are written of it: 15 without a fraction, or up to 25 with
 // one of nine digits at most, which a point begins and no 0 ends (X.690 11.7). No digit is read for this.
 #[inline(always)]
-pub fn are_canonical(contents: &[u8]) -> bool
+pub fn are_clearly_canonical(contents: &[u8]) -> bool
     ensures { IsTrue result → (m : Moment) → GeneralizedTimeContents m contents.now
         → contents.now ≡ generalized_time_contents m }
 {

@@ -47,7 +47,7 @@ pub fn is_shortest_integer(contents: &[u8]) -> bool
 }
 
 // Whether contents octets are found to be those that are written of what they mean.
-pub fn are_canonical(contents: &[u8]) -> bool
+pub fn are_clearly_canonical(contents: &[u8]) -> bool
     ensures { IsTrue result → (n : ℤ) → IntegerContents n contents.now
         → contents.now ≡ integer_contents n }
 {

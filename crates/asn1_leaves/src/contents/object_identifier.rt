@@ -70,7 +70,7 @@ pub fn read(alloc: Global, contents: &[u8]) -> Result<Vec<BigUint>, ASN1DecodeEr
 
 // Whether the octets mean components. One octet is of the first two; after it the last octet of all is one of which bit
 // 8 is clear, so that it ends a subidentifier.
-pub fn are_meant(contents: &[u8]) -> bool
+pub fn are_clearly_meant(contents: &[u8]) -> bool
     ensures meant { IsTrue result → (components : List ℕ) × ObjectIdentifierContents components contents.now }
     ensures others { IsFalse result → (components : List ℕ)
         → ObjectIdentifierContents components contents.now → ⊥ }
@@ -87,7 +87,7 @@ pub fn are_meant(contents: &[u8]) -> bool
 // Whether the octets mean components, and no subidentifier begins with 80 (hexadecimal), so that each
 // has its shortest form (X.690 8.19.2). Where none is 80, it is seen at once.
 #[inline(always)]
-pub fn are_shortest(contents: &[u8]) -> bool
+pub fn are_clearly_shortest(contents: &[u8]) -> bool
     ensures meant { IsTrue result → (components : List ℕ) × ObjectIdentifierContents components contents.now }
     ensures shortest { IsTrue result → (components : List ℕ)
         → ObjectIdentifierContents components contents.now

@@ -32,7 +32,7 @@ pub fn read(alloc: Global, form: TextForm, contents: &[u8]) -> Result<String, AS
 
 // Whether the contents octets are characters.
 #[inline(always)]
-pub fn are_meant(form: TextForm, contents: &[u8]) -> bool
+pub fn are_clearly_meant(form: TextForm, contents: &[u8]) -> bool
     ensures { IsTrue result → (cs : List ℕ) × TextContents form cs contents.now }
 {
     match form {

@@ -24,7 +24,7 @@ pub fn read(alloc: Global, contents: &[u8]) -> Result<DateTime, ASN1DecodeErr>
 
 // Whether the contents octets mean a moment. A day that each month has is seen by its digits.
 #[inline(never)]
-pub fn are_meant(contents: &[u8]) -> bool
+pub fn are_clearly_meant(contents: &[u8]) -> bool
     ensures { IsTrue result → (m : Moment) × UtcTimeContents m contents.now }
 {
     are_common(contents) || moment(contents).is_some()

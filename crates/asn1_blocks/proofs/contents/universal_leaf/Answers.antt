@@ -1,25 +1,12 @@
 -- For `contents::universal_leaf`: what it returns is right (`refused`, `found`).
-use Rattle.std.proofs.Common.{◌≡◌, ℕ, List, Option, Result, Ok, Err, IsErr, IsErrAnd, IfErr, inl, inr, sym, ◌∙◌, subst, arith}
+use Rattle.std.proofs.Common.{◌≡◌, [], true, inr, arith}
 use Rattle.std.proofs.lemmas.Grind.{common_steps}
-use Rattle.asn1_blocks.specs.declared.block.ASN1Block.{ASN1Block}
-use Rattle.asn1_headers.specs.declared.error.ASN1DecodeErr.{ASN1DecodeErr}
-use Rattle.asn1_headers.specs.declared.tags.TheConstants.{BMP_STRING, PRINTABLE_STRING, TELETEX_STRING, UNIVERSAL_STRING, UTF8_STRING}
-use Rattle.asn1_headers.specs.Fault.{fault_of, OutOfMemoryOr}
-use Rattle.asn1_leaves.specs.StringKind.{StringKind, utf8, printable, teletex, universal, bmp}
-use Rattle.asn1_blocks.specs.Contents.{string_tag, LeafFault, of_text}
-use Rattle.asn1_leaves.specs.Contents.Text.{text_form, TextFault}
+use Rattle.asn1_headers.specs.declared.tags.TheConstants.{BIT_STRING, BMP_STRING, BOOLEAN, GENERALIZED_TIME, OBJECT_IDENTIFIER, PRINTABLE_STRING, TELETEX_STRING, UNIVERSAL_STRING, UTC_TIME, UTF8_STRING}
+use Rattle.asn1_leaves.specs.StringKind.{utf8, printable, teletex, universal, bmp}
+use Rattle.asn1_blocks.specs.Tree.{boolean, bit_string, object_identifier, utc_time, generalized_time}
+use Rattle.asn1_blocks.proofs.KindFaults.{IfErr-kind_fault, IfErr-text_fault}
+use Rattle.asn1_blocks.proofs.Leaves.{some_moment}
 use Rattle.asn1_blocks.proofs.contents.universal_leaf.Goals as goal
-
--- the fault of a string of characters is a fault of contents octets with its tag
-IfErr-text_fault : (kind : StringKind) (tag : ℕ) (contents : List ℕ) (d : ASN1DecodeErr)
-    (r : Result (Option ASN1Block) ASN1DecodeErr)
-    → IsErr r × IsErrAnd r (λ e. e ≡ d)
-    → tag ≡ string_tag kind → OutOfMemoryOr (TextFault (text_form kind) contents) d →
-    IfErr r (OutOfMemoryOr (LeafFault tag contents))
-IfErr-text_fault kind tag contents d (Ok x) h t f = tt
-IfErr-text_fault kind tag contents d (Err e) h t (inl memory) = inl (h.1 ∙ memory)
-IfErr-text_fault kind tag contents d (Err e) h t (inr f) =
-    inr (of_text kind t (subst (λ z. TextFault (text_form kind) contents (fault_of z)) (sym h.1) f))
 
 pub returns-in_err-read-in-Some-eq12-clause-refused : goal.returns-in_err-read-in-Some-eq12-clause-refused
 returns-in_err-read-in-Some-eq12-clause-refused c =
@@ -55,7 +42,11 @@ pub returns-in_err-read-in-Some-eq1-clause-found : goal.returns-in_err-read-in-S
 returns-in_err-read-in-Some-eq1-clause-found c = grind (arith, common_steps)
 
 pub returns-in_err-read-in-Some-eq1-clause-refused : goal.returns-in_err-read-in-Some-eq1-clause-refused
-returns-in_err-read-in-Some-eq1-clause-refused c = grind (arith, common_steps)
+returns-in_err-read-in-Some-eq1-clause-refused c =
+    let t : c.args.tag.now ≡ BOOLEAN = grind (arith, common_steps) in
+    IfErr-kind_fault (boolean true) c.args.tag.now c.args.contents.now _
+    c.from_residual.result c.from_residual.ensures t
+    (inr c.in_err-read-in-Some-eq1.ensures.refused)
 
 pub returns-in_err-read-in-Some-eq2-clause-found : goal.returns-in_err-read-in-Some-eq2-clause-found
 returns-in_err-read-in-Some-eq2-clause-found c = grind (arith, common_steps)
@@ -67,7 +58,11 @@ pub returns-in_err-bits-in-Some-eq3-clause-found : goal.returns-in_err-bits-in-S
 returns-in_err-bits-in-Some-eq3-clause-found c = grind (arith, common_steps)
 
 pub returns-in_err-bits-in-Some-eq3-clause-refused : goal.returns-in_err-bits-in-Some-eq3-clause-refused
-returns-in_err-bits-in-Some-eq3-clause-refused c = grind (arith, common_steps)
+returns-in_err-bits-in-Some-eq3-clause-refused c =
+    let t : c.args.tag.now ≡ BIT_STRING = grind (arith, common_steps) in
+    IfErr-kind_fault (bit_string 0 []) c.args.tag.now c.args.contents.now _
+    c.from_residual-in_err-bits-in-Some-eq3.result c.from_residual-in_err-bits-in-Some-eq3.ensures t
+    c.in_err-bits-in-Some-eq3.ensures.refused
 
 pub returns-in_err-from_slice-in-Some-eq4-clause-found : goal.returns-in_err-from_slice-in-Some-eq4-clause-found
 returns-in_err-from_slice-in-Some-eq4-clause-found c = grind (arith, common_steps)
@@ -79,7 +74,11 @@ pub returns-in_err-read-in-Some-eq6-clause-found : goal.returns-in_err-read-in-S
 returns-in_err-read-in-Some-eq6-clause-found c = grind (arith, common_steps)
 
 pub returns-in_err-read-in-Some-eq6-clause-refused : goal.returns-in_err-read-in-Some-eq6-clause-refused
-returns-in_err-read-in-Some-eq6-clause-refused c = grind (arith, common_steps)
+returns-in_err-read-in-Some-eq6-clause-refused c =
+    let t : c.args.tag.now ≡ OBJECT_IDENTIFIER = grind (arith, common_steps) in
+    IfErr-kind_fault (object_identifier []) c.args.tag.now c.args.contents.now _
+    c.from_residual-in_err-read-in-Some-eq6.result c.from_residual-in_err-read-in-Some-eq6.ensures t
+    c.in_err-read-in-Some-eq6.ensures.refused
 
 pub returns-in_err-read-in-Some-eq12-clause-found : goal.returns-in_err-read-in-Some-eq12-clause-found
 returns-in_err-read-in-Some-eq12-clause-found c = grind (arith, common_steps)
@@ -100,13 +99,21 @@ pub returns-in_err-read-in-Some-eq23-clause-found : goal.returns-in_err-read-in-
 returns-in_err-read-in-Some-eq23-clause-found c = grind (arith, common_steps)
 
 pub returns-in_err-read-in-Some-eq23-clause-refused : goal.returns-in_err-read-in-Some-eq23-clause-refused
-returns-in_err-read-in-Some-eq23-clause-refused c = grind (arith, common_steps)
+returns-in_err-read-in-Some-eq23-clause-refused c =
+    let t : c.args.tag.now ≡ UTC_TIME = grind (arith, common_steps) in
+    IfErr-kind_fault (utc_time some_moment) c.args.tag.now c.args.contents.now _
+    c.from_residual-in_err-read-in-Some-eq23.result c.from_residual-in_err-read-in-Some-eq23.ensures t
+    c.in_err-read-in-Some-eq23.ensures.refused
 
 pub returns-in_err-read-in-Some-eq24-clause-found : goal.returns-in_err-read-in-Some-eq24-clause-found
 returns-in_err-read-in-Some-eq24-clause-found c = grind (arith, common_steps)
 
 pub returns-in_err-read-in-Some-eq24-clause-refused : goal.returns-in_err-read-in-Some-eq24-clause-refused
-returns-in_err-read-in-Some-eq24-clause-refused c = grind (arith, common_steps)
+returns-in_err-read-in-Some-eq24-clause-refused c =
+    let t : c.args.tag.now ≡ GENERALIZED_TIME = grind (arith, common_steps) in
+    IfErr-kind_fault (generalized_time some_moment) c.args.tag.now c.args.contents.now _
+    c.from_residual-in_err-read-in-Some-eq24.result c.from_residual-in_err-read-in-Some-eq24.ensures t
+    c.in_err-read-in-Some-eq24.ensures.refused
 
 pub returns-in_err-read-in-Some-eq28-clause-found : goal.returns-in_err-read-in-Some-eq28-clause-found
 returns-in_err-read-in-Some-eq28-clause-found c = grind (arith, common_steps)

@@ -1,10 +1,10 @@
 -- For `block_ref::BlockRef::bits`: what it returns is right, and memory is the only error.
-use Rattle.std.proofs.Common.{inl, inr, ap, refl}
+use Rattle.std.proofs.Common.{[], inl, inr, ap, refl}
 use Rattle.asn1_headers.specs.Fault.{fault_of}
 use Rattle.asn1_blocks.specs.BlockParts.{tree_bits}
-use Rattle.asn1_blocks.specs.Contents.{of_bit_string}
 use Rattle.asn1_blocks.specs.Tree.{bit_string}
 use Rattle.asn1_blocks.specs.View.{tree_offset}
+use Rattle.asn1_blocks.proofs.Leaves.{LeafFault-kind}
 use Rattle.asn1_outline.proofs.BlockRefs.{never-entry}
 use Rattle.asn1_outline.proofs.Values.{IsLeafOf-no_fault, IsLeafOf-leaf, tree_bits-none}
 use Rattle.asn1_outline.proofs.block_ref.BlockRef.bits.Goals as goal
@@ -25,5 +25,5 @@ out_of_memory-requires c = elim c.in-Err.ensures.refused [
   | inr fault ↦
       absurd (never-entry c.args.self.now.octets.now c.args.self.now.entry c.args.self.now.tree (λ b e.
       IsLeafOf-no_fault (tree_offset b) 3 c.in-Some.contents.now b (fault_of c.in-Err.fault) (c.in-Some.ensures b e)
-      (of_bit_string refl fault)))
+      (LeafFault-kind (bit_string 0 []) 3 _ _ refl fault)))
 ]

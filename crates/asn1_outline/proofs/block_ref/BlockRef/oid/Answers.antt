@@ -1,10 +1,10 @@
 -- For `block_ref::BlockRef::oid`: what it returns is right, and memory is the only error.
-use Rattle.std.proofs.Common.{inl, inr, ap, refl}
+use Rattle.std.proofs.Common.{[], inl, inr, ap, refl}
 use Rattle.asn1_headers.specs.Fault.{fault_of}
 use Rattle.asn1_blocks.specs.BlockParts.{tree_oid}
-use Rattle.asn1_blocks.specs.Contents.{of_object_identifier}
 use Rattle.asn1_blocks.specs.Tree.{object_identifier}
 use Rattle.asn1_blocks.specs.View.{tree_offset}
+use Rattle.asn1_blocks.proofs.Leaves.{LeafFault-kind}
 use Rattle.asn1_outline.proofs.BlockRefs.{never-entry}
 use Rattle.asn1_outline.proofs.Values.{IsLeafOf-no_fault, IsLeafOf-leaf, tree_oid-none}
 use Rattle.asn1_outline.proofs.block_ref.BlockRef.oid.Goals as goal
@@ -24,5 +24,5 @@ out_of_memory-requires c = elim c.in-Err.ensures.refused [
   | inr fault ↦
       absurd (never-entry c.args.self.now.octets.now c.args.self.now.entry c.args.self.now.tree (λ b e.
       IsLeafOf-no_fault (tree_offset b) 6 c.in-Some.contents.now b (fault_of c.in-Err.fault) (c.in-Some.ensures b e)
-      (of_object_identifier refl fault)))
+      (LeafFault-kind (object_identifier []) 6 _ _ refl fault)))
 ]

@@ -1,8 +1,8 @@
--- For `canonical::is_canonical`: what it returns is right, and the entry's encoding is there.
+-- For `canonical::is_clearly_canonical`: what it returns is right, and the entry's encoding is there.
 use Rattle.std.proofs.Common.{subst, arith}
 use Rattle.asn1_writing.specs.Inner.CanonicalEncoding.{BeginsCanonical}
 use Rattle.asn1_outline.proofs.CanonicalEntries.{HasCanonicalAt-front, HasHeaderAt-within}
-use Rattle.asn1_outline.proofs.canonical.is_canonical.Goals as goal
+use Rattle.asn1_outline.proofs.canonical.is_clearly_canonical.Goals as goal
 
 pub split_at-requires : goal.split_at-requires
 split_at-requires c = omega (arith, HasHeaderAt-within c.args.octets.now c.args.entry.now c.requires)

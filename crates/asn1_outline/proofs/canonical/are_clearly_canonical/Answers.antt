@@ -1,10 +1,10 @@
--- For `canonical::are_canonical_by_entries`: what it returns is right and `is_canonical` may be called.
+-- For `canonical::are_clearly_canonical`: what it returns is right and `is_clearly_canonical` may be called.
 use Rattle.std.proofs.Common.{arith}
 use Rattle.asn1_outline.proofs.CanonicalEntries.{all_canonical-entries, HasHeaderAt-get_or}
-use Rattle.asn1_outline.proofs.canonical.are_canonical_by_entries.Goals as goal
+use Rattle.asn1_outline.proofs.canonical.are_clearly_canonical.Goals as goal
 
-pub is_canonical-requires : goal.is_canonical-requires
-is_canonical-requires c =
+pub is_clearly_canonical-requires : goal.is_clearly_canonical-requires
+is_clearly_canonical-requires c =
     let (bs, document, are) = c.requires in
     HasHeaderAt-get_or c.args.octets.now bs c.args.entries.now are c.loop-entry.entry-index
     (omega (arith, c.loop-entry-test.true))

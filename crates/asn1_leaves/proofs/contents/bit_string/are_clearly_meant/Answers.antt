@@ -1,8 +1,8 @@
--- For `contents::bit_string::are_meant`: what it returns is right.
+-- For `contents::bit_string::are_clearly_meant`: what it returns is right.
 use Rattle.std.proofs.Common.{◌≡◌, ◌-◌, ◌*◌, ◌<◌, ◌≤◌, ◌^◌, [], ◌∷◌, length, refl, subst, sym, arith}
 use Rattle.std.proofs.lemmas.Grind.{common_steps}
 use Rattle.asn1_leaves.specs.Contents.BitString.{BitStringContents}
-use Rattle.asn1_leaves.proofs.contents.bit_string.are_meant.Goals as goal
+use Rattle.asn1_leaves.proofs.contents.bit_string.are_clearly_meant.Goals as goal
 
 pub returns-in_default : goal.returns-in_default
 returns-in_default c is_true =

@@ -1,10 +1,10 @@
--- For `contents::text::are_meant`: what it returns is right.
+-- For `contents::text::are_clearly_meant`: what it returns is right.
 use Rattle.std.proofs.Common.{◌≡◌, true, refl, subst, sym, arith}
 use Rattle.std.specs.Prelude.{IsUtf8}
 use Rattle.std.specs.List.{list_all}
 use Rattle.std.proofs.lemmas.Grind.{common_steps}
 use Rattle.asn1_leaves.specs.Contents.Text.{TextContents, is_printable}
-use Rattle.asn1_leaves.proofs.contents.text.are_meant.Goals as goal
+use Rattle.asn1_leaves.proofs.contents.text.are_clearly_meant.Goals as goal
 
 pub returns-in-Utf8 : goal.returns-in-Utf8
 returns-in-Utf8 c is_true =

@@ -1,9 +1,9 @@
--- For `contents::object_identifier::are_meant`: what it returns is right (`meant`, `others`).
+-- For `contents::object_identifier::are_clearly_meant`: what it returns is right (`meant`, `others`).
 use Rattle.std.proofs.Common.{◌≡◌, ◌-◌, ◌∷◌, ◌<◌, ◌≤◌, length, get_or, subst, sym, arith}
 use Rattle.std.proofs.lemmas.Grind.{common_steps}
 use Rattle.asn1_leaves.specs.Contents.ObjectIdentifier.{ObjectIdentifierContents}
 use Rattle.asn1_leaves.proofs.Leaves.ObjectIdentifier.{ObjectIdentifierContents-ended, ObjectIdentifierContents-unended}
-use Rattle.asn1_leaves.proofs.contents.object_identifier.are_meant.Goals as goal
+use Rattle.asn1_leaves.proofs.contents.object_identifier.are_clearly_meant.Goals as goal
 
 pub returns-in-Some-last-clause-meant : goal.returns-in-Some-last-clause-meant
 returns-in-Some-last-clause-meant c low =

@@ -1,11 +1,11 @@
--- For `contents::object_identifier::are_shortest`: what it returns is right (`meant`, `shortest`).
+-- For `contents::object_identifier::are_clearly_shortest`: what it returns is right (`meant`, `shortest`).
 use Rattle.std.proofs.Common.{◌≡◌, ◌≢◌, ℕ, ◌∷◌, ◌∙◌, ◌-◌, ◌<◌, IsTrue, get_or, length, sym, subst, arith, true}
 use Rattle.std.proofs.lemmas.Grind.{common_steps}
 use Rattle.std.proofs.lemmas.List.Elements.{All-from_get_or}
 use Rattle.asn1_numbers.specs.Octets.{AreOctets}
 use Rattle.asn1_leaves.specs.Contents.ObjectIdentifier.{ObjectIdentifierContents}
 use Rattle.asn1_leaves.proofs.ShortSubidentifiers.{NoneLeads, NoneLeads-components, NoneLeads-object_identifier_contents, NoneLeads-without_80}
-use Rattle.asn1_leaves.proofs.contents.object_identifier.are_shortest.Goals as goal
+use Rattle.asn1_leaves.proofs.contents.object_identifier.are_clearly_shortest.Goals as goal
 
 pub returns-then-is_empty-clause-meant : goal.returns-then-is_empty-clause-meant
 returns-then-is_empty-clause-meant c is_true =

@@ -1,9 +1,9 @@
--- For `contents::generalized_time::are_canonical`: what it returns is right.
+-- For `contents::generalized_time::are_clearly_canonical`: what it returns is right.
 use Rattle.std.proofs.Common.{◌≡◌, ◌≢◌, ◌-◌, get_or, length, arith}
 use Rattle.std.proofs.lemmas.Bool.Decides.{nat_tests}
 use Rattle.std.proofs.lemmas.Grind.{common_steps}
 use Rattle.asn1_leaves.proofs.CanonicalTimes.{GeneralizedTimeContents-with_fraction}
-use Rattle.asn1_leaves.proofs.contents.generalized_time.are_canonical.Goals as goal
+use Rattle.asn1_leaves.proofs.contents.generalized_time.are_clearly_canonical.Goals as goal
 
 pub returns-then-contents-eq46 : goal.returns-then-contents-eq46
 returns-then-contents-eq46 c is_true m p =

@@ -1,8 +1,8 @@
--- For `canonical::are_canonical_by_entries`: what each turn of its loop keeps.
+-- For `canonical::are_clearly_canonical`: what each turn of its loop keeps.
 use Rattle.std.proofs.Common.{ℕ, ◌<◌, get_or}
 use Rattle.asn1_outline.specs.Entries.{no_entry}
 use Rattle.asn1_outline.specs.Inner.InEntries.{HasCanonicalAt}
-use Rattle.asn1_outline.proofs.canonical.are_canonical_by_entries.Given as goal
+use Rattle.asn1_outline.proofs.canonical.are_clearly_canonical.Given as goal
 
 -- the entries before this one are canonical
 abbrev pub invariant-loop-entry : goal.invariant-loop-entry

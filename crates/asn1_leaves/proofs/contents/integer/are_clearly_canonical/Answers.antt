@@ -1,11 +1,11 @@
--- For `contents::integer::are_canonical`: what it returns is right.
+-- For `contents::integer::are_clearly_canonical`: what it returns is right.
 use Rattle.std.proofs.Common.{◌≡◌, ◌≢◌, ◌+◌, ◌<◌, ℕ, List, [], ◌∷◌, true, get_or, length, sym, ap, ◌∙◌, arith}
 use Rattle.std.proofs.lemmas.Bool.{false≢true}
 use Rattle.std.proofs.lemmas.Bool.Decides.{nat_tests}
 use Rattle.asn1_numbers.specs.TwosComplement.{shortest_octets}
 use Rattle.asn1_numbers.proofs.SignedNumbers.{IsShortestSigned-drop, sign_before}
 use Rattle.asn1_leaves.specs.Contents.Integer.{is_shortest_integer}
-use Rattle.asn1_leaves.proofs.contents.integer.are_canonical.Goals as goal
+use Rattle.asn1_leaves.proofs.contents.integer.are_clearly_canonical.Goals as goal
 
 -- of shortest contents octets the first is needed: it is not the sign of the second
 is_shortest_integer-needed : (contents : List ℕ) → is_shortest_integer contents ≡ true →

@@ -1,12 +1,12 @@
--- For `canonical::is_shortest`: what it returns is right, no sum or product is too large, and no index is out
+-- For `canonical::is_clearly_shortest`: what it returns is right, no sum or product is too large, and no index is out
 -- of bounds.
 use Rattle.std.proofs.Common.{◌≡◌, ◌≢◌, ◌+◌, ◌-◌, ◌<◌, get_or, arith}
 use Rattle.std.specs.Prelude.{All}
 use Rattle.std.proofs.lemmas.Bool.{eqb-true}
 use Rattle.std.proofs.lemmas.List.Elements.{All-from_get_or}
 use Rattle.asn1_outline.proofs.CanonicalEntries.{HasHeaderAt-two_le, HasHeaderAt-within, length-short_length, HasShortestAt-of_size}
-use Rattle.asn1_outline.proofs.canonical.is_shortest.Goals as goal
-use Rattle.asn1_outline.proofs.canonical.is_shortest.Goals.{else-entry-eq0-via-then-entry-eq0+else-octets-entry, else-entry-eq0-via-else-entry-eq0}
+use Rattle.asn1_outline.proofs.canonical.is_clearly_shortest.Goals as goal
+use Rattle.asn1_outline.proofs.canonical.is_clearly_shortest.Goals.{else-entry-eq0-via-then-entry-eq0+else-octets-entry, else-entry-eq0-via-else-entry-eq0}
 
 pub overflow_add-entry : goal.overflow_add-entry
 overflow_add-entry c = omega (arith, HasHeaderAt-within c.args.octets.now c.args.entry.now c.requires)
