@@ -1,6 +1,6 @@
 -- What encodings one after another begin with, an encoding or end-of-contents octets, for `encodings`, `listing` and
 -- `laws::law_departures`.
-use Rattle.std.proofs.Common.{◌≡◌, ℕ, ◌+◌, ◌<◌, ◌≤◌, ◌^◌, Bool, true, false, List, [], ◌∷◌, ◌++◌, inl, length, refl, sym, ap, ◌∙◌, subst, arith, length-append}
+use Rattle.std.proofs.Common.{◌≡◌, ℕ, ◌+◌, ◌<◌, ◌^◌, Bool, true, false, List, [], ◌∷◌, ◌++◌, inl, length, drop, refl, sym, ap, ◌∙◌, subst, arith, append-nil, length-append}
 use Rattle.std.proofs.lemmas.Bool.{and_parts}
 use Rattle.std.specs.Prelude.{◌&&◌, nat_lt, suc, if◌then◌else◌}
 use Rattle.asn1_headers.specs.Header.{Encoding}
@@ -9,7 +9,8 @@ use Rattle.asn1_headers.specs.declared.header.ASN1Class.TheVariants.{Universal}
 use Rattle.asn1_headers.proofs.Prefixes.{Encoding-not_empty, Encoding-same_parts, Encoding-unique}
 use Rattle.asn1_der.specs.Der.{AreDerEncodings, IsDerEncoding, more_encodings, no_encodings}
 use Rattle.asn1_der.proofs.DerEncodings.{Encoding-der, is_indefinite-der}
-use Rattle.asn1_blocks.specs.Places.{HasNoEncodingAt}
+use Rattle.asn1_blocks.specs.Places.{HasNoEncodingAt, IsEncoding}
+use Rattle.asn1_headers.proofs.IndefiniteForms.{begins_with_end-cons}
 use Rattle.asn1_der.specs.Listing.{is_at_end}
 use Rattle.asn1_der.specs.Departures.{AreEncodings, IsNext, end_of_contents, next, no_more, unended_behind}
 use Rattle.asn1_headers.specs.Indefinite.{begins_with_end, is_indefinite}
@@ -135,16 +136,16 @@ is_at_end-none_in_front u x first rest w t some is =
     let no : begins_with_end x ≡ false = begins_with_end-not_at_end u x t some in
     absurd cc
 
--- behind an encoding at most one encoding more is open than before it
-pub unended-le : (o : Bool) (u v : ℕ) → v ≡ (if o then suc u else u) → v ≤ u + 1
-unended-le true u v e = omega (arith, e)
-unended-le false u v e = omega (arith, e)
+-- an encoding that begins with end-of-contents octets is these alone
+pub IsEncoding-begins_with_end : (x : List ℕ) → IsEncoding x → begins_with_end x ≡ true → x ≡ 0 ∷ 0 ∷ []
+IsEncoding-begins_with_end x is end =
+    Encoding-is_end_of_contents x x [] (drop 2 x) is.class is.constructed is.tag is.contents is.header is.encoding
+    (sym (append-nil x)) (begins_with_end-cons x end)
 
--- octets, one or more, with no encoding in front and no end-of-contents octets that close one are no encodings
-pub AreEncodings-some_here :
-    (u : ℕ) (x : List ℕ) → HasNoEncodingAt x 0 → is_at_end u x ≡ false → 0 < length x → AreEncodings u x → ⊥
-AreEncodings-some_here u x none t some (no_more z e) = omega (arith, some, ap length e)
-AreEncodings-some_here u x none t some (next {first = f} {rest = r} n a) = none f (record {
+-- octets with no encoding in front are encodings only if there are no octets, and no encoding is open
+pub AreEncodings-none_here : (u : ℕ) (x : List ℕ) → HasNoEncodingAt x 0 → AreEncodings u x → (u ≡ 0) × (x ≡ [])
+AreEncodings-none_here u x none (no_more z e) = (z, e)
+AreEncodings-none_here u x none (next {first = f} {rest = r} n a) = absurd (none f (record {
   rest = r;
   at_offset = n.whole;
   encoding = record {
@@ -155,8 +156,17 @@ AreEncodings-some_here u x none t some (next {first = f} {rest = r} n a) = none 
     header = n.header;
     encoding = n.encoding;
   };
-})
-AreEncodings-some_here u x none t some (end_of_contents more e a) =
-    let yes : begins_with_end x ≡ true = ap begins_with_end e in
-    let no : begins_with_end x ≡ false = begins_with_end-not_at_end u x t (omega (arith, more)) in
-    absurd cc
+}))
+AreEncodings-none_here u x none (end_of_contents {rest = r} more e a) =
+    absurd (none (0 ∷ 0 ∷ []) (record {
+      rest = r;
+      at_offset = e;
+      encoding = record {
+        class = Universal;
+        constructed = false;
+        tag = 0;
+        contents = [];
+        header = 2;
+        encoding = Encoding-end_of_contents;
+      };
+    }))

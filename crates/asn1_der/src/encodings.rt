@@ -1,12 +1,12 @@
 // Encodings one after another by their headers.
-ghost use Rattle.std.specs.Prelude.{◌≡◌, ◌↔◌, ◌-◌, ◌<◌, ◌+◌, ◌^◌, Bool, ℕ, suc, if◌then◌else◌, IfNone, IfSome, IsTrue, length};
+ghost use Rattle.std.specs.Prelude.{◌≡◌, ◌↔◌, ◌<◌, ◌≤◌, ◌+◌, ◌++◌, ◌^◌, Bool, List, ℕ, IsTrue};
 ghost use Rattle.asn1_headers.specs.Header.{IsIdentifier};
 ghost use Rattle.asn1_headers.specs.declared.header.ASN1Class.{ASN1Class};
 ghost use Rattle.asn1_blocks.specs.Places.{IsEncoding};
 ghost use Rattle.asn1_der.specs.Departures.{AreEncodings, is_open as is_open_is};
 ghost use Rattle.asn1_der.specs.Listing.{is_at_end as is_at_end_is};
 
-use asn1_blocks::encoding::encoding_at;
+use asn1_blocks::encoding::Encodings;
 use asn1_headers::header::split_identifier;
 use asn1_headers::indefinite::{begins_with_end, is_indefinite};
 
@@ -48,36 +48,25 @@ pub fn are_encodings(octets: &[u8]) -> bool
     ensures { IsTrue result ↔ AreEncodings 0 octets.now }
 {
     let mut unended = 0;
-    let mut rest = octets;
-    while let Some((count, behind)) = behind_next(unended, rest) {
-        unended = count;
-        rest = behind;
+    let mut encodings = Encodings::of(octets);
+    while let Some(encoding) = encodings.next() {
+        unended = unended_behind(unended, encoding);
     }
-    rest.is_empty() && unended == 0
+    encodings.rest.is_empty() && unended == 0
 }
 
-// What follows one encoding, the header of one that is open, or end-of-contents octets, and how many are open there.
-fn behind_next(unended: usize, octets: &[u8]) -> Option<(usize, &[u8])>
-    requires { unended + length octets.now < 2 ^ 64 }
-    ensures same { IfSome result (λ next. AreEncodings unended octets.now ↔ AreEncodings next.0 next.1.now) }
-    ensures less { IfSome result (λ next. next.0 + length next.1.now < unended + length octets.now) }
-    ensures none { IfNone result (AreEncodings unended octets.now → length octets.now ≡ 0) }
-{
-    if is_at_end(unended, octets) {
-        let (_, behind) = octets.split_at(2);
-        return Some((unended - 1, behind));
-    }
-    let Some(encoding) = encoding_at(octets, 0) else {
-        return None;
-    };
-    let (_, behind) = octets.split_at(encoding.len());
-    Some((unended_behind(unended, is_open_encoding(encoding)), behind))
-}
-
-// How many are open behind a header.
-fn unended_behind(unended: usize, is_open: bool) -> usize
+// How many encodings are open behind one, or behind end-of-contents octets, which are an encoding by their header.
+fn unended_behind(unended: usize, encoding: &[u8]) -> usize
     requires { unended + 1 < 2 ^ 64 }
-    ensures { result ≡ if is_open then suc unended else unended }
+    ensures same { (rest : List ℕ) → IsEncoding encoding.now →
+        AreEncodings unended (encoding.now ++ rest) ↔ AreEncodings result rest }
+    ensures more { result ≤ unended + 1 }
 {
-    if is_open { unended + 1 } else { unended }
+    if is_at_end(unended, encoding) {
+        unended - 1
+    } else if is_open_encoding(encoding) {
+        unended + 1
+    } else {
+        unended
+    }
 }

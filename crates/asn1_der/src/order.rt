@@ -8,7 +8,7 @@ ghost use Rattle.asn1_blocks.specs.Places.{IsEncoding};
 ghost use Rattle.asn1_der.specs.Der.{AreDerEncodings, Ascend, HasLessTag, IsInOrder, is_less_tag, is_not_greater as is_not_greater_is};
 ghost use Rattle.asn1_der.specs.Steps.{IsFront, MayFollow, MayStandBefore, behind};
 
-use asn1_blocks::encoding::encoding_at;
+use asn1_blocks::encoding::Encodings;
 use asn1_headers::header::identifier_at;
 use std::cmp::Ordering;
 
@@ -31,14 +31,11 @@ fn ascend(order: Order, contents: &[u8]) -> bool
         IsTrue result ↔ Ascend (MayStandBefore order) items }
 {
     let mut before: Option<&[u8]> = None;
-    let mut rest = contents;
-    while let Some(encoding) = encoding_at(rest, 0) {
+    for encoding in Encodings::of(contents) {
         if !may_follow(order, before, encoding) {
             return false;
         }
-        let (_, after) = rest.split_at(encoding.len().min(rest.len()));
         before = Some(encoding);
-        rest = after;
     }
     true
 }

@@ -1,14 +1,14 @@
 // Encodings one after another, found by their headers: no entries are kept. A constructed encoding of another class
 // than Universal holds encodings if its contents octets are such.
-ghost use Rattle.std.specs.Prelude.{◌≡◌, ◌≤◌, ◌↔◌, ℕ, IfOk, IfSome, IsTrue, false, length};
+ghost use Rattle.std.specs.Prelude.{◌≡◌, ◌≤◌, ℕ, IfOk, IfSome, IsTrue, false, length};
 ghost use Rattle.asn1_headers.specs.Fault.{DecodeFault};
-ghost use Rattle.asn1_headers.specs.declared.header.ASN1Class.TheVariants.{Universal};
-ghost use Rattle.asn1_blocks.specs.HeadersBegun.{IsReadInside};
 ghost use Rattle.asn1_outline.specs.Shapes.{AreShapes, HasItems, HeadersFaultAt, Shapes};
 ghost use Rattle.asn1_records.specs.Inner.Named.{IsNamedEncoding, IsPlacedIn, shapes_from};
 
+use asn1_blocks::encoding::Encodings;
 use asn1_blocks::parsed::{PlacedHeader, header_between};
-use asn1_blocks::read_loop::is_read_inside;
+use asn1_blocks::read_loop::{is_out_of_memory, is_read_inside};
+use asn1_outline::header_walk::check_headers;
 use simple_asn1::ASN1Class;
 use std::alloc::{AllocError, Global};
 
@@ -33,13 +33,13 @@ pub fn item_from(
     ensures item { (all : Shapes) → AreShapes octets.now start end all
         → IfOk result (IsNamedEncoding octets.now (shapes_from step all)) }
 {
-    let mut offset = start;
+    let mut encodings = Encodings::of(&octets[start..end]);
     for _ in 0..step {
-        let Some(header) = header_between(alloc, octets, offset, end)? else {
+        let Some(_) = encodings.next() else {
             return Ok(None);
         };
-        offset = header.end;
     }
+    let offset = end - encodings.rest.len();
     match header_between(alloc, octets, offset, end)? {
         Some(header) => Ok(Some(PlacedEncoding { offset, header })),
         None => Ok(None),
@@ -85,19 +85,7 @@ fn holds_items(alloc: Global, octets: &[u8], encoding: &PlacedEncoding) -> Resul
     }
 }
 
-// Whether a SEQUENCE or SET has the header.
-fn is_group(header: &PlacedHeader) -> bool
-    ensures { IsTrue result ↔ ((header.now.class ≡ Universal)
-        × IsReadInside header.now.class header.now.constructed header.now.tag) }
-{
-    match header.class {
-        ASN1Class::Universal => is_read_inside(header),
-        _ => false,
-    }
-}
-
-// Whether octets from the start to the end are encodings, one after another, also in each SEQUENCE and SET. What stands
-// in encodings of other classes is no matter: a fault in there is theirs alone.
+// Whether octets from the start to the end are encodings, one after another, as far as headers tell, or none.
 fn are_encodings(alloc: Global, octets: &[u8], start: usize, end: usize) -> Result<bool, AllocError>
     requires order { start ≤ end }
     requires within { end ≤ length octets.now }
@@ -105,26 +93,16 @@ fn are_encodings(alloc: Global, octets: &[u8], start: usize, end: usize) -> Resu
         → (fault : DecodeFault) (offset : ℕ) → HeadersFaultAt octets.now start start end fault offset → ⊥) }
     ensures no { IfOk result (λ yes. yes ≡ false → (all : Shapes) → AreShapes octets.now start end all → ⊥) }
 {
-    let mut offset = start;
-    let mut limit = end;
-    let mut limits = Vec::new(alloc);
-    'turns: loop {
-        if offset == limit {
-            let Some(outer) = limits.pop() else {
-                return Ok(true);
-            };
-            limit = outer;
-            continue 'turns;
+    if start == end {
+        return Ok(true);
+    }
+    match check_headers(alloc, &octets[start..end]) {
+        Ok(()) => Ok(true),
+        Err(located) => {
+            if is_out_of_memory(&located.error) {
+                return Err(AllocError);
+            }
+            Ok(false)
         }
-        let Some(header) = header_between(alloc, octets, offset, limit)? else {
-            return Ok(false);
-        };
-        if !is_group(&header) {
-            offset = header.end;
-            continue 'turns;
-        }
-        limits.push(limit)?;
-        offset = header.start;
-        limit = header.end;
     }
 }

@@ -1,5 +1,5 @@
--- For `order::ascend`: what each turn of its loop keeps and what grows less, so that it ends.
-use Rattle.std.proofs.Common.{◌≡◌, ℕ, List, length}
+-- For `order::ascend`: what each turn of its loop keeps.
+use Rattle.std.proofs.Common.{◌≡◌, ℕ, List}
 use Rattle.std.specs.Prelude.{option_map}
 use Rattle.std.specs.List.{All, concat}
 use Rattle.asn1_blocks.specs.Places.{IsEncoding}
@@ -9,7 +9,4 @@ use Rattle.asn1_der.proofs.order.ascend.Given as goal
 abbrev pub invariant-loop-encoding : goal.invariant-loop-encoding
 invariant-loop-encoding l =
     (items : List (List ℕ)) → All IsEncoding items → l.contents ≡ concat items →
-    IsLeft l.order items (option_map (λ b. b.now) l.before) l.rest
-
-abbrev pub decreases-loop-encoding : goal.decreases-loop-encoding
-decreases-loop-encoding l = length l.rest
+    IsLeft l.order items (option_map (λ b. b.now) l.before) l.encoding-iterator.rest.now
