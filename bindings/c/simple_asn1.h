@@ -11,9 +11,9 @@
  *   nesting that is open at a time. simple_asn1_check: these levels alone.
  * - simple_asn1_read_strict: the same, or 4,096 records, if that is more. But a document that is not seen at once to be
  *   canonical takes its blocks, up to 40 bytes for each of its bytes.
- * - simple_asn1_rewrite: of bytes that are seen at once to be canonical, and of more than 65,536 that are no document,
- *   these levels alone; of others their blocks, and what is written. simple_asn1_write: the bytes that the records
- *   describe, and what rewriting these takes.
+ * - simple_asn1_rewrite: up to 112 bytes for each of these levels, and no more of bytes that are seen at once to be
+ *   canonical, and of more than 65,536 that are no document or for which there is too little room; of others their
+ *   blocks, and what is written. simple_asn1_write: the bytes that the records describe, and what rewriting these takes.
  * - simple_asn1_values: the values, if there is room for all, and these levels. simple_asn1_signed: two records, and
  *   these levels. simple_asn1_certificate: the records of all blocks, and these levels. simple_asn1_departures: 16
  *   bytes for each departure, also inside contents that turn out to be no encodings, where only that is listed.
@@ -253,7 +253,7 @@ simple_asn1_outcome simple_asn1_departures(const uint8_t *octets, size_t size, s
                                            size_t room);
 
 /* Writes the canonical bytes of a document. They are not always DER: a BIT STRING of no bits is written 03 00, where DER
- * has 03 01 00. simple_asn1_departures says whether bytes are DER. */
+ * has 03 01 00. simple_asn1_departures says whether bytes are DER. Without room it says how many bytes there are. */
 simple_asn1_outcome simple_asn1_rewrite(const uint8_t *octets, size_t size, uint8_t *out, size_t room);
 
 /* Writes the canonical bytes of what records describe: one with items holds the records after it; any other has the

@@ -38,7 +38,7 @@ SECTIONS = [
     ("DER or not", "simple_asn1", "is_der departures Departure Rule"),
     ("Blocks", "simple_asn1", "ASN1Block ASN1Class items_of Items all_blocks discard encoding_at sequence_items"),
     ("Making blocks", "simple_asn1", "build::*"),
-    ("Writing", "simple_asn1", "to_der to_der_faithful rewrite rewrite_unless_canonical"),
+    ("Writing", "simple_asn1", "to_der to_der_faithful rewrite rewrite_unless_canonical canonical_size"),
     ("Numbers and object identifiers", "simple_asn1", "BigInt BigUint OID oid FromBigUint"),
     ("Errors", "simple_asn1", "ASN1DecodeErr ASN1EncodeErr FaithfulErr UnfaithfulErr LocatedErr"),
     ("Signed triples", "simple_asn1", "read_signed SignedTriple TripleErr"),

@@ -113,6 +113,12 @@ def of_der(records):
     return without_room(records) | strict
 
 
+# how many octets are written of documents that are not canonical
+NOT_CANONICAL = {
+    "long INTEGERs": 75_000_000, "long groups": 90_000_000, "long nests": 70_000_000, "long attempts": 87_500_000,
+    "one INTEGER": 3, "one OBJECT IDENTIFIER": 50_000_004,
+}
+
 MEMORY = {
     "NULLs": of_der(50_000_000) | {
         "kept": (NO_ROOM, 1), "refused rewrite": (INCOMPLETE, 0), "signed triple": (OK, 49_999_988),
@@ -121,7 +127,7 @@ MEMORY = {
     "groups": of_der(25_000_000),
     "nests": of_der(50_000_000),
     "attempts": without_room(12_500_000),
-}
+} | {shape: {"rewrite": (NO_ROOM, octets)} for shape, octets in NOT_CANONICAL.items()}
 MEMORY_CALLS = [(shape, call) for shape, calls in MEMORY.items() for call in calls]
 MOST_KILOBYTES = 4_096
 

@@ -12,12 +12,20 @@ static const struct {
     const char *name;
     size_t size;
     const char *item;
+    const char *front; /* in the place of the first octets: the header of one encoding of all that follow */
 } shapes[] = {
-    {"NULLs", 2, "\x05\0"},
-    {"empty groups", 2, "\x30\0"},
-    {"groups", 8, "\x30\6\4\4\1\2\3\4"},
-    {"nests", 16, "\x30\16\x31\14\xA0\12\x30\10\x61\6\x30\4\x05\0\x05\0"},
-    {"attempts", 8, "\xA0\6\4\2\1\2\2\5"}, /* with a header that is cut off at the end */
+    {"NULLs", 2, "\x05\0", ""},
+    {"empty groups", 2, "\x30\0", ""},
+    {"groups", 8, "\x30\6\4\4\1\2\3\4", ""},
+    {"nests", 16, "\x30\16\x31\14\xA0\12\x30\10\x61\6\x30\4\x05\0\x05\0", ""},
+    {"attempts", 8, "\xA0\6\4\2\1\2\2\5", ""}, /* with a header that is cut off at the end */
+    /* not canonical, by needless octets: of a number, of the lengths, of a subidentifier */
+    {"long INTEGERs", 4, "\2\2\0\5", ""},
+    {"long groups", 10, "\x30\x81\7\4\5\1\2\3\4\5", ""},
+    {"long nests", 20, "\x30\x81\21\x31\x81\16\xA0\x81\13\x30\x81\10\x61\x81\5\x30\x81\2\5\0", ""},
+    {"long attempts", 8, "\xA0\x81\5\4\1\1\2\5", ""},
+    {"one INTEGER", 2, "\0\0", "\x02\x84\x05\xF5\xE0\xFA"},
+    {"one OBJECT IDENTIFIER", 2, "\x80\5", "\x06\x84\x05\xF5\xE0\xFA"},
 };
 
 static long most(void)
@@ -33,6 +41,7 @@ static int fill(uint8_t *octets, const char *shape)
         if (!strcmp(shape, shapes[it].name)) {
             for (size_t place = 0; place < SIZE; place += shapes[it].size)
                 memcpy(octets + place, shapes[it].item, shapes[it].size);
+            memcpy(octets, shapes[it].front, strlen(shapes[it].front));
             return 1;
         }
     return 0;

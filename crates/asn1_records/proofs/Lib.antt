@@ -17,6 +17,7 @@ mod PushedNumerals
 mod PathSteps
 mod OneHeader
 mod SideBySide
+mod LaterShapes
 mod NamedEntries
 mod CertificateFields
 pub mod ListedDepartures

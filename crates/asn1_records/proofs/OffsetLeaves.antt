@@ -3,7 +3,6 @@
 use Rattle.std.proofs.Common.{◌≡◌, ◌⊎◌, ℕ, ◌<◌, ◌^◌, List, [], inl, inr, refl, sym, subst, ◌∙◌, append-nil}
 use Rattle.asn1_headers.proofs.Prefixes.{Encoding-unique}
 use Rattle.asn1_headers.specs.declared.header.ASN1Class.TheVariants.{Universal}
-use Rattle.asn1_blocks.proofs.Leaves.{LeafContents-no_fault}
 use Rattle.asn1_blocks.proofs.OneReading.{IsBlock-not_empty, IsBlock-encodes, EncodesAll-single, Encodes-single}
 use Rattle.asn1_blocks.proofs.Slices.{EncodingAt-unique}
 use Rattle.asn1_outline.specs.Entries.{IsCapped}
@@ -97,6 +96,6 @@ module _ (octets : List ℕ) (offset : ℕ) where
           let (l, tl, is) = leaf_of value in
           let w = HasLeafAt-leaf l is in
           let (tag, contents) = UniversalAt-unique (leaf_tag l) n w.contents v w.universal u in
-          LeafContents-no_fault n v fault l (sym tag) (subst (LeafContents l) contents w.meaning) f),
+          f.none l (sym tag) (subst (LeafContents l) contents w.meaning)),
       is_at_fault n t v u fault (FirstFault-leaf n v u fault f) e,
     )

@@ -17,32 +17,38 @@ use simple_asn1::ASN1Class;
 
 // Whether contents octets with this tag number are found to be those that are written of a leaf.
 #[inline(always)]
-fn are_written_of_leaf(tag: u64, contents: &[u8]) -> bool
+fn are_clearly_written_of_leaf(tag: u64, contents: &[u8]) -> bool
     ensures { IsTrue result → AreWrittenOfLeaf tag contents.now }
 {
     match tag {
-        BOOLEAN => boolean::are_meant(contents) && boolean::are_canonical(contents),
-        INTEGER => integer::are_canonical(contents),
-        BIT_STRING => bit_string::are_meant(contents) && bit_string::are_canonical(contents),
+        BOOLEAN => boolean::are_clearly_meant(contents) && boolean::are_clearly_canonical(contents),
+        INTEGER => integer::are_clearly_canonical(contents),
+        BIT_STRING => bit_string::are_clearly_meant(contents)
+            && bit_string::are_clearly_canonical(contents),
         OCTET_STRING => true,
         NULL => contents.is_empty(),
-        OBJECT_IDENTIFIER => object_identifier::are_shortest(contents),
-        UTF8_STRING => text::are_meant(TextForm::Utf8, contents),
-        PRINTABLE_STRING => text::are_meant(TextForm::Printable, contents),
-        TELETEX_STRING => text::are_meant(TextForm::Utf8, contents),
+        OBJECT_IDENTIFIER => object_identifier::are_clearly_shortest(contents),
+        UTF8_STRING => text::are_clearly_meant(TextForm::Utf8, contents),
+        PRINTABLE_STRING => text::are_clearly_meant(TextForm::Printable, contents),
+        TELETEX_STRING => text::are_clearly_meant(TextForm::Utf8, contents),
         IA5_STRING => true,
-        UTC_TIME => utc_time::are_meant(contents),
-        GENERALIZED_TIME => generalized_time::are_meant(contents)
-            && generalized_time::are_canonical(contents),
-        UNIVERSAL_STRING => text::are_meant(TextForm::Utf8, contents),
-        BMP_STRING => text::are_meant(TextForm::Utf8, contents),
+        UTC_TIME => utc_time::are_clearly_meant(contents),
+        GENERALIZED_TIME => generalized_time::are_clearly_meant(contents)
+            && generalized_time::are_clearly_canonical(contents),
+        UNIVERSAL_STRING => text::are_clearly_meant(TextForm::Utf8, contents),
+        BMP_STRING => text::are_clearly_meant(TextForm::Utf8, contents),
         _ => false,
     }
 }
 
 // Whether the encoding of these contents octets is found to be canonical: `false` says nothing.
 #[inline(always)]
-pub fn is_canonical_single(class: ASN1Class, constructed: bool, tag: u64, contents: &[u8]) -> bool
+pub fn is_clearly_canonical_single(
+    class: ASN1Class,
+    constructed: bool,
+    tag: u64,
+    contents: &[u8],
+) -> bool
     ensures { IsTrue result → IsCanonicalBlock (shortest_encoding class constructed tag contents.now) }
 {
     match class {
@@ -53,7 +59,7 @@ pub fn is_canonical_single(class: ASN1Class, constructed: bool, tag: u64, conten
             if constructed {
                 return is_group_tag(tag) && contents.is_empty();
             }
-            are_written_of_leaf(tag, contents)
+            are_clearly_written_of_leaf(tag, contents)
         }
         _ => !constructed,
     }

@@ -8,7 +8,7 @@ use crate::status::{
     INCOMPLETE, NO_MEMORY, NO_SUCH_VALUE, OUT_OF_RANGE, TOO_LONG, status_of_fault,
 };
 use asn1_headers::header::last_octet_at;
-use asn1_leaves::contents::object_identifier::are_shortest;
+use asn1_leaves::contents::object_identifier::are_clearly_shortest;
 use asn1_leaves::oid;
 use simple_asn1::ASN1DecodeErr;
 use std::alloc::Global;
@@ -76,7 +76,7 @@ fn put_shortened(alloc: Global, contents: &[u8], room: &mut [u8]) -> Outcome
 pub fn put_shortest(alloc: Global, contents: &[u8], room: &mut [u8]) -> Outcome
     ensures { AnswersShortest contents.now room.old room.new result }
 {
-    if are_shortest(contents) {
+    if are_clearly_shortest(contents) {
         return put_front(contents, room);
     }
     put_shortened(alloc, contents, room)

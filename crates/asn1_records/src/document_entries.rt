@@ -53,26 +53,8 @@ pub fn check(alloc: Global, octets: &[u8]) -> Result<(), Fault>
     }
 }
 
-// Of no more octets the blocks take little memory.
-const FEW_OCTETS: usize = 1 << 16;
-
-// The canonical octets of a document, where they are not found to be its own. Where its blocks would take much memory,
-// none is built before the octets are known to be a document.
-pub fn canonical_octets(alloc: Global, octets: &[u8]) -> Result<Option<Vec<u8>>, Fault>
-    ensures document { IfOk result (λ written. (bs : Trees ℕ) × IsDocument octets.now bs
-        × MatchOption written (octets.now ≡ all_canonical bs) (λ v. v.items ≡ all_canonical bs)) }
-    ensures fault { IfErr result (λ f. OrNoMemory (IsRefusal octets.now) f.status f.offset) }
-{
-    if octets.len() > FEW_OCTETS
-        && let Err(fault) = check(alloc, octets)
-    {
-        return Err(fault);
-    }
-    written_unless_canonical(alloc, octets)
-}
-
-// The same, where blocks are built up to a fault.
-fn written_unless_canonical(alloc: Global, octets: &[u8]) -> Result<Option<Vec<u8>>, Fault>
+// The canonical octets of a document, where they are not found to be its own. Blocks are built up to a fault.
+pub fn written_unless_canonical(alloc: Global, octets: &[u8]) -> Result<Option<Vec<u8>>, Fault>
     ensures document { IfOk result (λ written. (bs : Trees ℕ) × IsDocument octets.now bs
         × MatchOption written (octets.now ≡ all_canonical bs) (λ v. v.items ≡ all_canonical bs)) }
     ensures fault { IfErr result (λ f. OrNoMemory (IsRefusal octets.now) f.status f.offset) }

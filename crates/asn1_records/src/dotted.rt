@@ -13,7 +13,7 @@ use crate::putting::put_front;
 use crate::record::Outcome;
 use crate::status::{NO_MEMORY, status_of_fault};
 use arrayvec::ArrayVec;
-use asn1_leaves::contents::object_identifier::{are_meant, first_two};
+use asn1_leaves::contents::object_identifier::{are_clearly_meant, first_two};
 use asn1_leaves::oid;
 use itoa::Buffer;
 use simple_asn1::OID;
@@ -109,7 +109,7 @@ fn push_dotted(contents: &[u8], text: &mut Text) -> bool
     ensures { IsTrue result → (components : List ℕ) × ObjectIdentifierContents components contents.now
         × (text.new.items ≡ text.old.items ++ dotted_decimal components) }
 {
-    if !are_meant(contents) {
+    if !are_clearly_meant(contents) {
         return false;
     }
     let Some((octet, rest)) = contents.split_first() else {

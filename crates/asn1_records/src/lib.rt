@@ -27,6 +27,7 @@ pub mod put_encodings;
 pub mod putting;
 pub mod raw;
 pub mod record;
+pub mod rewriting;
 pub mod signed;
 pub mod spelling;
 mod status;

@@ -11,7 +11,7 @@ ghost use Rattle.asn1_records.specs.Inner.InRecords.{HoldsBlocks, IsCanonicalBlo
 ghost use Rattle.asn1_records.specs.Status.{bad_record};
 ghost use Rattle.asn1_records.specs.declared.spelling.SpellErr.TheVariants.{Memory, Record};
 
-use crate::canonical::{holds_blocks, is_canonical_single};
+use crate::canonical::{holds_blocks, is_clearly_canonical_single};
 use crate::document_entries::{Fault, OUT_OF_MEMORY};
 use crate::prepender::Prepender;
 use crate::record::Block;
@@ -182,7 +182,7 @@ fn push_start(starts: &mut Vec<usize>, start: usize) -> Result<(), AllocError>
 
 // Whether octets that were found to be canonical still are with a record of these contents octets.
 #[inline(always)]
-fn are_canonical_with(
+fn are_clearly_canonical_with(
     canonical: bool,
     class: ASN1Class,
     constructed: bool,
@@ -192,12 +192,12 @@ fn are_canonical_with(
     ensures so_far { IsTrue result → IsTrue canonical }
     ensures this { IsTrue result → IsCanonicalBlock (shortest_encoding class constructed tag contents.now) }
 {
-    canonical && is_canonical_single(class, constructed, tag, contents)
+    canonical && is_clearly_canonical_single(class, constructed, tag, contents)
 }
 
 // Whether octets that were canonical so far still are with a record around them that holds so many encodings.
 #[inline(always)]
-fn are_canonical_around(canonical: bool, class: ASN1Class, tag: u64, items: usize) -> bool
+fn are_clearly_canonical_around(canonical: bool, class: ASN1Class, tag: u64, items: usize) -> bool
     ensures so_far { IsTrue result → IsTrue canonical }
     ensures this { IsTrue result → HoldsBlocks class tag items }
 {
@@ -226,7 +226,7 @@ fn prepend_contents(
     let Some(contents) = contents_within(octets, block) else {
         return Err(SpellErr::Record);
     };
-    *canonical = are_canonical_with(
+    *canonical = are_clearly_canonical_with(
         *canonical,
         class,
         block.constructed > 0,
@@ -292,7 +292,7 @@ fn prepend_items(
     let Some(size) = out.len().checked_sub(start) else {
         return Err(SpellErr::Record);
     };
-    *canonical = are_canonical_around(*canonical, class, block.tag, block.items);
+    *canonical = are_clearly_canonical_around(*canonical, class, block.tag, block.items);
     out.reserve(alloc, SHORT_HEADER)?;
     prepend_header(alloc, out, class, true, block.tag, size)?;
     push_start(starts, start)?;
@@ -344,7 +344,7 @@ fn spell_fault(e: SpellErr, place: usize) -> Fault
 
 // Whether octets that were found to be canonical are those of a document, which has some.
 #[inline(always)]
-fn are_canonical_some(canonical: bool, count: usize) -> bool
+fn are_clearly_canonical_some(canonical: bool, count: usize) -> bool
     ensures so_far { IsTrue result → IsTrue canonical }
     ensures some { IsTrue result → 0 < count }
 {
@@ -378,7 +378,7 @@ pub fn spell(alloc: Global, octets: &[u8], records: &[Block], look: bool) -> Res
             Err(e) => return Err(spell_fault(e, i)),
         }
     }
-    let canonical = are_canonical_some(canonical, out.len());
+    let canonical = are_clearly_canonical_some(canonical, out.len());
     Ok(Spelling {
         octets: out,
         canonical,

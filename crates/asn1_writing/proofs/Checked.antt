@@ -1,5 +1,5 @@
 -- A result that says whether octets are a document, with the place of the first fault, is the only one, for
--- `check::check_document` and `write::rewrite_unless_canonical`.
+-- `check::check_document`, `size::canonical_size` and `write::rewrite_unless_canonical`.
 use Rattle.std.proofs.Common.{◌≡◌, ℕ, ◌<◌, ◌^◌, List, length, Option, Result, Ok, Err, Vec, Global, IfErr, IsErrAnd, subst}
 use Rattle.std.specs.Prelude.{IfOk, MatchOption, MatchResult, OnOk}
 use Rattle.asn1_headers.specs.Fault.{DecodeFault, OutOfMemoryOr}
@@ -57,3 +57,21 @@ pub IsDocument-written_accepted : (octets : List ℕ) (r : Result (Option (Vec �
 IsDocument-written_accepted octets (Ok v) small (cs, e, is) err bs d =
     subst (λ z. IsWritten octets z v) (EncodesAll-unique 0 octets cs bs e.blocks d.blocks) is
 IsDocument-written_accepted octets (Err e) small ok err bs d = IsLocated-out_of_memory octets bs e small d err
+
+-- so many octets are written of a document
+abbrev pub IsSize : Trees ℕ → ℕ → Type 0
+IsSize bs n = n ≡ length (all_canonical bs)
+
+-- octets whose size was told are a document
+pub IfOk-sized_document : (octets : List ℕ) (r : Result ℕ LocatedErr) →
+    IfOk r (λ n. (bs : Trees ℕ) × IsDocument octets bs × IsSize bs n) → IfOk r (λ v. IsSomeDocument octets)
+IfOk-sized_document octets (Ok n) (bs, d, is) = (bs, d)
+IfOk-sized_document octets (Err e) ok = tt
+
+-- to tell the size of a document fails for want of memory alone
+pub IsDocument-sized_accepted : (octets : List ℕ) (r : Result ℕ LocatedErr) → length octets < 2 ^ 64 →
+    IfOk r (λ n. (bs : Trees ℕ) × IsDocument octets bs × IsSize bs n) → IfErr r (IsLocated octets) →
+    (bs : Trees ℕ) → IsDocument octets bs → MatchResult r (IsSize bs) (λ e. e.error ≡ OutOfMemory)
+IsDocument-sized_accepted octets (Ok n) small (cs, e, is) err bs d =
+    subst (λ z. IsSize z n) (EncodesAll-unique 0 octets cs bs e.blocks d.blocks) is
+IsDocument-sized_accepted octets (Err e) small ok err bs d = IsLocated-out_of_memory octets bs e small d err

@@ -11,3 +11,5 @@ mod FrequentEncodings
 mod Without80
 mod Failures
 mod Checked
+mod LeafSizes
+mod Sizes

@@ -4,3 +4,4 @@ pub mod InPlace
 pub mod CanonicalEncoding
 pub mod Checking
 pub mod Failing
+pub mod Sizes

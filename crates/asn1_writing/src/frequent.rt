@@ -3,7 +3,9 @@
 ghost use Rattle.std.specs.Prelude.{◌<◌, ◌∷◌, IsTrue};
 ghost use Rattle.asn1_writing.specs.Inner.CanonicalEncoding.{BeginsCanonical, IsOfOneForm};
 
-use crate::in_place::{are_leaf_contents_canonical, begin_with_identifier, begin_with_integer};
+use crate::in_place::{
+    are_leaf_contents_clearly_canonical, begin_with_identifier, begin_with_integer,
+};
 use asn1_headers::tags::NULL;
 
 // How many octets have to stand in front: then no pattern below has to look at how many there are.
@@ -34,7 +36,7 @@ fn is_frequent(leading: u8, length: u8, rest: &[u8]) -> bool
         return true;
     }
     if leading == 5 && length == 0 {
-        return are_leaf_contents_canonical(NULL, &[]);
+        return are_leaf_contents_clearly_canonical(NULL, &[]);
     }
     leading == 6 && begin_with_identifier(rest, length as usize)
 }

@@ -24,7 +24,7 @@ const LANES: usize = 16;
 
 // Whether the header at the front of the octets has its shortest form.
 #[inline(always)]
-fn is_shortest(_octets: &[u8], header: &Header) -> bool
+fn is_clearly_shortest(_octets: &[u8], header: &Header) -> bool
     requires front { IsAtFront _octets.now header.now }
     requires parts { KnowsParts _octets.now header.now }
     ensures { IsTrue result → BeginsShortest _octets.now header.now }
@@ -47,11 +47,11 @@ fn is_of_group(header: &Header) -> bool
 
 // Whether contents octets behind identifier octets of class Universal with this tag are found to be canonical.
 #[inline(always)]
-fn are_contents_canonical(constructed: bool, tag: &BigUint, contents: &[u8]) -> bool
+fn are_contents_clearly_canonical(constructed: bool, tag: &BigUint, contents: &[u8]) -> bool
     ensures { IsTrue result → AreCanonicalContents Universal constructed tag.now contents.now }
 {
     match tag.to_u64() {
-        Some(low) if low < 31 => !constructed && are_leaf_contents_canonical(low, contents),
+        Some(low) if low < 31 => !constructed && are_leaf_contents_clearly_canonical(low, contents),
         _ => true,
     }
 }
@@ -59,17 +59,17 @@ fn are_contents_canonical(constructed: bool, tag: &BigUint, contents: &[u8]) -> 
 // Whether contents octets of a primitive encoding are canonical. Those of strings of characters, of an OCTET STRING and
 // of a UTCTime have no other form, and those of other tags stay as they came.
 #[inline(always)]
-pub fn are_leaf_contents_canonical(tag: u64, contents: &[u8]) -> bool
+pub fn are_leaf_contents_clearly_canonical(tag: u64, contents: &[u8]) -> bool
     ensures { IsTrue result → AreCanonicalContents Universal false tag contents.now }
 {
     match tag {
-        BOOLEAN => boolean::are_canonical(contents),
-        INTEGER => integer::are_canonical(contents),
-        BIT_STRING => bit_string::are_canonical(contents),
+        BOOLEAN => boolean::are_clearly_canonical(contents),
+        INTEGER => integer::are_clearly_canonical(contents),
+        BIT_STRING => bit_string::are_clearly_canonical(contents),
         NULL => contents.is_empty(),
-        OBJECT_IDENTIFIER => object_identifier::are_shortest(contents),
+        OBJECT_IDENTIFIER => object_identifier::are_clearly_shortest(contents),
         SEQUENCE | SET => false,
-        GENERALIZED_TIME => generalized_time::are_canonical(contents),
+        GENERALIZED_TIME => generalized_time::are_clearly_canonical(contents),
         _ => true,
     }
 }
@@ -264,7 +264,7 @@ fn past_short_leaf<'a>(octets: &'a [u8], leading: u8, length: u8) -> Option<(&'a
         return None;
     }
     let (own, after) = rest.split_at(announced);
-    if !are_leaf_contents_canonical(leading as u64, own) {
+    if !are_leaf_contents_clearly_canonical(leading as u64, own) {
         return None;
     }
     Some((&[], after))
@@ -281,7 +281,7 @@ fn past_any<'a>(alloc: Global, octets: &'a [u8]) -> Result<Option<(&'a [u8], &'a
         Err(ASN1DecodeErr::OutOfMemory) => return Err(AllocError),
         Err(_) => return Ok(None),
     };
-    if !is_shortest(octets, &header) {
+    if !is_clearly_shortest(octets, &header) {
         return Ok(None);
     }
     Ok(past_shortest(octets, &header))
@@ -304,7 +304,7 @@ fn past_shortest<'a>(octets: &'a [u8], header: &Header) -> Option<(&'a [u8], &'a
     let (own, after) = rest.split_at(announced);
     match header.class {
         ASN1Class::Universal => {
-            if !are_contents_canonical(header.constructed, &header.tag, own) {
+            if !are_contents_clearly_canonical(header.constructed, &header.tag, own) {
                 return None;
             }
             Some((&[], after))
@@ -320,7 +320,7 @@ fn past_shortest<'a>(octets: &'a [u8], header: &Header) -> Option<(&'a [u8], &'a
 
 // Whether the octets of a document are found to be canonical: `false` says nothing. What stands inside an encoding of
 // another class may be no blocks, and so is gone over by itself.
-pub fn are_canonical_in_place(alloc: Global, i: &[u8]) -> Result<bool, ASN1DecodeErr>
+pub fn are_clearly_canonical_in_place(alloc: Global, i: &[u8]) -> Result<bool, ASN1DecodeErr>
     ensures canonical { IfOk result (λ yes. IsTrue yes → AreCanonical i.now) }
     ensures refused { IfErr result (λ e. e ≡ OutOfMemory) }
 {

@@ -35,7 +35,7 @@ fn checked_sum(a: usize, b: usize) -> Result<usize, ASN1EncodeErr>
 }
 
 // The size of a block whose identifier octets and contents octets have these sizes.
-fn block_size(identifier: usize, contents: usize) -> Result<usize, ASN1EncodeErr>
+pub(crate) fn block_size(identifier: usize, contents: usize) -> Result<usize, ASN1EncodeErr>
     ensures size { IfOk result
         (λ n. n ≡ identifier + (length (shortest_length contents) + contents)) }
     ensures refused { IfErr result (λ e. e ≡ no_memory) }

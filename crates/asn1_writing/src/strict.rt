@@ -10,7 +10,7 @@ ghost use Rattle.asn1_writing.specs.Strict.{EqualByOctets, FirstNotCanonical, Is
 ghost use Rattle.asn1_blocks.specs.View.{views};
 ghost use Rattle.asn1_headers.specs.declared.error.ASN1DecodeErr.TheVariants.{OutOfMemory};
 
-use crate::in_place::are_canonical_in_place;
+use crate::in_place::are_clearly_canonical_in_place;
 use crate::measure::measure;
 use crate::push::push_all;
 use asn1_blocks::block::ASN1Block;
@@ -97,7 +97,7 @@ fn first_not_canonical(
     ensures refused { IfErr result (λ e. e ≡ OutOfMemory) }
 {
     // nearly always found so, and then no block is measured
-    if are_canonical_in_place(alloc, octets)? {
+    if are_clearly_canonical_in_place(alloc, octets)? {
         return Ok(None);
     }
     if are_canonical(alloc, blocks, octets)? {

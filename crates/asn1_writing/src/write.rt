@@ -14,7 +14,7 @@ ghost use Rattle.asn1_headers.specs.declared.error.ASN1DecodeErr.TheVariants.{Ou
 ghost use Rattle.asn1_headers.specs.declared.error.ASN1EncodeErr.TheVariants.{OutOfMemory as no_memory};
 
 use crate::check::check_document;
-use crate::in_place::are_canonical_in_place;
+use crate::in_place::are_clearly_canonical_in_place;
 use crate::measure::measure;
 use crate::push::push_all;
 use asn1_blocks::block::ASN1Block;
@@ -115,12 +115,9 @@ pub fn rewrite(alloc: Global, i: &[u8]) -> Result<Vec<u8>, ASN1DecodeErr>
 /// use simple_asn1::{LocatedErr, rewrite_unless_canonical};
 /// use std::alloc::Global;
 ///
-/// // How many octets a document has in canonical form: of `02 02 00 05` three.
-/// fn canonical_size(alloc: Global, octets: &[u8]) -> Result<usize, LocatedErr> {
-///     match rewrite_unless_canonical(alloc, octets)? {
-///         Some(written) => Ok(written.len()),
-///         None => Ok(octets.len()),
-///     }
+/// // Whether a quick look finds that a document is canonical: `02 01 05` is, `02 02 00 05` is not.
+/// fn is_found_canonical(alloc: Global, octets: &[u8]) -> Result<bool, LocatedErr> {
+///     Ok(rewrite_unless_canonical(alloc, octets)?.is_none())
 /// }
 /// ```
 pub fn rewrite_unless_canonical(alloc: Global, octets: &[u8]) -> Result<Option<Vec<u8>>, LocatedErr>
@@ -139,7 +136,7 @@ fn written_unless_canonical(alloc: Global, octets: &[u8]) -> Result<Option<Vec<u
         × MatchOption written (octets.now ≡ all_canonical bs) (λ v. v.items ≡ all_canonical bs)) }
     ensures fault { IfErr result (OutOfMemoryOrAt (FirstFaultAt octets.now)) }
 {
-    match are_found_canonical(alloc, octets) {
+    match are_clearly_canonical(alloc, octets) {
         Ok(true) => {}
         Ok(false) => return Ok(Some(written_anew(alloc, octets)?)),
         Err(_) => return Err(out_of_memory(0)),
@@ -150,14 +147,14 @@ fn written_unless_canonical(alloc: Global, octets: &[u8]) -> Result<Option<Vec<u
 
 // Whether a quick pass finds the octets canonical, if they are a document: `false` says nothing. Octets that were cut
 // off are not gone over, since reading refuses them at once.
-fn are_found_canonical(alloc: Global, octets: &[u8]) -> Result<bool, ASN1DecodeErr>
+fn are_clearly_canonical(alloc: Global, octets: &[u8]) -> Result<bool, ASN1DecodeErr>
     ensures canonical { IfOk result (λ yes. IsTrue yes → AreCanonical octets.now) }
     ensures refused { IfErr result (λ e. e ≡ OutOfMemory) }
 {
     if is_cut_off(alloc, octets)? {
         return Ok(false);
     }
-    are_canonical_in_place(alloc, octets)
+    are_clearly_canonical_in_place(alloc, octets)
 }
 
 // Whether the first header is at fault, or announces more contents octets than there are.

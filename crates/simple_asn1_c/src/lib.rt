@@ -21,9 +21,7 @@ use asn1_records::bits::{bits_at, put_bits, put_boolean};
 use asn1_records::certificate::certificate_in;
 use asn1_records::components::{component_at, put_components, put_dotted, put_shortest};
 use asn1_records::departures::list_departures;
-use asn1_records::document_entries::{
-    canonical_octets, check, find_headers, find_records, find_records_strict,
-};
+use asn1_records::document_entries::{check, find_headers, find_records, find_records_strict};
 use asn1_records::encoding::{put_header, put_tag, tag_octets_at};
 use asn1_records::first_fault::{FaultAnswer, fault_in};
 use asn1_records::identifier::{identifier_at, put_identifier};
@@ -37,6 +35,7 @@ use asn1_records::record::{
     BitStringAnswer, Block, CertificateAnswer, DepartureRecord, IntegerAnswer, MomentAnswer,
     Outcome, Path, SignedAnswer, Value,
 };
+use asn1_records::rewriting::put_canonical;
 use asn1_records::signed::signed_in;
 use asn1_records::spelling::spell;
 use asn1_records::text::{put_text, text_at};
@@ -166,17 +165,13 @@ pub extern "C" fn simple_asn1_departures(
 
 /// Writes the canonical octets of a document at the front of the room, and returns their number; or `NO_ROOM` with
 /// that number, if there is less room, or the first fault, as [`simple_asn1_read`] does: then nothing is written. A
-/// document that a quick look does not find to be canonical takes memory for its blocks and for what is written, also
-/// without room. More than 65,536 octets are checked first, so that no block is built of many that are no document.
+/// document that a quick look does not find to be canonical takes memory for its blocks and for what is written. Of
+/// more than 65,536 octets no block is built before it is known that they are a document, and that there is room.
 #[unsafe(no_mangle)]
 pub extern "C" fn simple_asn1_rewrite(alloc: Global, octets: &[u8], room: &mut [u8]) -> Outcome
     ensures { AnswersRewrite octets.now room.old room.new result }
 {
-    match canonical_octets(alloc, octets) {
-        Ok(Some(canonical)) => put_front(&canonical, room),
-        Ok(None) => put_front(octets, room),
-        Err(fault) => nothing_put(fault.status, fault.offset),
-    }
+    put_canonical(alloc, octets, room)
 }
 
 /// Whether octets are a document, which is `DONE`; or the first fault, as [`simple_asn1_read`] returns it. No record is
@@ -295,11 +290,7 @@ pub extern "C" fn simple_asn1_write(
     if spelled.canonical {
         return put_front(spelled.octets.as_slice(), room);
     }
-    match canonical_octets(alloc, spelled.octets.as_slice()) {
-        Ok(Some(canonical)) => put_front(&canonical, room),
-        Ok(None) => put_front(spelled.octets.as_slice(), room),
-        Err(fault) => nothing_put(fault.status, fault.offset),
-    }
+    put_canonical(alloc, spelled.octets.as_slice(), room)
 }
 
 /// Puts the contents octet of a BOOLEAN (X.690 8.2), true but for 0, at the front of the room, and returns how many

@@ -1,8 +1,8 @@
 -- For `bits::bits_at`: what it returns is right, the difference is none below 0, and `end_at` may be called.
-use Rattle.std.proofs.Common.{◌≡◌, ◌+◌, ◌-◌, ℕ, List, drop, take, length, inl, inr, refl, sym, ap, subst, ◌∙◌, arith, drop-drop}
+use Rattle.std.proofs.Common.{◌≡◌, ◌+◌, ◌-◌, ℕ, List, [], drop, take, length, inl, inr, refl, sym, ap, subst, ◌∙◌, arith, drop-drop}
 use Rattle.asn1_headers.specs.Fault.{fault_of}
 use Rattle.asn1_headers.specs.declared.tags.TheConstants.{BIT_STRING}
-use Rattle.simple_asn1.specs.Contents.{leaf_tag, of_bit_string}
+use Rattle.simple_asn1.specs.Contents.{leaf_tag}
 use Rattle.simple_asn1.specs.Tree.{Leaf, bit_string}
 use Rattle.asn1_records.specs.Status.{status_of}
 use Rattle.asn1_records.specs.Values.{IsBitStringAt, IsBitStringTag, IsLeafAt, UniversalAt, bits_are_missing, bits_were_found}
@@ -10,6 +10,7 @@ use Rattle.asn1_records.proofs.HeldBits.{AreLast-held, EncodingAt-within, bits-h
 use Rattle.asn1_records.proofs.Headers.{drop-header}
 use Rattle.asn1_records.proofs.OffsetLeaves.{IsMissing-not_tag, IsMissing-fault, IsLeafAt-universal, IsMissing-nothing}
 use Rattle.asn1_records.proofs.bits.bits_at.Goals as goal
+use Rattle.asn1_blocks.proofs.Leaves.{LeafFault-kind}
 use Rattle.asn1_outline.proofs.Values.{IsCapped-small}
 
 module _ (octets : List ℕ) (offset : ℕ) where
@@ -103,5 +104,5 @@ returns-in-Err-read c =
       | inr fault ↦ bits_are_missing
           (IsMissing-fault octets offset ((n : ℕ) × (v : List ℕ) × IsBitStringAt octets offset n v) IsBitStringTag
           (IsLeafAt-bits octets offset) c.no_bits-in-Err-read.result.status n w same u f
-          (of_bit_string same fault) outcome) none.fields
+          (LeafFault-kind (bit_string 0 []) _ _ _ same fault) outcome) none.fields
     ]

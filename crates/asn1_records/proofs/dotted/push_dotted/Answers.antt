@@ -12,7 +12,7 @@ returns-then-push_pointed c ok =
     let contents = c.args.contents.now in
     let rest = c.in-Some.rest.now in
     let text = c.args.text.now.items in
-    let meant = c.if-not-are_meant.ensures.meant refl in
+    let meant = c.if-not-are_clearly_meant.ensures.meant refl in
     let e : contents ≡ c.in-Some.octet.now ∷ rest = grind (arith, common_steps) in
     elim c.if-push_numeral.branch [
       | then-push_numeral w ↦

@@ -1,11 +1,12 @@
 -- For `identifier::identifier_at`: what it returns is right.
-use Rattle.std.proofs.Common.{◌≡◌, ℕ, List, inl, inr, refl, subst, ◌∙◌, arith}
+use Rattle.std.proofs.Common.{◌≡◌, ℕ, List, [], inl, inr, refl, subst, ◌∙◌, arith}
 use Rattle.asn1_headers.specs.declared.tags.TheConstants.{OBJECT_IDENTIFIER}
-use Rattle.simple_asn1.specs.Contents.{leaf_tag, of_object_identifier}
+use Rattle.simple_asn1.specs.Contents.{leaf_tag}
 use Rattle.simple_asn1.specs.Tree.{Leaf, object_identifier}
 use Rattle.asn1_records.specs.Values.{IsIdentifierAt, IsIdentifierTag, IsLeafAt, UniversalAt, identifier_is_missing, identifier_is_too_long, identifier_was_found}
 use Rattle.asn1_records.proofs.OffsetLeaves.{IsMissing-not_tag, IsMissing-fault, IsLeafAt-universal, IsMissing-nothing}
 use Rattle.asn1_records.proofs.identifier.identifier_at.Goals as goal
+use Rattle.asn1_blocks.proofs.Leaves.{LeafFault-kind}
 use Rattle.asn1_outline.proofs.Values.{IsCapped-small}
 
 -- an identifier at an offset is a leaf there
@@ -78,6 +79,7 @@ returns-in-Err-put_decimal c =
           identifier_is_missing
           (IsMissing-fault octets offset ((ns : List ℕ) × IsIdentifierAt octets offset ns) IsIdentifierTag
           (IsLeafAt-identifier octets offset)
-          c.nothing_put-in-Err-put_decimal.result.status n v same u f (of_object_identifier same fault)
+          c.nothing_put-in-Err-put_decimal.result.status n v same u f
+          (LeafFault-kind (object_identifier []) _ _ _ same fault)
           (put.status ∙ outcome)) put.offset put.count kept
     ]

@@ -5,12 +5,13 @@ use Rattle.asn1_headers.specs.declared.tags.TheConstants.{GENERALIZED_TIME, UTC_
 use Rattle.asn1_leaves.specs.Contents.GeneralizedTime.{GeneralizedTimeContents}
 use Rattle.asn1_leaves.specs.Contents.Moment.{Moment, moment_of}
 use Rattle.asn1_leaves.specs.Contents.UtcTime.{UtcTimeContents}
-use Rattle.simple_asn1.specs.Contents.{leaf_tag, of_generalized_time, of_utc_time}
+use Rattle.simple_asn1.specs.Contents.{leaf_tag}
 use Rattle.simple_asn1.specs.Tree.{Leaf, generalized_time, utc_time}
 use Rattle.asn1_records.specs.Status.{status_of}
 use Rattle.asn1_records.specs.Values.{IsLeafAt, IsMomentAt, IsMomentTag, UniversalAt, moment_is_missing, moment_was_found}
 use Rattle.asn1_records.proofs.OffsetLeaves.{IsMissing-not_tag, IsMissing-fault, IsLeafAt-universal, IsMissing-nothing}
 use Rattle.asn1_records.proofs.moment.moment_at.Goals as goal
+use Rattle.asn1_blocks.proofs.Leaves.{LeafFault-generalized_time, LeafFault-utc_time}
 use Rattle.asn1_outline.proofs.Values.{IsCapped-small}
 
 -- a moment at an offset is a leaf there
@@ -84,13 +85,15 @@ returns-in-Err-time_of c =
           moment_is_missing
           (IsMissing-fault octets offset ((m : Moment) × IsMomentAt octets offset m) IsMomentTag
           (IsLeafAt-moment octets offset)
-          c.no_moment-in-Err-time_of.result.status n v (inl same) u f (of_utc_time same fault) outcome) none.fields
+          c.no_moment-in-Err-time_of.result.status n v (inl same) u f
+          (LeafFault-utc_time _ _ _ same fault) outcome) none.fields
       | inr (inr (tag, fault)) ↦
           let same : n ≡ GENERALIZED_TIME =
           IsCapped-small n c.in-Ok.found.0 GENERALIZED_TIME number tag (omega arith) in
           moment_is_missing
           (IsMissing-fault octets offset ((m : Moment) × IsMomentAt octets offset m) IsMomentTag
           (IsLeafAt-moment octets offset)
-          c.no_moment-in-Err-time_of.result.status n v (inr same) u f (of_generalized_time same fault) outcome)
+          c.no_moment-in-Err-time_of.result.status n v (inr same) u f
+          (LeafFault-generalized_time _ _ _ same fault) outcome)
           none.fields
     ]

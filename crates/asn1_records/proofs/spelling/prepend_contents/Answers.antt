@@ -20,8 +20,9 @@ returns-clause-put c rs state =
     ∙ ap (λ z. front ++ (shortest_length (length z) ++ c.prepend.new.self.octets)) is in
     let started = c.in_ok-push_start.ensures ∙ ap (λ z. c.args.starts.now.items ++ z ∷ []) c.len.ensures in
     IsState-contents c.args.octets.now r c.args.class c.requires.class rs old c.args.starts.now.items
-    c.prepend_header.new.out.octets c.push_start.new.starts.items c.args.canonical.now c.are_canonical_with.result state
+    c.prepend_header.new.out.octets c.push_start.new.starts.items c.args.canonical.now
+    c.are_clearly_canonical_with.result state
     c.requires.tag c.requires.items within
-    c.prepend.new.self.octets put headed started c.are_canonical_with.ensures.so_far
+    c.prepend.new.self.octets put headed started c.are_clearly_canonical_with.ensures.so_far
     (λ yes. subst (λ z. IsCanonicalBlock (shortest_encoding c.args.class (nat_lt 0 r.constructed) r.tag z)) is
-    (c.are_canonical_with.ensures.this yes))
+    (c.are_clearly_canonical_with.ensures.this yes))

@@ -14,10 +14,11 @@ returns-clause-put c rs state =
     let headed = c.in_ok-prepend_header.ensures ∙ ap (λ z. i ++ (l ++ z)) c.in_ok-reserve.ensures.kept in
     IsState-items c.args.octets.now c.args.block.now c.args.class c.requires.class rs c.args.out.now.octets
     c.args.starts.now.items
-    c.prepend_header.new.out.octets c.push_start.new.starts.items c.args.canonical.now c.are_canonical_around.result
+    c.prepend_header.new.out.octets c.push_start.new.starts.items c.args.canonical.now
+    c.are_clearly_canonical_around.result
     state c.in-Some.start c.in-Some-checked_sub.size c.take_starts.new.starts.items
     c.requires.tag c.requires.items few left began sized headed c.in_ok-push_start.ensures (omega arith)
-    c.are_canonical_around.ensures.so_far c.are_canonical_around.ensures.this
+    c.are_clearly_canonical_around.ensures.so_far c.are_clearly_canonical_around.ensures.this
 
 pub returns-in_default-checked_sub-clause-refused : goal.returns-in_default-checked_sub-clause-refused
 returns-in_default-checked_sub-clause-refused c same rs state =

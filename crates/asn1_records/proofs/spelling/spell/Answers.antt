@@ -47,6 +47,7 @@ returns-clause-canonical c is_true =
     let state = c.loop-i.invariant.state in
     let xs = state.xs in
     let some : 0 < length (concat xs) =
-    omega (arith, c.are_canonical_some-canonical.ensures.some is_true, c.len.ensures, ap length state.joined) in
-    let (bs, d, w) = IsDocument-concat xs some (state.found (c.are_canonical_some-canonical.ensures.so_far is_true)) in
+    omega (arith, c.are_clearly_canonical_some-canonical.ensures.some is_true, c.len.ensures, ap length state.joined) in
+    let (bs, d, w) =
+    IsDocument-concat xs some (state.found (c.are_clearly_canonical_some-canonical.ensures.so_far is_true)) in
     subst IsCanonicalDocument (sym state.joined) (bs, (d, w))

@@ -4,8 +4,8 @@ use Rattle.std.specs.Prelude.{IsUtf8}
 use Rattle.std.specs.Str.{chars}
 use Rattle.asn1_headers.specs.Fault.{fault_of}
 use Rattle.asn1_leaves.specs.Contents.Text.{TextContents, TextFault, text_form}
-use Rattle.asn1_blocks.proofs.Leaves.{string_tag-lt}
-use Rattle.simple_asn1.specs.Contents.{leaf_tag, of_text, string_tag}
+use Rattle.asn1_blocks.proofs.Leaves.{LeafFault-text, string_tag-lt}
+use Rattle.simple_asn1.specs.Contents.{leaf_tag, string_tag}
 use Rattle.simple_asn1.specs.Tree.{Leaf, text}
 use Rattle.asn1_records.specs.Room.{ArePut}
 use Rattle.asn1_records.specs.Status.{status_of}
@@ -99,6 +99,6 @@ returns-in-Err-read c =
           text_is_missing
           (IsMissing-fault octets offset ((s : List ℕ) × IsTextAt octets offset s) IsTextTag
           (IsLeafAt-text octets offset) c.nothing_put-in-Err-read.result.status n
-          v (kind, same) u f (of_text kind same own) outcome)
+          v (kind, same) u f (LeafFault-text kind _ _ _ same own) outcome)
           put.offset put.count refl
     ]

@@ -20,7 +20,7 @@ returns-then-length-eq0 c is_true =
     BeginsCanonical-leaf _ rest c.args.leading c.args.length (omega (arith, five)) c.requires refl
     (subst (λ n. AreCanonicalContents Universal false n (take c.args.length rest)) (sym five)
     (subst (λ n. AreCanonicalContents Universal false NULL (take n rest)) (sym none)
-    (c.are_leaf_contents_canonical.ensures is_true)))
+    (c.are_leaf_contents_clearly_canonical.ensures is_true)))
 
 pub returns-then-leading-eq6 : goal.returns-then-leading-eq6
 returns-then-leading-eq6 c is_true =

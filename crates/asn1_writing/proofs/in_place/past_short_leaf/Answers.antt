@@ -13,4 +13,4 @@ returns c =
     let size : length own ≡ c.args.length = grind (arith, common_steps) in
     LeavesBoth-short_leaf x own after c.args.leading c.args.length
     (omega arith) c.requires.low c.requires.short size front
-    (c.are_leaf_contents_canonical.ensures c.if-not-are_leaf_contents_canonical.false)
+    (c.are_leaf_contents_clearly_canonical.ensures c.if-not-are_leaf_contents_clearly_canonical.false)

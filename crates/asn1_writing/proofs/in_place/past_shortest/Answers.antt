@@ -19,8 +19,8 @@ returns-then-header c =
     LeavesBoth-constructed c.args.octets.now rest own after c.args.header.now
     (omega arith) c.requires c.split_at.ensures.back whole size c.in_default.not-Universal
 
-pub returns-else-not-are_contents_canonical : goal.returns-else-not-are_contents_canonical
-returns-else-not-are_contents_canonical c =
+pub returns-else-not-are_contents_clearly_canonical : goal.returns-else-not-are_contents_clearly_canonical
+returns-else-not-are_contents_clearly_canonical c =
     let rest = c.split_at.result.1.now in
     let own = c.split_at-2.result.0.now in
     let after = c.split_at-2.result.1.now in
@@ -28,7 +28,7 @@ returns-else-not-are_contents_canonical c =
     let size : length own ≡ c.args.header.now.announced = grind (arith, common_steps) in
     LeavesBoth-universal c.args.octets.now rest own after c.args.header.now
     (omega arith) c.requires c.split_at.ensures.back whole size c.in-Universal.is
-    (c.are_contents_canonical.ensures c.if-not-are_contents_canonical.false)
+    (c.are_contents_clearly_canonical.ensures c.if-not-are_contents_clearly_canonical.false)
 
 pub returns-else-header : goal.returns-else-header
 returns-else-header c =

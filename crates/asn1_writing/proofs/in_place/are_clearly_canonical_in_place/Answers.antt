@@ -1,4 +1,4 @@
--- For `in_place::are_canonical_in_place`: its loop keeps its invariant and what it returns is right
+-- For `in_place::are_clearly_canonical_in_place`: its loop keeps its invariant and what it returns is right
 -- (`canonical`).
 use Rattle.std.proofs.Common.{◌≡◌, ◌++◌, ◌∷◌, [], ℕ, List, Bor, Some, sym, subst, arith}
 use Rattle.std.specs.Prelude.{All, IfSome}
@@ -6,7 +6,7 @@ use Rattle.std.proofs.lemmas.Grind.{common_steps}
 use Rattle.std.proofs.lemmas.List.Elements.{All-nil, All-pop, All-push}
 use Rattle.asn1_writing.specs.Inner.InPlace.{AreCanonical, LeavesBoth}
 use Rattle.asn1_writing.proofs.InPlace.{AreCanonical-empty}
-use Rattle.asn1_writing.proofs.in_place.are_canonical_in_place.Goals as goal
+use Rattle.asn1_writing.proofs.in_place.are_clearly_canonical_in_place.Goals as goal
 
 -- octets that wait to be gone over are canonical
 abbrev Waits : Bor (List ℕ) → Type 0

@@ -1,10 +1,10 @@
--- For `simple_asn1_rewrite`: what it returns is right.
+-- For `rewriting::put_written`: what it returns is right.
 use Rattle.std.proofs.Common.{◌∙◌}
 use Rattle.std.proofs.lemmas.Option.{MatchOption-at_some, MatchOption-at_none}
 use Rattle.asn1_records.specs.Answers.{IsRefusal}
 use Rattle.asn1_records.specs.Room.{was_found}
 use Rattle.asn1_records.proofs.Outcomes.{Answers-refused}
-use Rattle.simple_asn1_c.proofs.simple_asn1_rewrite.Goals as goal
+use Rattle.asn1_records.proofs.rewriting.put_written.Goals as goal
 
 pub returns-in-Ok-Some : goal.returns-in-Ok-Some
 returns-in-Ok-Some c =

@@ -1,10 +1,10 @@
--- For `in_place::is_shortest`: what it returns is right.
+-- For `in_place::is_clearly_shortest`: what it returns is right.
 use Rattle.std.proofs.Common.{◌<◌, ◌++◌, ap₂, sym, ◌∙◌, arith}
 use Rattle.std.specs.Prelude.{All}
 use Rattle.std.proofs.lemmas.Bool.{false≢true}
 use Rattle.std.proofs.lemmas.List.Elements.{All-from_get_or}
 use Rattle.asn1_writing.proofs.InPlace.{AreHeaderOctets-front, length-header_parts}
-use Rattle.asn1_writing.proofs.in_place.is_shortest.Goals as goal
+use Rattle.asn1_writing.proofs.in_place.is_clearly_shortest.Goals as goal
 
 pub returns-then-has_shortest_identifier : goal.returns-then-has_shortest_identifier
 returns-then-has_shortest_identifier c shortest =

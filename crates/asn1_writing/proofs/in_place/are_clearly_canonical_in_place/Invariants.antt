@@ -1,9 +1,10 @@
--- For `in_place::are_canonical_in_place`: what each turn of its loop keeps and what grows less, so that it ends.
+-- For `in_place::are_clearly_canonical_in_place`: what each turn of its loop keeps and what
+-- grows less, so that it ends.
 use Rattle.std.proofs.Common.{ℕ, ◌+◌, List, Bor, length}
 use Rattle.std.specs.Prelude.{All}
 use Rattle.std.specs.List.{sum_by}
 use Rattle.asn1_writing.specs.Inner.InPlace.{AreCanonical}
-use Rattle.asn1_writing.proofs.in_place.are_canonical_in_place.Given as goal
+use Rattle.asn1_writing.proofs.in_place.are_clearly_canonical_in_place.Given as goal
 
 -- the octets are canonical if those that are left are: the rest, and all that wait
 abbrev pub invariant-headers : goal.invariant-headers

@@ -1,0 +1,10 @@
+-- For `size::SizeBuilderBuilder::keep`: what it returns is right.
+use Rattle.std.proofs.lemmas.Result.{on_ok_weaker}
+use Rattle.asn1_blocks.specs.Inner.ReaderSteps.{in_frame}
+use Rattle.asn1_writing.proofs.Sizes.{HasKept-sizes}
+use Rattle.asn1_writing.proofs.size.SizeBuilderBuilder.keep.Goals as goal
+
+pub returns : goal.returns
+returns c = on_ok_weaker c.add.result
+    (HasKept-sizes c.args._octets.now c.args.self.now c.args.self.now (in_frame c.args.extent c.args.items)
+    c.args.parent.now c.add.new.self c.args._depth c.requires.after c.requires.order c.requires.within) c.add.ensures
