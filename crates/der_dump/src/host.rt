@@ -3,7 +3,7 @@ ghost use Rattle.std.specs.Prelude.{IfOk};
 ghost use Rattle.std.specs.Counts.{IsPrefixLen};
 
 use der_io::escaped;
-use dump_options::Color;
+use dump_options::{Color, Options, Width};
 use std::env::VarError;
 use std::fmt::Display;
 use std::fs::File;
@@ -44,6 +44,25 @@ fn is_color_off(rt: &HostRuntime) -> bool {
         Ok(text) => !text.is_empty(),
         Err(VarError::NotPresent) => false,
         Err(_) => true,
+    }
+}
+
+// How wide a line is at most in this place: as wide as the environment says of the terminal, unless values are whole.
+pub fn width_here(rt: &HostRuntime, options: &Options<'_>) -> Width {
+    match options.width {
+        Width::Auto if rt.stdout().is_terminal() && !options.is_full => terminal_width(rt),
+        width => width,
+    }
+}
+
+// The columns of the terminal, which shells keep in the variable COLUMNS (POSIX, 8.3).
+fn terminal_width(rt: &HostRuntime) -> Width {
+    let Ok(columns) = env::var(rt, "COLUMNS") else {
+        return Width::Any;
+    };
+    match columns.parse::<usize>() {
+        Ok(count) => Width::of_columns(count),
+        Err(_) => Width::Any,
     }
 }
 

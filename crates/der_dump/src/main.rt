@@ -3,7 +3,7 @@
 
 mod host;
 
-use crate::host::{HostReader, HostWriter, color_here, print_error, print_reason};
+use crate::host::{HostReader, HostWriter, color_here, print_error, print_reason, width_here};
 use der_io::{StreamFault, arguments, fault_text, read_all};
 use dump_inputs::{Outcome, Source, run, status};
 use dump_names::{NamesFault, OwnNames};
@@ -80,6 +80,7 @@ fn answer(rt: &HostRuntime) -> Result<u8, Refusal> {
         Err(fault) => return print_answer(rt, &fault),
     };
     options.color = color_here(rt, options.color);
+    options.width = width_here(rt, &options);
     if let Some(name) = options.type_name {
         refuse_unknown(rt, name)?;
     }

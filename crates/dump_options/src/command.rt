@@ -34,10 +34,12 @@ pub fn command<'a>(alloc: Global) -> Result<Command<'a>, AllocError> {
         .next_help_heading("What is shown")
         .arg(arg!(in alloc; --strict
             "Reject documents that are not DER, and list why, after showing them"))?
-        .arg(arg!(in alloc; --full "Do not cut values to 32 bytes"))?
+        .arg(arg!(in alloc; --full "Show values whole, however long they are"))?
         .arg(arg!(in alloc; --flat "Do not expand nested DER"))?
         .arg(arg!(in alloc; --depth <COUNT>
             "Hide blocks with more than COUNT blocks around them; 0 shows the outermost only"))?
+        .arg(arg!(in alloc; --width <COLUMNS>
+            "Cut lines to so many columns, 0 for none [default: COLUMNS on a terminal, but with --full 0]"))?
         .arg(arg!(in alloc; --oids <FILE> "Name object identifiers by a file of dumpasn1 first"))?
         .arg(arg!(in alloc; --color <WHEN>
             "Color lines: always, never, or auto, on a terminal without NO_COLOR [default: auto]"))?
@@ -50,5 +52,5 @@ pub fn command<'a>(alloc: Global) -> Result<Command<'a>, AllocError> {
         .arg(arg!(in alloc; --html
             "Write one page of HTML that shows all documents, their bytes beside them"))?
         .arg(arg!(in alloc; --text
-            "Write a short account of each certificate, request, list or key"))
+            "Write a short account of each document, such as a certificate, list, key, message or request"))
 }

@@ -8,5 +8,5 @@ mod command;
 mod options;
 mod options_fault;
 
-pub use options::{Color, Options, Output, Part, Target, Task, options_of};
+pub use options::{Color, Options, Output, Part, Target, Task, Width, options_of};
 pub use options_fault::OptionsFault;

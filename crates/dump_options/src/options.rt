@@ -19,7 +19,7 @@ const EXCLUSIONS: [(&str, &[&str]); 14] = [
         &["text", "html", "json", "extract", "contents", "value"],
     ),
     ("text", &NOT_WITH_JSON),
-    ("html", &["color"]),
+    ("html", &["color", "width"]),
     ("json", &NOT_WITH_JSON),
     ("extract", &NOT_WITH_OCTETS),
     ("contents", &NOT_WITH_OCTETS),
@@ -29,14 +29,16 @@ const EXCLUSIONS: [(&str, &[&str]); 14] = [
 ];
 
 // JSON has all blocks whole, and an account has no blocks.
-const NOT_WITH_JSON: [&str; 4] = ["color", "full", "flat", "depth"];
+const NOT_WITH_JSON: [&str; 5] = ["color", "full", "flat", "depth", "width"];
 
 // A part of a block is shown in no other way. Its path has the names of fields.
-const NOT_WITH_PART: [&str; 7] = ["at", "strict", "full", "flat", "depth", "color", "plain"];
+const NOT_WITH_PART: [&str; 8] = [
+    "at", "strict", "full", "flat", "depth", "width", "color", "plain",
+];
 
 // Bytes have no names of object identifiers in them either.
-const NOT_WITH_OCTETS: [&str; 8] = [
-    "at", "strict", "full", "flat", "depth", "oids", "color", "plain",
+const NOT_WITH_OCTETS: [&str; 9] = [
+    "at", "strict", "full", "flat", "depth", "width", "oids", "color", "plain",
 ];
 
 // The flags that have documents written otherwise than in lines.
@@ -71,6 +73,8 @@ pub struct Options<'a> {
     pub output: Output,
     /// The most blocks around a block that is shown; the outermost has none. `None` shows all blocks.
     pub most_depth: Option<usize>,
+    /// How wide a line is at most.
+    pub width: Width,
     /// The name of the file that names object identifiers, before the names that are built in.
     pub oids: Option<&'a str>,
     /// Fields have no names.
@@ -101,6 +105,27 @@ pub enum Color {
     Auto,
     Always,
     Never,
+}
+
+/// How wide a line is at most.
+#[derive(Clone, Copy, Debug, PartialEq)]
+pub enum Width {
+    /// As wide as the terminal on which it is shown.
+    Auto,
+    /// As wide as need be.
+    Any,
+    /// So many columns of a terminal.
+    Columns(usize),
+}
+
+impl Width {
+    /// So many columns; none stand for any number of them.
+    pub fn of_columns(count: usize) -> Width {
+        match count {
+            0 => Width::Any,
+            _ => Width::Columns(count),
+        }
+    }
 }
 
 /// What is done with an input.
@@ -157,6 +182,7 @@ pub fn options_of<'a, S: AsStr>(
             .find(|(name, _)| matches.get_flag(name))
             .map_or(Output::Lines, |(_, output)| *output),
         most_depth: number_of(&matches, "depth")?,
+        width: width_of(&matches)?,
         oids: matches.get_str("oids"),
         is_plain: matches.get_flag("plain"),
         type_name: matches.get_str("as"),
@@ -231,6 +257,11 @@ fn number_in<'a>(name: &'static str, text: &'a str) -> Result<usize, OptionsFaul
         None => text.parse::<usize>(),
     };
     number.map_err(|_| OptionsFault::NoNumber(name, text))
+}
+
+// How wide a line is at most.
+fn width_of<'a>(matches: &ArgMatches<'a>) -> Result<Width, OptionsFault<'a>> {
+    Ok(number_of(matches, "width")?.map_or(Width::Auto, Width::of_columns))
 }
 
 // When lines are colored.

@@ -14,7 +14,7 @@ use Rattle.std.specs.Prelude.{Option}
 use Rattle.std.specs.Str.{chars}
 use Rattle.der_io.specs.Escaped.{all_escaped}
 use Rattle.dump_rows.specs.Parts.{entity, stands_raw, text_of, written}
-use Rattle.dump_rows.specs.Printing.{IsPrinted, PrintsText}
+use Rattle.dump_rows.specs.Printing.{AreShownIn, IsPrinted, IsShownIn, PrintsText, WritesParts, no_line, one_line}
 use Rattle.dump_rows.specs.declared.part.Look.TheVariants.{Plain}
 use Rattle.dump_rows.specs.declared.part.Look.{Look}
 use Rattle.dump_rows.specs.declared.printer.Printer.{Printer}
@@ -62,40 +62,115 @@ repeat-behind (suc n) xs = ap (λ z. xs ++ z) (repeat-behind n xs) ∙ sym (appe
 pub repeat-more : (n : ℕ) (xs : List ℕ) → repeat (n + 1) xs ≡ repeat n xs ++ xs
 repeat-more n xs = ap (λ k. repeat k xs) (sym (suc-eq-add-one n)) ∙ repeat-behind n xs
 
+-- what is shown of lines one behind the other is what is shown of all
+AreShownIn-append :
+    (width : Option ℕ) (text shown more more_shown : List ℕ) → AreShownIn width text shown →
+    AreShownIn width more more_shown → AreShownIn width (text ++ more) (shown ++ more_shown)
+AreShownIn-append width text shown more more_shown (no_line e f) later =
+    subst (λ z. AreShownIn width (z ++ more) (shown ++ more_shown)) (sym e)
+    (subst (λ z. AreShownIn width more (z ++ more_shown)) (sym f) later)
+AreShownIn-append width text shown more more_shown (one_line line of_line lines of_lines e f is rest) later =
+    one_line line of_line (lines ++ more) (of_lines ++ more_shown)
+    (ap (λ z. z ++ more) e ∙ append_assoc line (10 ∷ lines) more)
+    (ap (λ z. z ++ more_shown) f ∙ append_assoc of_line (10 ∷ of_lines) more_shown) is
+    (AreShownIn-append width lines of_lines more more_shown rest later)
+
+-- one line is shown as it is to be
+AreShownIn-line :
+    (width : Option ℕ) (line shown : List ℕ) → IsShownIn width line shown →
+    AreShownIn width (line ++ 10 ∷ []) (shown ++ 10 ∷ [])
+AreShownIn-line width line shown is = one_line line shown [] [] refl refl is (no_line refl refl)
+
 module _ {W : Type 0} (contents : W → Option (List ℕ)) where
   -- a text of a kind that was printed is of each kind that follows from it
   pub IsPrinted-weaker :
       (Is Other : List ℕ → Type 0) (a b : Printer W) → ((text : List ℕ) → Is text → Other text) →
       IsPrinted contents Is a b → IsPrinted contents Other a b
-  IsPrinted-weaker Is Other a b turn (same, p) =
-      (same, record { parts = p.parts; wrote = p.wrote; is = turn (text_of p.parts) p.is })
-
-  pub PrintsText-printed :
-      (Is : List ℕ → Type 0) (a b : Printer W) → IsPrinted contents Is a b → PrintsText contents a b
-  PrintsText-printed Is a b = IsPrinted-weaker Is (λ text. Unit {0}) a b (λ text is. tt)
+  IsPrinted-weaker Is Other a b turn (look, width, p) = (
+    look,
+    width,
+    record {
+      parts = p.parts;
+      wrote = p.wrote;
+      lines = p.lines;
+      shown = p.shown;
+      is = turn p.lines p.is;
+    },
+  )
 
   -- where the empty text is of the kind, nothing has to be printed
   pub IsPrinted-nil : (Is : List ℕ → Type 0) (a : Printer W) → Is [] → IsPrinted contents Is a a
-  IsPrinted-nil Is a is = (refl, record { parts = []; wrote = Appends-nil (contents a.out); is = is })
+  IsPrinted-nil Is a is = (
+    refl,
+    refl,
+    record {
+      parts = [];
+      wrote = Appends-nil (contents a.out);
+      lines = [];
+      shown = no_line refl refl;
+      is = is;
+    },
+  )
+
+  -- where the empty text is of the kind, parts without a text may be written
+  pub IsPrinted-blank :
+      (Is : List ℕ → Type 0) (a b : Printer W) → Is [] → WritesParts contents (λ text. text ≡ []) a b →
+      IsPrinted contents Is a b
+  IsPrinted-blank Is a b is w = (
+    w.look,
+    w.width,
+    record {
+      parts = w.parts;
+      wrote = w.wrote;
+      lines = [];
+      shown = no_line refl w.is;
+      is = is;
+    },
+  )
+
+  pub PrintsText-blank : (a b : Printer W) → WritesParts contents (λ text. text ≡ []) a b → PrintsText contents a b
+  PrintsText-blank a b = IsPrinted-blank (λ text. Unit {0}) a b tt
+
+  -- a line of the kind is printed where what is shown of it is written
+  pub IsPrinted-line :
+      (Is : List ℕ → Type 0) (a b : Printer W) (line shown : List ℕ) → Is (line ++ 10 ∷ []) →
+      IsShownIn a.width line shown → WritesParts contents (λ text. text ≡ shown ++ 10 ∷ []) a b →
+      IsPrinted contents Is a b
+  IsPrinted-line Is a b line shown is fitting w = (
+    w.look,
+    w.width,
+    record {
+      parts = w.parts;
+      wrote = w.wrote;
+      lines = line ++ 10 ∷ [];
+      shown =
+          subst (AreShownIn a.width (line ++ 10 ∷ [])) (sym w.is) (AreShownIn-line a.width line shown fitting);
+      is = is;
+    },
+  )
 
   -- two texts printed one after the other are a text of the kind of both, joined
   pub IsPrinted-append :
       (Is Later Other : List ℕ → Type 0) (a b c : Printer W) →
       ((text more : List ℕ) → Is text → Later more → Other (text ++ more)) → IsPrinted contents Is a b →
       IsPrinted contents Later b c → IsPrinted contents Other a c
-  IsPrinted-append Is Later Other a b c turn (same, p) (later, q) =
+  IsPrinted-append Is Later Other a b c turn (look, width, p) (looks, widths, q) =
       let Then : Look → Type 0 = λ z. Appends (contents b.out) (contents c.out) (flat_map (written z) q.parts) in (
-        later ∙ same,
+        looks ∙ look,
+        widths ∙ width,
         record {
           parts = p.parts ++ q.parts;
           wrote =
               subst (Appends (contents a.out) (contents c.out))
               (sym (flat_map-append (written a.look) p.parts q.parts))
               (Appends-trans (contents a.out) (contents b.out) (contents c.out) _ _ p.wrote
-              (subst Then same q.wrote));
-          is =
-              subst Other (sym (flat_map-append (written Plain) p.parts q.parts))
-              (turn (text_of p.parts) (text_of q.parts) p.is q.is);
+              (subst Then look q.wrote));
+          lines = p.lines ++ q.lines;
+          shown =
+              subst (AreShownIn a.width (p.lines ++ q.lines)) (sym (flat_map-append (written Plain) p.parts q.parts))
+              (AreShownIn-append a.width p.lines (text_of p.parts) q.lines (text_of q.parts) p.shown
+              (subst (λ z. AreShownIn z q.lines (text_of q.parts)) width q.shown));
+          is = turn p.lines q.lines p.is q.is;
         },
       )
 

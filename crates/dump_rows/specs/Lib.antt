@@ -1,3 +1,4 @@
 pub mod Rows
 pub mod Parts
 pub mod Printing
+pub mod Texts

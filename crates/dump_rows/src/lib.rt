@@ -26,6 +26,8 @@ mod page;
 mod part;
 mod printer;
 mod row;
+mod texts;
+mod width;
 
 pub use page::{foot, head};
 pub use part::Look;

@@ -1,7 +1,7 @@
 // The parts of what is printed, in each look.
 ghost use Rattle.std.specs.Prelude.{◌≡◌, ◌<◌, ◌++◌, OnOk, false, string_bytes};
 ghost use Rattle.std.specs.Fmt.{digit_glyph};
-ghost use Rattle.std.specs.List.{list_all};
+ghost use Rattle.std.specs.List.{flat_map, list_all};
 ghost use Rattle.std.specs.Str.{chars};
 ghost use Rattle.der_io.specs.Escaped.{all_escaped};
 ghost use Rattle.dump_rows.specs.Parts.{entity, in_look, octet_text, octets_text, place_text, stands_raw, start_tag, start_text, written};
@@ -91,6 +91,21 @@ impl Part<'_> {
             (Look::Page, Part::SectionEnd) => out.push_str("</pre></section>\n"),
         }
     }
+}
+
+// Pushes what a look has of parts.
+pub fn push_parts(
+    alloc: Global,
+    look: Look,
+    parts: &[Part<'_>],
+    out: &mut String,
+) -> Result<(), AllocError>
+    ensures { OnOk result (string_bytes out.new ≡ string_bytes out.old ++ flat_map (written look) parts.now) }
+{
+    for part in parts {
+        part.push(alloc, look, out)?;
+    }
+    Ok(())
 }
 
 // Pushes a text with each character escaped that is not shown.

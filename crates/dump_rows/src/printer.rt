@@ -1,22 +1,21 @@
 // A printer, which writes rows and notes one behind another.
-ghost use Rattle.std.specs.Prelude.{◌≡◌, ◌≤◌, ◌∷◌, ◌++◌, [], OnOk};
+ghost use Rattle.std.specs.Prelude.{◌≡◌, ◌≤◌, ◌∷◌, ◌++◌, [], None, OnOk};
 ghost use Rattle.der_io.specs.Characters.{equals_sign, exclamation_mark, line_feed};
 ghost use Rattle.der_io.specs.Escaped.{escaped as escaped_is};
 ghost use Rattle.dump_rows.specs.Parts.{text_of};
-ghost use Rattle.dump_rows.specs.Printing.{IsPrinted, PrintsText};
+ghost use Rattle.dump_rows.specs.Printing.{IsPrinted, PrintsText, WritesParts};
 ghost use Rattle.dump_rows.specs.Rows.{IsRowLine, note_line, shown_text};
 
-use crate::part::{Look, Paint, Part};
+use crate::part::{Look, Paint, Part, Place, push_parts};
 use crate::row::Row;
+use crate::texts::RowTexts;
+use crate::width::cut;
 use der_io::{StreamFault, escaped, write_part};
 use std::alloc::Global;
 use std::io::Write;
 
 // How many octets beside the rows of a page are written at a time.
 const OCTETS_AT_ONCE: usize = 4096;
-
-// Room for the columns of most rows: offset, sizes, and two octets for each level.
-const COLUMNS_ROOM: usize = 100;
 
 // Room for most lines.
 const LINE_ROOM: usize = 200;
@@ -37,12 +36,24 @@ impl Folds {
     }
 }
 
+// What stands around the texts of a line: at which level, and what a page has of it.
+#[derive(Clone, Copy)]
+struct Frame {
+    level: usize,
+    is_fold: bool,
+    is_fault: bool,
+    place: Option<Place>,
+}
+
 /// Prints rows and notes one behind another, in a look: each goes to the writer before the next is made.
 #[derive(Drop)]
 pub struct Printer<W> {
     alloc: Global,
     /// How they are shown.
     pub look: Look,
+    /// How many columns of a terminal a line takes at most. Of a wider one the front is shown, and an ellipsis; of a
+    /// row the type goes first, if its field tells it, then the standard of a name, and then the end of the value.
+    pub width: Option<usize>,
     /// What they are written to.
     pub out: W,
     folds: Folds,
@@ -52,11 +63,13 @@ impl<W: Write> Printer<W> {
     /// A printer that writes to `out`, behind what was written to it before.
     pub fn new(alloc: Global, look: Look, out: W) -> Printer<W>
         ensures look { result.look ≡ look }
+        ensures width { result.width ≡ None }
         ensures out { result.out ≡ out }
     {
         Printer {
             alloc,
             look,
+            width: None,
             out,
             folds: Folds(0),
         }
@@ -77,34 +90,23 @@ impl<W: Write> Printer<W> {
     pub fn push(&mut self, row: &Row<'_>) -> Result<(), StreamFault>
         ensures { OnOk result (IsPrinted W.contents (IsRowLine row.now) self.old self.new) }
     {
-        let mut columns = String::with_capacity(self.alloc, COLUMNS_ROOM)?;
-        row.push_columns(&mut columns)?;
-        let texts = (
-            columns,
-            row.field_text(self.alloc)?,
-            String::from_str(self.alloc, row.type_name)?,
-            row.value_text(self.alloc)?,
-            row.fault_text(self.alloc)?,
-            row.mark_text(self.alloc)?,
-        );
-        let (columns, field, type_name, value, fault, mark) = &texts;
-        let is_fold = row.is_fold();
-        let closed = self.folds.turn(row.level(), is_fold);
-        self.write(&[
-            Part::FoldEnds(closed),
-            Part::Start {
-                is_fold,
-                is_fault: row.fault.is_some(),
-                place: Some(row.place()),
-            },
-            Part::Text(Paint::Dim, columns),
-            Part::Text(Paint::Bold, field),
-            Part::Text(Paint::Cyan, type_name),
-            Part::Text(Paint::Default, value),
-            Part::Text(Paint::Red, fault),
-            Part::Text(Paint::Red, mark),
-            Part::End { is_fold },
-        ])
+        let frame = Frame {
+            level: row.level(),
+            is_fold: row.is_fold(),
+            is_fault: row.fault.is_some(),
+            place: Some(row.place()),
+        };
+        match self.width {
+            None => {
+                let texts = RowTexts::of(self.alloc, row)?;
+                self.write_line(frame, &texts.parts())
+            }
+            Some(most) => {
+                let texts = RowTexts::in_width(self.alloc, row, most)?;
+                let shown = cut(self.alloc, &texts.parts(), most)?;
+                self.write_line(frame, &shown)
+            }
+        }
     }
 
     /// Prints a title, as a label or a name: `=`, a space, and the octets as text, escaped.
@@ -161,17 +163,20 @@ impl<W: Write> Printer<W> {
             self.old self.new) }
     {
         let paint = if is_fault { Paint::Red } else { Paint::Bold };
-        let closed = self.folds.turn(0, false);
-        self.write(&[
-            Part::FoldEnds(closed),
-            Part::Start {
-                is_fold: false,
-                is_fault,
-                place: None,
-            },
-            Part::Text(paint, line),
-            Part::End { is_fold: false },
-        ])
+        let texts = [Part::Text(paint, line)];
+        let frame = Frame {
+            level: 0,
+            is_fold: false,
+            is_fault,
+            place: None,
+        };
+        match self.width {
+            None => self.write_line(frame, &texts),
+            Some(most) => {
+                let shown = cut(self.alloc, &texts, most)?;
+                self.write_line(frame, &shown)
+            }
+        }
     }
 
     /// Ends the folds that are open.
@@ -209,14 +214,42 @@ impl<W: Write> Printer<W> {
         self.write(&[Part::SectionEnd])
     }
 
+    // Writes a line of these texts, at once.
+    fn write_line(&mut self, frame: Frame, texts: &[Part<'_>]) -> Result<(), StreamFault>
+        requires { frame.level ≤ 40 }
+        ensures { OnOk result (WritesParts W.contents (λ text. text ≡ text_of texts.now ++ line_feed ∷ [])
+            self.old self.new) }
+    {
+        let Frame {
+            level,
+            is_fold,
+            is_fault,
+            place,
+        } = frame;
+        let closed = self.folds.turn(level, is_fold);
+        let start = Part::Start {
+            is_fold,
+            is_fault,
+            place,
+        };
+        let mut line = String::with_capacity(self.alloc, LINE_ROOM)?;
+        push_parts(
+            self.alloc,
+            self.look,
+            &[Part::FoldEnds(closed), start],
+            &mut line,
+        )?;
+        push_parts(self.alloc, self.look, texts, &mut line)?;
+        Part::End { is_fold }.push(self.alloc, self.look, &mut line)?;
+        write_part(&mut self.out, line.as_bytes())
+    }
+
     // Writes parts, at once.
     fn write(&mut self, parts: &[Part<'_>]) -> Result<(), StreamFault>
-        ensures { OnOk result (IsPrinted W.contents (λ text. text ≡ text_of parts.now) self.old self.new) }
+        ensures { OnOk result (WritesParts W.contents (λ text. text ≡ text_of parts.now) self.old self.new) }
     {
-        let mut text = String::with_capacity(self.alloc, LINE_ROOM)?;
-        for part in parts {
-            part.push(self.alloc, self.look, &mut text)?;
-        }
+        let mut text = String::new(self.alloc);
+        push_parts(self.alloc, self.look, parts, &mut text)?;
         write_part(&mut self.out, text.as_bytes())
     }
 }

@@ -32,6 +32,8 @@ pub struct Row<'a> {
     pub field: Option<&'a str>,
     /// Its type, or its tag.
     pub type_name: &'a str,
+    /// What is named has no other type.
+    pub is_type_told: bool,
     /// What it holds.
     pub value: RowValue<'a>,
     /// What is wrong with it.
@@ -79,7 +81,31 @@ pub enum RowFault<'a> {
     Other(&'a str),
 }
 
-impl Row<'_> {
+impl<'a> Row<'a> {
+    // The same without its type, if the field tells that.
+    pub fn without_type(self) -> Row<'a> {
+        match (self.is_type_told, self.field) {
+            (true, Some(_)) => Row {
+                type_name: "",
+                ..self
+            },
+            _ => self,
+        }
+    }
+
+    // The same without the standard that has the name of an object identifier.
+    pub fn without_standard(self) -> Row<'a> {
+        let identifier = match self.value.identifier {
+            Some((name, _)) => Some((name, "")),
+            None => None,
+        };
+        let value = RowValue {
+            identifier,
+            ..self.value
+        };
+        Row { value, ..self }
+    }
+
     // The level at which it stands.
     pub fn level(&self) -> usize
         ensures { result ≡ min self.now.depth 40 }
@@ -120,11 +146,12 @@ impl Row<'_> {
         push_spaces(self.level(), out)
     }
 
-    // The name of its field, as it stands before the type.
+    // The name of its field, as it stands before the type, if that is shown.
     pub fn field_text(&self, alloc: Global) -> Result<String, AllocError> {
-        match self.field {
-            Some(name) => format!(in alloc; "{name} "),
-            None => Ok(String::new(alloc)),
+        match (self.field, self.type_name) {
+            (Some(name), "") => String::from_str(alloc, name),
+            (Some(name), _) => format!(in alloc; "{name} "),
+            (None, _) => Ok(String::new(alloc)),
         }
     }
 
