@@ -3,7 +3,7 @@
 // A path has the names of fields from the outside to the inside, without that of the document. What has no name as a
 // field has that of its type there.
 
-use crate::messages::{ENCRYPTION, message_form, parameter_form, service_form};
+use crate::messages::{ENCRYPTION, file_form, message_form, parameter_form, service_form};
 
 // How an account shows documents of some types.
 pub struct Form {
@@ -134,6 +134,9 @@ pub fn form_of(type_name: &str) -> Option<&'static Form> {
         return Some(form);
     }
     if let Some(form) = message_form(type_name) {
+        return Some(form);
+    }
+    if let Some(form) = file_form(type_name) {
         return Some(form);
     }
     service_form(type_name).or(parameter_form(type_name))

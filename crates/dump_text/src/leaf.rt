@@ -6,6 +6,7 @@ use asn1_numbers::number::big_int::BigInt;
 use dump_names::Names;
 use dump_values::Time;
 use dump_values::tag::universal_tag;
+use dump_values::text::decimal_of;
 use dump_values::value::LeafValue;
 use dump_walk::piece::{Piece, PieceKind};
 use jiff::civil::DateTime;
@@ -190,10 +191,10 @@ pub fn item_of(
     Ok(Some(text))
 }
 
-// A number in decimal; `?` of one that is too large to be meant.
+// A number in decimal; `?` of one that has too many octets for it.
 fn decimal_text(alloc: Global, number: &BigInt) -> Result<String, AllocError> {
-    match number.to_i128() {
-        Some(number) => format!(in alloc; "{number}"),
+    match decimal_of(alloc, number)? {
+        Some(text) => Ok(text),
         None => String::from_str(alloc, "?"),
     }
 }

@@ -2,9 +2,14 @@
 
 use crate::forms::{ALGORITHM, Form, KEY, NUMBER, Part, Parts, SIGNATURE, TIME, form_in};
 
-// How accounts show messages of the type with this name, and files of keys and certificates.
+// How accounts show messages of the type with this name.
 pub fn message_form(type_name: &str) -> Option<&'static Form> {
     form_in(MESSAGES, type_name)
+}
+
+// How accounts show files of keys and certificates of the type with this name.
+pub fn file_form(type_name: &str) -> Option<&'static Form> {
+    form_in(FILES, type_name)
 }
 
 // How accounts show requests and responses of the type with this name.
@@ -18,7 +23,7 @@ pub fn parameter_form(type_name: &str) -> Option<&'static Form> {
 }
 
 const MESSAGES: &[Form] = &[
-    // RFC 5652, 3
+    // RFC 5652, 3, and RFC 5083, 2
     Form {
         types: &["ContentInfo"],
         title: "CMS",
@@ -55,7 +60,37 @@ const MESSAGES: &[Form] = &[
                 PASSWORD,
             ),
             (
+                "content.EnvelopedData.recipientInfos.kekri",
+                "recipient",
+                KEY_HOLDER,
+            ),
+            (
+                "content.AuthEnvelopedData.recipientInfos.ktri",
+                "recipient",
+                RECIPIENT,
+            ),
+            (
+                "content.AuthEnvelopedData.recipientInfos.kari",
+                "recipient",
+                AGREED,
+            ),
+            (
+                "content.AuthEnvelopedData.recipientInfos.pwri",
+                "recipient",
+                PASSWORD,
+            ),
+            (
+                "content.AuthEnvelopedData.recipientInfos.kekri",
+                "recipient",
+                KEY_HOLDER,
+            ),
+            (
                 "content.EnvelopedData.encryptedContentInfo.contentEncryptionAlgorithm",
+                "encryption",
+                ENCRYPTION,
+            ),
+            (
+                "content.AuthEnvelopedData.authEncryptedContentInfo.contentEncryptionAlgorithm",
                 "encryption",
                 ENCRYPTION,
             ),
@@ -78,6 +113,9 @@ const MESSAGES: &[Form] = &[
         ],
         signed: None,
     },
+];
+
+const FILES: &[Form] = &[
     // RFC 7292, 4
     Form {
         types: &["PFX"],
@@ -207,6 +245,14 @@ const SERVICES: &[Form] = &[
                 NUMBER,
             ),
             (
+                concat!(
+                    "timeStampToken.content.SignedData.encapContentInfo.eContent.",
+                    "OCTET STRING CONTAINING TSTInfo.TSTInfo.nonce"
+                ),
+                "nonce",
+                NUMBER,
+            ),
+            (
                 "timeStampToken.content.SignedData.signerInfos.SignerInfo",
                 "signer",
                 SIGNER,
@@ -219,6 +265,7 @@ const SERVICES: &[Form] = &[
             "imprint",
             "policy",
             "serial number",
+            "nonce",
             "signer",
         ],
         signed: None,
@@ -359,6 +406,13 @@ const AGREED: Parts = &[
         "recipientEncryptedKeys.RecipientEncryptedKey.rid.serialNumber",
         Part::Serial,
     ),
+];
+
+// RFC 5652, 6.2.3
+const KEY_HOLDER: Parts = &[
+    ("", Part::Text("")),
+    ("kekid.keyIdentifier", Part::Octets("key ")),
+    ("keyEncryptionAlgorithm.algorithm", Part::Item),
 ];
 
 // RFC 5652, 6.2.4
