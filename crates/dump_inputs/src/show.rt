@@ -13,7 +13,7 @@ use der_io::{StreamFault, write_part};
 use dump_json::Origin;
 use dump_lines::{Dumper, Style, Verdict, push_refusal};
 use dump_names::{Names, OwnNames};
-use dump_options::{Color, Options, Output};
+use dump_options::{Color, Options, Output, Width};
 use dump_rows::{Look, Printer, foot, head};
 use dump_shapes::{Around, Shapes, Spot};
 use dump_text::account_of;
@@ -145,6 +145,10 @@ impl<'o> Show<'o> {
             (Output::Page, _) => Look::Page,
             (_, Color::Always) => Look::Colored,
             (_, Color::Auto | Color::Never) => Look::Plain,
+        };
+        printer.width = match (self.options.output, self.options.width) {
+            (Output::Lines, Width::Columns(most)) => Some(most),
+            _ => None,
         };
         if self.is_named {
             self.push_note(false, name, printer)?;

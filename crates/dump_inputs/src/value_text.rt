@@ -1,8 +1,8 @@
 // The value of a block as text.
 
-use asn1_numbers::number::big_int::BigInt;
-use dump_json::{MOST_DECIMAL, text_of};
 use dump_names::Names;
+use dump_values::scalars::printed_str;
+use dump_values::text::ValueText;
 use dump_values::value::{Identifier, LeafValue};
 use dump_walk::Block;
 use dump_walk::piece::Piece;
@@ -38,61 +38,43 @@ fn piece_text(
     if let Some(fault) = &piece.fault {
         return Ok(Err(format!(in alloc; "is malformed: {}", fault.message)?));
     }
-    let text = match piece.value() {
-        Some(LeafValue::Integer(number)) => number_text(alloc, number)?,
-        Some(LeafValue::Identifier(identifier)) => {
-            identifier_text(alloc, names, piece.contents(), identifier)?
-        }
-        Some(LeafValue::Bits(_)) => return Ok(Ok(piece.bits_text(alloc, &names.shapes)?)),
-        Some(value) => return Ok(Ok(other_text(alloc, value)?)),
-        None => return Ok(Ok(None)),
+    let Some(value) = piece.value() else {
+        return Ok(Ok(None));
     };
-    match text {
-        Some(text) => Ok(Ok(Some(text))),
-        None => Ok(Err(String::from_str(alloc, TOO_LONG)?)),
+    if is_lines(value) {
+        return Ok(Ok(None));
     }
-}
-
-// A number in decimal, if it has not too many octets.
-fn number_text(alloc: Global, number: &BigInt) -> Result<Option<String>, AllocError> {
-    if number.octets().len() > MOST_DECIMAL {
-        return Ok(None);
-    }
-    Ok(Some(format!(in alloc; "{number}")?))
-}
-
-// The name of an object identifier of these contents octets, or else its components in decimal, if these are not too
-// many octets.
-fn identifier_text(
-    alloc: Global,
-    names: &Names,
-    contents: &[u8],
-    identifier: &Identifier,
-) -> Result<Option<String>, AllocError> {
-    if contents.len() > MOST_DECIMAL {
-        return Ok(None);
-    }
-    let Some(dotted) = &identifier.dotted else {
-        return Ok(Some(format!(in alloc; "{}", identifier.components)?));
-    };
-    let text = names.of(dotted).map_or(dotted.as_str(), |(name, _)| name);
-    Ok(Some(String::from_str(alloc, text)?))
-}
-
-// Another value as text, if it has some.
-fn other_text(alloc: Global, value: &LeafValue) -> Result<Option<String>, AllocError> {
     let text = match value {
-        LeafValue::Boolean(true) => "true",
-        LeafValue::Boolean(false) => "false",
+        LeafValue::Bits(_) => return Ok(Ok(piece.bits_text(alloc, &names.shapes)?)),
+        LeafValue::Identifier(identifier) => name_of(names, identifier).map(ValueText::Own),
+        _ => None,
+    };
+    let text = match text {
+        Some(name) => Some(name),
+        None => value.text(alloc, piece.contents())?,
+    };
+    match (text, value) {
+        (Some(text), _) => Ok(Ok(Some(text.into_string(alloc)?))),
+        (None, LeafValue::Integer(_) | LeafValue::Identifier(_)) => {
+            Ok(Err(String::from_str(alloc, TOO_LONG)?))
+        }
+        (None, _) => Ok(Ok(None)),
+    }
+}
+
+// The name of an object identifier, if it has one.
+fn name_of<'a>(names: &'a Names, identifier: &Identifier) -> Option<&'a str> {
+    let (name, _) = names.of(identifier.dotted.as_deref()?)?;
+    Some(name)
+}
+
+// Whether a value is octets that are lines of text, which are written as they stand.
+fn is_lines(value: &LeafValue) -> bool {
+    match value {
         LeafValue::Octets(Some(text))
         | LeafValue::Other(Some(text))
         | LeafValue::Tagged(Some(text))
-        | LeafValue::NoText(Some(text)) => text,
-        LeafValue::Address(address) => return Ok(Some(address.text(alloc)?)),
-        _ => match text_of(value) {
-            Some(text) => text,
-            None => return Ok(None),
-        },
-    };
-    Ok(Some(String::from_str(alloc, text)?))
+        | LeafValue::NoText(Some(text)) => printed_str(text.as_bytes()).is_none(),
+        _ => false,
+    }
 }

@@ -1,10 +1,10 @@
 // The members `name` and `shown`, for people who read the value.
-use crate::leaf::{MOST_DECIMAL, text_of};
 use crate::value::Value;
 use dump_names::Names;
 use dump_shapes::Named;
 use dump_values::scalars::LEAST_HEX;
 use dump_values::tag::is_universal;
+use dump_values::text::MOST_DECIMAL;
 use dump_values::value::LeafValue;
 use dump_walk::piece::{Piece, PieceKind};
 use std::alloc::{AllocError, Global};
@@ -41,7 +41,7 @@ pub fn shown_of<'a>(alloc: Global, piece: &'a Piece<'_>) -> Result<Option<Value<
         PieceKind::Leaf(header, contents, Some(value)) if is_universal(header) => {
             Ok(shown_value(contents, value))
         }
-        PieceKind::Leaf(_, _, Some(value)) => value_text(alloc, value),
+        PieceKind::Leaf(_, contents, Some(value)) => text_shown(alloc, contents, value),
         PieceKind::Leaf(_, _, None) => Ok(
             piece.fault.as_ref().and_then(|fault| text_in(&fault.text)),
         ),
@@ -66,22 +66,18 @@ fn shown_value<'a>(contents: &'a [u8], value: &'a LeafValue) -> Option<Value<'a>
     }
 }
 
-// A value under a tag of another class than Universal as text, if it has some. Its octets are the member `value`.
-fn value_text<'a>(alloc: Global, value: &'a LeafValue) -> Result<Option<Value<'a>>, AllocError> {
-    if let Some(text) = text_of(value).filter(|text| !text.is_empty()) {
-        return Ok(Some(Value::Text(text)));
+// A value of these contents octets under a tag of another class than Universal as text, if it has some. Its octets are
+// the member `value`.
+fn text_shown<'a>(
+    alloc: Global,
+    contents: &[u8],
+    value: &'a LeafValue,
+) -> Result<Option<Value<'a>>, AllocError> {
+    let Some(text) = value.text(alloc, contents)? else {
+        return Ok(None);
+    };
+    if text.as_str().is_empty() {
+        return Ok(None);
     }
-    match value {
-        LeafValue::Boolean(true) => Ok(Some(Value::Text("true"))),
-        LeafValue::Boolean(false) => Ok(Some(Value::Text("false"))),
-        LeafValue::Integer(number) if number.octets().len() <= MOST_DECIMAL => {
-            Ok(Some(Value::Made(format!(in alloc; "{number}")?)))
-        }
-        LeafValue::Octets(text) | LeafValue::NoText(text) | LeafValue::Tagged(text) => {
-            Ok(text_in(text))
-        }
-        LeafValue::Identifier(identifier) => Ok(text_in(&identifier.dotted)),
-        LeafValue::Address(address) => Ok(Some(Value::Made(address.text(alloc)?))),
-        _ => Ok(None),
-    }
+    Ok(Some(Value::of_text(text)))
 }

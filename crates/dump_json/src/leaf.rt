@@ -2,15 +2,12 @@
 use crate::value::Value;
 use asn1_numbers::number::big_int::BigInt;
 use asn1_numbers::number::big_uint::BigUint;
+use dump_values::text::{MOST_DECIMAL, decimal_of};
 use dump_values::value::{Identifier, LeafValue};
 use std::alloc::{AllocError, Global};
 
 // The greatest number that every reader of JSON takes as it is (RFC 7493, section 2.2): 2^53 - 1.
 const GREATEST_NUMBER: u64 = 9_007_199_254_740_991;
-
-/// The most octets of a number, or of an object identifier, that are written in decimal: the time for it grows as the
-/// square of how many they are.
-pub const MOST_DECIMAL: usize = 1024;
 
 // A tag number; null if it has too many octets to be written in decimal.
 pub fn tag_value(alloc: Global, number: &BigUint) -> Result<Value<'static>, AllocError> {
@@ -25,8 +22,10 @@ pub fn tag_value(alloc: Global, number: &BigUint) -> Result<Value<'static>, Allo
 fn integer_value<'a>(alloc: Global, number: &BigInt) -> Result<Value<'a>, AllocError> {
     match number.to_i64() {
         Some(n) if n.unsigned_abs() <= GREATEST_NUMBER => Ok(Value::Integer(n)),
-        _ if number.octets().len() > MOST_DECIMAL => Ok(Value::Null),
-        _ => Ok(Value::Made(format!(in alloc; "{number}")?)),
+        _ => match decimal_of(alloc, number)? {
+            Some(text) => Ok(Value::Made(text)),
+            None => Ok(Value::Null),
+        },
     }
 }
 
@@ -36,24 +35,9 @@ fn identifier_value<'a>(
     contents: &[u8],
     identifier: &'a Identifier,
 ) -> Result<Value<'a>, AllocError> {
-    if contents.len() > MOST_DECIMAL {
-        return Ok(Value::Null);
-    }
-    match &identifier.dotted {
-        Some(dotted) => Ok(Value::Text(dotted)),
-        None => Ok(Value::Made(format!(in alloc; "{}", identifier.components)?)),
-    }
-}
-
-/// The text that a value is.
-pub fn text_of(value: &LeafValue) -> Option<&str> {
-    match value {
-        LeafValue::Text(text)
-        | LeafValue::WideText(_, text)
-        | LeafValue::OtherText(text)
-        | LeafValue::Notation(text) => Some(text),
-        LeafValue::Moment(time) | LeafValue::BerTime(time) => Some(&time.text),
-        _ => None,
+    match identifier.text(alloc, contents)? {
+        Some(text) => Ok(Value::of_text(text)),
+        None => Ok(Value::Null),
     }
 }
 
@@ -63,7 +47,7 @@ pub fn value_in<'a>(
     contents: &'a [u8],
     value: &'a LeafValue,
 ) -> Result<Value<'a>, AllocError> {
-    if let Some(text) = text_of(value) {
+    if let Some(text) = value.own_text() {
         return Ok(Value::Text(text));
     }
     match value {

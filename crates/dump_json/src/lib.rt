@@ -31,5 +31,4 @@ mod rows;
 mod string;
 mod value;
 
-pub use leaf::{MOST_DECIMAL, text_of};
 pub use line::{Dumper, Origin};

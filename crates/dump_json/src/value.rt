@@ -7,6 +7,7 @@ use crate::json::Json;
 use crate::number::{write_integer, write_natural};
 use crate::string::{write_hex, write_string};
 use der_io::{StreamFault, write_part};
+use dump_values::text::ValueText;
 use std::io::Write;
 
 #[derive(Drop)]
@@ -27,6 +28,14 @@ pub enum Value<'a> {
 }
 
 impl<'a> Value<'a> {
+    // The text of a value.
+    pub fn of_text(text: ValueText<'a>) -> Value<'a> {
+        match text {
+            ValueText::Own(text) => Value::Text(text),
+            ValueText::Made(text) => Value::Made(text),
+        }
+    }
+
     // How many octets.
     pub fn count(octets: usize) -> Value<'a> {
         Value::Natural(octets as u64)

@@ -160,6 +160,7 @@ impl Dumper<'_> {
             // where it has no name, that of its type, if that of its tag does not say as much
             field: named.and_then(|named| named.field.or((!named.is_of_tag).then_some(named.of))),
             type_name: &texts.type_name,
+            is_type_told: named.is_some_and(|named| named.is_tag_told),
             value: self.row_value(piece, named, texts),
             fault: fault_of(piece),
             rules,

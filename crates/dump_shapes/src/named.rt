@@ -12,6 +12,8 @@ pub struct Named {
     pub of: &'static str,
     /// Whether that begins with the name of its tag.
     pub is_of_tag: bool,
+    /// Whether what is named, the field, the alternative or else the type, has no other tag.
+    pub is_tag_told: bool,
     /// The alternative of a choice that its tag chooses, where it is a field with another name.
     pub alternative: Option<&'static str>,
     /// The name of its value, where the type has names for numbers.

@@ -58,11 +58,16 @@ impl Shapes {
         };
         let shape = self.shapes.get(of.shape)?;
         let alternative = part.name.filter(|_| of.tag.is_none());
+        let is_tag_told = match field.name {
+            Some(_) => field.tag.is_some() || (alternative.is_some() && part.has_own_tag),
+            None => alternative.is_some() || of.tag.is_some(),
+        };
         Some(Spot {
             named: Named {
                 field: field.name.or(alternative),
                 of: shape.name,
                 is_of_tag: shape.is_named_by_tag && shape.tag == Some(tag),
+                is_tag_told,
                 alternative: alternative.filter(|_| field.name.is_some() && part.has_own_tag),
                 value: None,
             },

@@ -2,7 +2,7 @@
 //!
 //! `leaf::read_contents` reads the contents octets of a primitive encoding, of the type that its tag says or of one
 //! that is known, to a `value::LeafValue`, or to the `faults::Fault` that says why they have none. An [`Address`] is
-//! one of IP. `scalars` writes octets and characters, and `tag` compares tags.
+//! one of IP. `text` has values as text, `scalars` writes octets and characters, and `tag` compares tags.
 //!
 //! Where X.690 has values that the library reads otherwise or not at all, they are read here: in `identifier` object
 //! identifiers whose first subidentifier has more than one octet; in `characters` UTF-16 of a BMPString, UTF-32 of a
@@ -20,6 +20,7 @@ pub mod leaf;
 mod moment;
 pub mod scalars;
 pub mod tag;
+pub mod text;
 mod time;
 mod universal;
 pub mod value;

@@ -83,14 +83,22 @@ pub fn printed_str(octets: &[u8]) -> Option<&str> {
     }
 }
 
-// The octets as text, where they are printed characters, and at least so many.
+// The octets as text, where they are printed characters, at least so many, and tabs and line ends.
 pub fn printed_text(
     alloc: Global,
     octets: &[u8],
     least: usize,
 ) -> Result<Option<String>, AllocError> {
-    match printed_str(octets) {
-        Some(text) if text.len() >= least => Ok(Some(String::from_str(alloc, text)?)),
+    let mut printed = 0_usize;
+    for octet in octets {
+        match octet {
+            b' '..=b'~' => printed = printed.saturating_add(1),
+            b'\t' | b'\n' | b'\r' => {}
+            _ => return Ok(None),
+        }
+    }
+    match str::from_utf8(octets) {
+        Ok(text) if printed >= least => Ok(Some(String::from_str(alloc, text)?)),
         _ => Ok(None),
     }
 }

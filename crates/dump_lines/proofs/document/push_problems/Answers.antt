@@ -1,7 +1,10 @@
 -- For `document::push_problems`: its loop keeps its invariant, and what it returns is right.
 use Rattle.std.proofs.lemmas.Result.{on_ok_weaker}
-use Rattle.dump_rows.proofs.Printed.{PrintsText-append}
+use Rattle.dump_rows.proofs.Printed.{IsPrinted-nil, PrintsText-append}
 use Rattle.dump_lines.proofs.document.push_problems.Goals as goal
+
+pub loop-mark-init : goal.loop-mark-init
+loop-mark-init g c = IsPrinted-nil g.W.Write.contents (λ text. Unit {0}) c.args.printer.now tt
 
 pub loop-mark-preserved : goal.loop-mark-preserved
 loop-mark-preserved g c =
