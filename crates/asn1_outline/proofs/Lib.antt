@@ -14,7 +14,7 @@ mod InsideStrings
 mod Roots
 mod Built
 mod BuildSteps
-mod ShapesAlone
+pub mod ShapesAlone
 mod Walks
 pub mod Fronts
 mod ShapesWithin

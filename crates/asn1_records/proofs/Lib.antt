@@ -15,7 +15,6 @@ pub mod Rooms
 mod FittingComponents
 mod PushedNumerals
 mod PathSteps
-mod OneHeader
 mod SideBySide
 mod LaterShapes
 mod NamedEntries

@@ -1,5 +1,5 @@
 -- Encodings one after another by their headers, for the functions of `items`.
-use Rattle.std.proofs.Common.{◌≡◌, ◌≢◌, ℕ, zero, suc, ◌+◌, ◌-◌, ◌<◌, ◌≤◌, ◌^◌, List, ◌++◌, drop, length, refl, sym, ap, subst, ◌∙◌, arith, length-append}
+use Rattle.std.proofs.Common.{◌≡◌, ◌≢◌, ℕ, zero, suc, ◌+◌, ◌-◌, ◌<◌, ◌≤◌, List, ◌++◌, drop, length, refl, sym, ap, subst, ◌∙◌, arith, length-append}
 use Rattle.std.specs.List.{slice_range}
 use Rattle.std.proofs.lemmas.List.{append_cancel_left, drop_at}
 use Rattle.asn1_headers.specs.Fault.{DecodeFault}
@@ -8,12 +8,12 @@ use Rattle.asn1_blocks.specs.HeadersBegun.{IsReadInside}
 use Rattle.asn1_blocks.specs.Places.{EncodingAt, HasNoEncodingAt, HeaderFound, IsEncoding}
 use Rattle.asn1_blocks.specs.declared.parsed.PlacedHeader.{PlacedHeader}
 use Rattle.asn1_blocks.proofs.EncodingSizes.{IsEncoding-two_le}
-use Rattle.asn1_blocks.proofs.PlacedHeaders.{HeaderFound-no_fault, slice_range-at_header}
+use Rattle.asn1_blocks.proofs.PlacedHeaders.{slice_range-at_header}
 use Rattle.asn1_blocks.proofs.ReadSteps.{length-slice_range, slice_range-append}
 use Rattle.asn1_blocks.proofs.Slices.{EncodingAt-unique}
+use Rattle.asn1_outline.proofs.ShapesAlone.{HeaderFound-unique}
 use Rattle.asn1_outline.specs.Shapes.{AreShapes, HasItems, HeadersFaultAt, Shapes, as_it_came, in_header, in_item, in_later, more_shapes, no_more, no_shapes, not_read, one_more, read_inside}
 use Rattle.asn1_records.specs.Inner.Named.{shapes_from}
-use Rattle.asn1_records.proofs.OneHeader.{HeaderFound-unique}
 
 -- shapes begin with the encoding whose header stands at the offset
 pub record BeginWithHeader (x : List ℕ) (p e : ℕ) (all : Shapes) (h : PlacedHeader) : Type 0 where
@@ -178,34 +178,3 @@ pub AreShapes-no_encoding : (x : List ℕ) (p e : ℕ) (all : Shapes) → e ≤ 
 AreShapes-no_encoding x p e all within (no_more end) none = refl
 AreShapes-no_encoding x p e all within (one_more {header = h} f has more) none =
     absurd (none (slice_range x p h.end) (EncodingAt-header x p e h within f))
-
-module _ (x : List ℕ) (small : length x < 2 ^ 64) where
-  mutual
-    -- octets whose headers have shapes have no header fault
-    pub AreShapes-no_fault : (s p e : ℕ) (all : Shapes) (fault : DecodeFault) (o : ℕ) → e ≤ length x →
-        AreShapes x p e all → HeadersFaultAt x s p e fault o → ⊥
-    AreShapes-no_fault s p e all fault o within (no_more end) w =
-        omega (arith, end, HeadersFaultAt-before_end x s p e fault o w)
-    AreShapes-no_fault s p e all fault o within (one_more {header = h} f has more) (in_header before w) =
-        HeaderFound-no_fault x s p e h fault small within f w
-    AreShapes-no_fault s p e all fault o within (one_more {header = h} {items = items} f has more)
-        (in_item {header = g} f' u i w) =
-        let same : g ≡ h = HeaderFound-unique x p e g h within f' f in
-        HasItems-no_fault h items fault o (omega (arith, f.ends_within, within)) has
-        (ap (λ (z : PlacedHeader). z.class) (sym same) ∙ u)
-        (subst (λ (z : PlacedHeader). IsReadInside z.class z.constructed z.tag) same i)
-        (subst (λ (z : PlacedHeader). HeadersFaultAt x z.start z.start z.end fault o) same w)
-    AreShapes-no_fault s p e all fault o within (one_more {header = h} {rest = rest} f has more)
-        (in_later {header = g} f' has' w) =
-        let same : g ≡ h = HeaderFound-unique x p e g h within f' f in
-        AreShapes-no_fault s h.end e rest fault o within more
-        (subst (λ (z : PlacedHeader). HeadersFaultAt x s z.end e fault o) same w)
-
-    -- an encoding with items has no header fault in its contents octets
-    HasItems-no_fault : (h : PlacedHeader) (items : Shapes) (fault : DecodeFault) (o : ℕ) → h.end ≤ length x →
-        HasItems x h items → h.class ≡ Universal → IsReadInside h.class h.constructed h.tag →
-        HeadersFaultAt x h.start h.start h.end fault o → ⊥
-    HasItems-no_fault h items fault o within (read_inside i are) u j w =
-        AreShapes-no_fault h.start h.start h.end items fault o within are w
-    HasItems-no_fault h items fault o within (as_it_came other c p) u j w = other u
-    HasItems-no_fault h items fault o within (not_read shut) u j w = shut j

@@ -52,11 +52,15 @@ fn push_subidentifiers(
     Ok(())
 }
 
-// The components. Room for all is reserved before they are read.
+// The components. Octets that mean none are refused before any room is reserved; then room for all is, before they are
+// read.
 pub fn read(alloc: Global, contents: &[u8]) -> Result<Vec<BigUint>, ASN1DecodeErr>
     ensures found { IfOk result (λ components. ObjectIdentifierContents components.items contents.now) }
     ensures refused { IfErr result (OutOfMemoryOr (ObjectIdentifierFault contents.now)) }
 {
+    if !are_clearly_meant(contents) {
+        return Err(ASN1DecodeErr::Incomplete);
+    }
     let Some((octet, rest)) = contents.split_first() else {
         return Err(ASN1DecodeErr::Incomplete);
     };

@@ -1,8 +1,9 @@
 -- For `items::are_encodings`: what it returns is right.
 use Rattle.std.proofs.Common.{◌<◌, ◌^◌, length, inl, inr, ap, arith}
 use Rattle.asn1_blocks.proofs.ReadSteps.{length-slice_range}
+use Rattle.asn1_outline.proofs.ShapesAlone.{AreShapes-no_fault}
 use Rattle.asn1_records.proofs.LaterShapes.{AreShapes-slice, HeadersFaultAt-slice, later_shapes}
-use Rattle.asn1_records.proofs.SideBySide.{AreShapes-no_fault, HeadersFaultAt-before_end}
+use Rattle.asn1_records.proofs.SideBySide.{HeadersFaultAt-before_end}
 use Rattle.asn1_records.proofs.items.are_encodings.Goals as goal
 
 pub returns-then-start-end-clause-yes : goal.returns-then-start-end-clause-yes
