@@ -127,6 +127,7 @@ MEMORY = {
     "groups": of_der(25_000_000),
     "nests": of_der(50_000_000),
     "attempts": without_room(12_500_000),
+    "a cut-off OBJECT IDENTIFIER": dict.fromkeys(("read", "check", "rewrite"), (INCOMPLETE, 0)),
 } | {shape: {"rewrite": (NO_ROOM, octets)} for shape, octets in NOT_CANONICAL.items()}
 MEMORY_CALLS = [(shape, call) for shape, calls in MEMORY.items() for call in calls]
 MOST_KILOBYTES = 4_096

@@ -14,7 +14,7 @@ import sys
 
 import wanted
 from bounds import RUNS, SIZES, is_well
-from shapes import ACCOUNTED, CERTIFICATES, DOCUMENTS, TEXTS
+from shapes import ACCOUNTED, CERTIFICATES, DOCUMENTS, TEXTS, UNREAD
 from short import part
 
 # seconds: what takes longer is ended
@@ -100,7 +100,7 @@ def least(kind, *given):
 def answers(name, make, is_text):
     """What each call has to answer of a shape, by the kind of program."""
     if is_text:
-        return {"dump": dict.fromkeys(LOOKS, 0) | {"--text": 1}}
+        return {"dump": dict.fromkeys(LOOKS, int(name in UNREAD)) | {"--text": 1}}
     look, strict = wanted.of_dump(make(SMALL))
     library = wanted.of_library(make(DEEP), make(SMALL), name in CERTIFICATES)
     crate = wanted.of_crate(make(DEEP))

@@ -26,6 +26,7 @@ static const struct {
     {"long attempts", 8, "\xA0\x81\5\4\1\1\2\5", ""},
     {"one INTEGER", 2, "\0\0", "\x02\x84\x05\xF5\xE0\xFA"},
     {"one OBJECT IDENTIFIER", 2, "\x80\5", "\x06\x84\x05\xF5\xE0\xFA"},
+    {"a cut-off OBJECT IDENTIFIER", 2, "\5\x85", "\x06\x84\x05\xF5\xE0\xFA"},
 };
 
 static long most(void)
