@@ -12,8 +12,8 @@ const MOST_LETTERS: usize = 2;
 const LEAST_LENGTH: usize = 3;
 
 impl Shapes {
-    /// The names of types that are like this one, in any case of letters: that have it in them, or that are from it by one
-    /// letter, or by two where it has six and more. The one that is the fewest letters away comes first.
+    /// The names of types that are like this one, in any case of letters: that have it in them, or that are from it by
+    /// one letter, or by two where it has six and more. The one that is the fewest letters away comes first.
     pub fn like(&self, alloc: Global, name: &str) -> Result<Vec<&'static str>, AllocError> {
         let name = name.to_ascii_lowercase(alloc)?;
         let most = (name.len() / LETTERS_FOR_ONE).min(MOST_LETTERS);
