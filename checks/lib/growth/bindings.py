@@ -18,8 +18,8 @@ import subprocess
 import sys
 import tempfile
 
-from bounds import RUNS, SIZES, is_well
-from shapes import ALGORITHM, LIST_FRONT, REVOKED, SIGNATURE
+from bounds import PATIENCE, RUNS, SIZES, is_well
+from shapes import ALGORITHM, LIST_FRONT, REVOKED, SIGNATURE, words
 from x690 import Nest, encoding, header
 
 
@@ -259,6 +259,26 @@ def dump_memory(program, work):
     return wrong
 
 
+# of text without a document, which takes three seconds on a busy machine, and two of plain English
+TEXT_SIZE, MOST_SECONDS_OF_TEXT = 100_000_000, 10.0
+
+
+def text_time(program, work):
+    """Whether a text without a document takes too long, or is said to have one."""
+    path = os.path.join(work, "words")
+    with open(path, "wb") as file:
+        for _ in range(TEXT_SIZE // 1_000_000):
+            file.write(words(1_000_000))
+    with open(path, "rb") as source:
+        child = subprocess.Popen([program], stdin=source, stdout=subprocess.DEVNULL)
+        _, status, used = os.wait4(child.pid, 0)
+        child.returncode = os.waitstatus_to_exitcode(status)
+    took = used.ru_utime + used.ru_stime
+    good = child.returncode == 1 and took <= MOST_SECONDS_OF_TEXT * PATIENCE
+    print(f"growth: der_dump of 100 MB of words takes {took:.1f} s" + ("" if good else ": WRONG"), flush=True)
+    return int(not good)
+
+
 def main():
     work, wrong, tried = sys.argv[1], 0, 0
     programs = dict(word.split("=", 1) for word in sys.argv[2:])
@@ -270,7 +290,8 @@ def main():
         tried += 1
     if "json" in programs:
         wrong += dump_memory(programs["json"], work)
-        tried += sum(len(looks) for _, _, looks in DUMPED)
+        wrong += text_time(programs["json"], work)
+        tried += sum(len(looks) for _, _, looks in DUMPED) + 1
     for shape, make in SHAPES.items():
         paths = [os.path.join(work, f"{size}.der") for size in SIZES]
         for path, size in zip(paths, SIZES):
