@@ -1,6 +1,9 @@
 -- The trees of fields, from which those of types are made.
 pub mod FieldTrees
 pub mod LastFieldTrees
+-- Which block is at fault, and where it is.
+pub mod Places
+pub mod Faults
 -- That no two values have the same tree.
 pub mod Laws
 pub mod FieldLaws

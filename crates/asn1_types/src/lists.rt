@@ -5,9 +5,11 @@ ghost use Rattle.asn1_blocks.specs.View.{view, views};
 ghost use Rattle.asn1_blocks.specs.declared.block.GroupKind.TheVariants.{Sequence as a_sequence, Set as a_set};
 ghost use Rattle.asn1_headers.specs.declared.error.ASN1EncodeErr.TheVariants.{OutOfMemory as no_memory};
 ghost use Rattle.asn1_types.specs.declared.TypeErr.TheVariants.{Shape};
+ghost use Rattle.asn1_types.specs.Faults.{group_fault, items_fault};
+ghost use Rattle.asn1_types.specs.Places.{spot};
 ghost use Rattle.asn1_types.specs.Laws.{group-inner, list-distinct};
 
-use crate::{Asn1Type, Asn1Write, TypeErr};
+use crate::{Asn1Type, Asn1Write, Place, TypeErr};
 use asn1_blocks::block::ASN1Block;
 use asn1_headers::error::ASN1EncodeErr;
 use std::alloc::Global;
@@ -15,16 +17,18 @@ use std::marker::Model;
 
 // The values that all these blocks are.
 fn read_all<T: Asn1Type + Drop>(alloc: Global, blocks: &[ASN1Block]) -> Result<Vec<T>, TypeErr>
-    ensures { MatchResult result
+    ensures value { MatchResult result
         (λ xs. shapes (views blocks.now) ≡ trees_of (map T.tree xs.items))
-        (λ e. (at : ℕ) → e ≡ Shape at
+        (λ e. (at : Place) → e ≡ Shape at
         → (xs : List T) → shapes (views blocks.now) ≢ trees_of (map T.tree xs)) }
+    ensures place { IfErr result
+        (λ e. (at : Place) → e ≡ Shape at → items_fault T.tree T.fault 0 (views blocks.now) (spot at)) }
 {
     let mut values = Vec::with_capacity(alloc, blocks.len())?;
     for block in blocks {
         let value = match T::read(alloc, block) {
             Ok(value) => value,
-            Err(e) => return Err(e),
+            Err(e) => return Err(e.within(values.len())),
         };
         if values.push(value).is_err() {
             return Err(TypeErr::OutOfMemory);
@@ -76,13 +80,15 @@ impl<T> Model for SequenceOf<T> {
 impl<T: Asn1Type + Drop> Asn1Type for SequenceOf<T> {
     ghost tree = { λ xs. group tt a_sequence (trees_of (map T.tree xs)) };
 
+    ghost fault = { group_fault a_sequence (λ _. items_fault T.tree T.fault 0) };
+
     fn read(alloc: Global, block: &ASN1Block) -> Result<SequenceOf<T>, TypeErr> {
         match block {
             ASN1Block::Sequence(_, items) => match read_all::<T>(alloc, items) {
                 Ok(values) => Ok(SequenceOf { values }),
                 Err(e) => Err(e),
             },
-            _ => Err(TypeErr::Shape(block.offset())),
+            _ => Err(TypeErr::Shape(Place::here(block.offset()))),
         }
     }
 
@@ -126,13 +132,15 @@ impl<T> Model for SetOf<T> {
 impl<T: Asn1Type + Drop> Asn1Type for SetOf<T> {
     ghost tree = { λ xs. group tt a_set (trees_of (map T.tree xs)) };
 
+    ghost fault = { group_fault a_set (λ _. items_fault T.tree T.fault 0) };
+
     fn read(alloc: Global, block: &ASN1Block) -> Result<SetOf<T>, TypeErr> {
         match block {
             ASN1Block::Set(_, items) => match read_all::<T>(alloc, items) {
                 Ok(values) => Ok(SetOf { values }),
                 Err(e) => Err(e),
             },
-            _ => Err(TypeErr::Shape(block.offset())),
+            _ => Err(TypeErr::Shape(Place::here(block.offset()))),
         }
     }
 

@@ -52,6 +52,9 @@ pub trait Named: Sized {
     /// The type that is made of parts.
     type Parts: Asn1Type;
 
+    /// The names of the fields, in their order, for errors.
+    const NAMES: &'static [&'static str] = &[];
+
     /// The parts of a value.
     ghost parts: { Self → Self.Parts };
 
@@ -71,10 +74,12 @@ pub trait Named: Sized {
 impl<S: Named> Asn1Type for S {
     ghost tree = { λ x. S.Parts.tree (S.parts x) };
 
+    ghost fault = { S.Parts.fault };
+
     fn read(alloc: Global, block: &ASN1Block) -> Result<S, TypeErr> {
         match <S as Named>::Parts::read(alloc, block) {
             Ok(parts) => Ok(S::from_parts(parts)),
-            Err(e) => Err(e),
+            Err(e) => Err(e.named(S::NAMES)),
         }
     }
 

@@ -18,6 +18,8 @@ impl Named for OtherPrimeInfo {
 
     type Parts = OtherPrimeParts;
 
+    const NAMES: &'static [&'static str] = &["prime", "exponent", "coefficient"];
+
     ghost parts = { λ x. record {
       fields = record {
         first = x.prime;
@@ -85,6 +87,19 @@ impl Named for RsaPrivateKey {
     ghost use Rattle.std.proofs.Common.{ap};
 
     type Parts = RsaParts;
+
+    const NAMES: &'static [&'static str] = &[
+        "version",
+        "modulus",
+        "publicExponent",
+        "privateExponent",
+        "prime1",
+        "prime2",
+        "exponent1",
+        "exponent2",
+        "coefficient",
+        "otherPrimeInfos",
+    ];
 
     ghost parts = { λ x. record {
       fields = record {
