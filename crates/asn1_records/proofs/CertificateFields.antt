@@ -1,115 +1,30 @@
 -- The fields of a certificate are of their types, so that each has a record: for `certificate`.
-use Rattle.std.proofs.Common.{◌≡◌, ℕ, zero, suc, Bool, true, false, List, [], ◌∷◌, Option, None, Some, inl, inr, get_or, length, map, refl, sym, ap, subst, ◌∙◌, arith}
-use Rattle.std.specs.Prelude.{if◌then◌else◌, option_map, IfSome}
-use Rattle.std.proofs.lemmas.Bool.{cases_lt, false≢true}
-use Rattle.std.proofs.lemmas.List.{get_or_past}
+use Rattle.std.proofs.Common.{◌≡◌, ℕ, true, List, [], ◌∷◌, Option, Some, map, refl, ap}
+use Rattle.std.specs.Prelude.{option_map, IfSome}
 use Rattle.asn1_headers.specs.declared.tags.TheConstants.{BIT_STRING, INTEGER}
-use Rattle.asn1_blocks.specs.declared.block.GroupKind.TheVariants.{Sequence, Set}
 use Rattle.asn1_outline.specs.Entries.{IsOutline}
 use Rattle.asn1_outline.specs.declared.entry.Entry.{Entry}
-use Rattle.simple_asn1.specs.Structure.{IsStructure, Nodes, no_node, no_tree, node_tree, nodes_in_order, tree_at}
-use Rattle.simple_asn1.specs.Tree.{Tree, Trees, explicit, group, leaf, more_trees, no_trees, unknown}
-use Rattle.asn1_certificate.specs.Sequences.{Found, field, found_then, is_bits, is_found, is_leaf, no_more, optional, sequence, tagged}
-use Rattle.asn1_certificate.specs.Types.{certificate, is_algorithm_identifier, is_extensions, is_name, is_subject_public_key_info, is_tbs_certificate, is_time, is_validity, subject_public_key_info, tbs_certificate, validity}
+use Rattle.simple_asn1.specs.Structure.{IsStructure, Nodes, tree_at}
+use Rattle.simple_asn1.specs.Tree.{Tree, Trees}
+use Rattle.asn1_certificate.specs.Sequences.{Found, field, is_bits, is_found, is_leaf, no_more, optional, tagged}
+use Rattle.asn1_certificate.specs.Types.{certificate, is_algorithm_identifier, is_extensions, is_name, is_subject_public_key_info, is_tbs_certificate, is_time, is_validity, tbs_certificate, validity}
 use Rattle.asn1_certificate.specs.declared.certificate.Certificate.{Certificate}
 use Rattle.asn1_certificate.specs.declared.certificate.TBSCertificate.{TBSCertificate}
-use Rattle.asn1_records.specs.Certificates.{AreFields, IsCertificate, IsRecordIfAny}
-use Rattle.asn1_records.specs.Inner.CertificateRecords.{record_if_any, record_in, records_in}
-use Rattle.asn1_records.specs.Records.{AreRecords, IsRecordAt, block_of, no_record}
+use Rattle.asn1_records.specs.Certificates.{AreFields, IsCertificate}
+use Rattle.asn1_records.specs.Inner.CertificateRecords.{records_in}
+use Rattle.asn1_records.specs.Records.{AreRecords, block_of}
 use Rattle.asn1_records.specs.declared.certificate.Places.{Places}
 use Rattle.asn1_records.proofs.Entries.{AreRecords-outline}
-
--- what was found of a field, and of those behind it
-found_then-parts : (x y : Option (Tree ℕ)) (o : Option Found) (ys : Found) → found_then x o ≡ Some (y ∷ ys) →
-    (x ≡ y) × (o ≡ Some ys)
-found_then-parts x y None ys e =
-    let none : None ≡ Some (y ∷ ys) = e in
-    absurd (cc)
-found_then-parts x y (Some zs) ys e =
-    let both : Some (x ∷ zs) ≡ Some (y ∷ ys) = e in
-    let first : x ≡ y = cc in
-    let rest : zs ≡ ys = cc in
-    (first, ap Some rest)
-
--- the fields of a SEQUENCE that was found are those of its items
-sequence-items : (fields : Trees ℕ → Option Found) (b : Tree ℕ) (ys : Found) → sequence fields b ≡ Some ys →
-    (items : Trees ℕ) × (fields items ≡ Some ys)
-sequence-items fields (group p Sequence bs) ys e = (bs, e)
-sequence-items fields (group p Set bs) ys e =
-    let none : None ≡ Some ys = e in
-    absurd (cc)
-sequence-items fields (leaf p l) ys e =
-    let none : None ≡ Some ys = e in
-    absurd (cc)
-sequence-items fields (explicit c p m b) ys e =
-    let none : None ≡ Some ys = e in
-    absurd (cc)
-sequence-items fields (unknown c k p m v) ys e =
-    let none : None ≡ Some ys = e in
-    absurd (cc)
-
-module _ (is : Tree ℕ → Bool) (others : Trees ℕ → Option Found) where
-  -- a field that was found is of its type
-  field-typed : (bs : Trees ℕ) (b : Tree ℕ) (ys : Found) → field is others bs ≡ Some (Some b ∷ ys) →
-      (is b ≡ true) × (cs : Trees ℕ) × (others cs ≡ Some ys)
-  field-typed no_trees b ys e =
-      let none : None ≡ Some (Some b ∷ ys) = e in
-      absurd (cc)
-  field-typed (more_trees a rest) b ys e = told (is a) refl e
-    where
-      told : (t : Bool) → is a ≡ t → (if t then found_then (Some a) (others rest) else None) ≡ Some (Some b ∷ ys) →
-          (is b ≡ true) × (cs : Trees ℕ) × (others cs ≡ Some ys)
-      told true i f =
-          let (first, same) = found_then-parts (Some a) (Some b) (others rest) ys f in
-          let own : a ≡ b = cc in
-          (ap is (sym own) ∙ i, rest, same)
-      told false i f =
-          let none : None ≡ Some (Some b ∷ ys) = f in
-          absurd (cc)
-
-  -- an optional field that was found is of its type
-  optional-typed : (bs : Trees ℕ) (x : Option (Tree ℕ)) (ys : Found) → optional is others bs ≡ Some (x ∷ ys) →
-      IfSome x (λ b. is b ≡ true) × (cs : Trees ℕ) × (others cs ≡ Some ys)
-  optional-typed no_trees x ys e =
-      let (first, same) = found_then-parts None x (others no_trees) ys e in
-      (subst (λ z. IfSome z (λ b. is b ≡ true)) first tt, no_trees, same)
-  optional-typed (more_trees a rest) x ys e = told (is a) refl e
-    where
-      told : (t : Bool) → is a ≡ t →
-          (if t then found_then (Some a) (others rest) else found_then None (others (more_trees a rest)))
-          ≡ Some (x ∷ ys) →
-          IfSome x (λ b. is b ≡ true) × (cs : Trees ℕ) × (others cs ≡ Some ys)
-      told true i f =
-          let (first, same) = found_then-parts (Some a) x (others rest) ys f in
-          (subst (λ z. IfSome z (λ b. is b ≡ true)) first i, rest, same)
-      told false i f =
-          let (first, same) = found_then-parts None x (others (more_trees a rest)) ys f in
-          (subst (λ z. IfSome z (λ b. is b ≡ true)) first tt, more_trees a rest, same)
-
--- the types of the fields of a certificate
-pub record CertificateTypes (b a s : Tree ℕ) : Type 0 where
-  pub tbs : is_tbs_certificate b ≡ true
-  pub algorithm : is_algorithm_identifier a ≡ true
-  pub signature : is_leaf BIT_STRING s ≡ true
-
-CertificateTypes-found : (whole b a s : Tree ℕ) → certificate whole ≡ Some (Some b ∷ Some a ∷ Some s ∷ []) →
-    CertificateTypes b a s
-CertificateTypes-found whole b a s e =
-    let from_2 : Trees ℕ → Option Found = field (is_leaf BIT_STRING) no_more in
-    let from_1 : Trees ℕ → Option Found = field is_algorithm_identifier from_2 in
-    let (cs, e0) = sequence-items (field is_tbs_certificate from_1) whole _ e in
-    let (t0, cs1, e1) = field-typed is_tbs_certificate from_1 cs b _ e0 in
-    let (t1, cs2, e2) = field-typed is_algorithm_identifier from_2 cs1 a _ e1 in
-    let (t2, cs3, e3) = field-typed (is_leaf BIT_STRING) no_more cs2 s _ e2 in
-    record { tbs = t0; algorithm = t1; signature = t2 }
+use Rattle.asn1_records.proofs.FoundFields.{IsRecordAt-typed, IsRecordIfAny-typed, KeyTypes-found, SignedTypes, SignedTypes-found, field-typed, optional-typed, sequence-items}
 
 -- the types of the trees at these places
 pub CertificateTypes-places : (ns : Nodes) (c : Certificate) → certificate (tree_at ns 0) ≡ Some
     (Some (tree_at ns c.tbs_certificate) ∷ Some (tree_at ns c.signature_algorithm) ∷ Some (tree_at ns c.signature) ∷ [])
-    → CertificateTypes (tree_at ns c.tbs_certificate) (tree_at ns c.signature_algorithm) (tree_at ns c.signature)
+    → SignedTypes is_tbs_certificate (tree_at ns c.tbs_certificate) (tree_at ns c.signature_algorithm)
+    (tree_at ns c.signature)
 CertificateTypes-places ns c e =
-    CertificateTypes-found (tree_at ns 0) (tree_at ns c.tbs_certificate) (tree_at ns c.signature_algorithm)
-    (tree_at ns c.signature) e
+    SignedTypes-found is_tbs_certificate (tree_at ns 0) (tree_at ns c.tbs_certificate)
+    (tree_at ns c.signature_algorithm) (tree_at ns c.signature) e
 
 -- the types of the fields of what is signed
 pub record TBSTypes (v : Option (Tree ℕ)) (n a i y s k : Tree ℕ) (iu su e : Option (Tree ℕ)) : Type 0 where
@@ -188,50 +103,13 @@ ValidityTypes-found whole b c e =
     let (t1, cs2, e2) = field-typed is_time no_more cs1 c _ e1 in
     (t0, t1)
 
--- the types of the fields of a public key
-KeyTypes-found : (whole b c : Tree ℕ) → subject_public_key_info whole ≡ Some (Some b ∷ Some c ∷ []) →
-    (is_algorithm_identifier b ≡ true) × (is_leaf BIT_STRING c ≡ true)
-KeyTypes-found whole b c e =
-    let from_1 : Trees ℕ → Option Found = field (is_leaf BIT_STRING) no_more in
-    let (cs, e0) = sequence-items (field is_algorithm_identifier from_1) whole _ e in
-    let (t0, cs1, e1) = field-typed is_algorithm_identifier from_1 cs b _ e0 in
-    let (t1, cs2, e2) = field-typed (is_leaf BIT_STRING) no_more cs1 c _ e1 in
-    (t0, t1)
-
--- a type of which no fields were found is not that of the tree
-pub typed-found : (o : Option Found) → is_found o ≡ true → o ≡ None → ⊥
-typed-found None t e = false≢true t
-typed-found (Some ys) t e =
-    let none : Some ys ≡ None = e in
-    absurd (cc)
-
--- the record of the entry at an index is that in the list of records
-record_in-map : (es : List Entry) (k : ℕ) → record_in es k ≡ get_or (map block_of es) k no_record
-record_in-map [] k = refl
-record_in-map (e ∷ es) zero = refl
-record_in-map (e ∷ es) (suc k) = record_in-map es k
-
 module _ (x : List ℕ) (ns : Nodes) (es : List Entry) (are : AreRecords x ns (map block_of es)) where
-  -- a tree of a type that no_tree is not of has a record
-  IsRecordAt-typed : (is : Tree ℕ → Bool) → is no_tree ≡ false → (k : ℕ) → is (tree_at ns k) ≡ true →
-      IsRecordAt x ns k (record_in es k)
-  IsRecordAt-typed is other k told = elim (cases_lt k (length (nodes_in_order ns))) [
-    | inl lt ↦
-        subst (IsRecordAt x ns k) (sym (record_in-map es k)) (are.1 k (omega (arith, lt, are.0)))
-    | inr ge ↦
-        let past : tree_at ns k ≡ no_tree = ap node_tree (get_or_past (nodes_in_order ns) k no_node ge) in
-        absurd (false≢true (sym other ∙ sym (ap is past) ∙ told))
-  ]
-
-  IsRecordIfAny-typed : (is : Tree ℕ → Bool) → is no_tree ≡ false → (k : Option ℕ) →
-      IfSome (option_map (tree_at ns) k) (λ b. is b ≡ true) → IsRecordIfAny x ns k (record_if_any es k)
-  IsRecordIfAny-typed is other None told = refl
-  IsRecordIfAny-typed is other (Some k) told = IsRecordAt-typed is other k told
-
   -- the records of the fields of a certificate
   IsCertificate-records : (p : Places) → IsStructure x ns → AreFields ns p.certificate p.tbs p.validity p.key →
       IsCertificate x (records_in es p)
   IsCertificate-records p d f =
+      let typed = IsRecordAt-typed x ns es are in
+      let typed_if_any = IsRecordIfAny-typed x ns es are in
       let c = p.certificate in
       let t = p.tbs in
       let v = p.validity in
@@ -250,24 +128,23 @@ module _ (x : List ℕ) (ns : Nodes) (es : List Entry) (are : AreRecords x ns (m
         v = v;
         k = k;
         fields = f;
-        certificate = IsRecordAt-typed (λ b. is_found (certificate b)) refl 0 (ap is_found f.of_certificate);
-        tbs_certificate = IsRecordAt-typed is_tbs_certificate refl c.tbs_certificate of_c.tbs;
-        version = IsRecordIfAny-typed (tagged 0 (is_leaf INTEGER)) refl t.version of_t.version;
-        serial_number = IsRecordAt-typed (is_leaf INTEGER) refl t.serial_number of_t.number;
-        tbs_signature = IsRecordAt-typed is_algorithm_identifier refl t.signature of_t.algorithm;
-        issuer = IsRecordAt-typed is_name refl t.issuer of_t.issuer;
-        not_before = IsRecordAt-typed is_time refl v.not_before before;
-        not_after = IsRecordAt-typed is_time refl v.not_after after;
-        subject = IsRecordAt-typed is_name refl t.subject of_t.subject;
-        subject_public_key_info =
-            IsRecordAt-typed is_subject_public_key_info refl t.subject_public_key_info of_t.key;
-        public_key_algorithm = IsRecordAt-typed is_algorithm_identifier refl k.algorithm algorithm;
-        subject_public_key = IsRecordAt-typed (is_leaf BIT_STRING) refl k.subject_public_key key;
-        issuer_unique_id = IsRecordIfAny-typed (is_bits 1) refl t.issuer_unique_id of_t.issuer_id;
-        subject_unique_id = IsRecordIfAny-typed (is_bits 2) refl t.subject_unique_id of_t.subject_id;
-        extensions = IsRecordIfAny-typed (tagged 3 is_extensions) refl t.extensions of_t.extensions;
-        signature_algorithm = IsRecordAt-typed is_algorithm_identifier refl c.signature_algorithm of_c.algorithm;
-        signature = IsRecordAt-typed (is_leaf BIT_STRING) refl c.signature of_c.signature;
+        certificate = typed (λ b. is_found (certificate b)) refl 0 (ap is_found f.of_certificate);
+        tbs_certificate = typed is_tbs_certificate refl c.tbs_certificate of_c.content;
+        version = typed_if_any (tagged 0 (is_leaf INTEGER)) refl t.version of_t.version;
+        serial_number = typed (is_leaf INTEGER) refl t.serial_number of_t.number;
+        tbs_signature = typed is_algorithm_identifier refl t.signature of_t.algorithm;
+        issuer = typed is_name refl t.issuer of_t.issuer;
+        not_before = typed is_time refl v.not_before before;
+        not_after = typed is_time refl v.not_after after;
+        subject = typed is_name refl t.subject of_t.subject;
+        subject_public_key_info = typed is_subject_public_key_info refl t.subject_public_key_info of_t.key;
+        public_key_algorithm = typed is_algorithm_identifier refl k.algorithm algorithm;
+        subject_public_key = typed (is_leaf BIT_STRING) refl k.subject_public_key key;
+        issuer_unique_id = typed_if_any (is_bits 1) refl t.issuer_unique_id of_t.issuer_id;
+        subject_unique_id = typed_if_any (is_bits 2) refl t.subject_unique_id of_t.subject_id;
+        extensions = typed_if_any (tagged 3 is_extensions) refl t.extensions of_t.extensions;
+        signature_algorithm = typed is_algorithm_identifier refl c.signature_algorithm of_c.algorithm;
+        signature = typed (is_leaf BIT_STRING) refl c.signature of_c.signature;
       }
 
 -- the records of the fields of a certificate that a document begins with

@@ -18,5 +18,9 @@ mod PathSteps
 mod SideBySide
 mod LaterShapes
 mod NamedEntries
+mod FoundFields
 mod CertificateFields
+mod HeldTrees
+mod RequestFields
+mod ListFields
 pub mod ListedDepartures

@@ -1,16 +1,14 @@
 -- What is answered of a certificate: the records of its fields, by the definitions of RFC 5280's types.
-use Rattle.std.specs.Prelude.{◌≡◌, ℕ, List, [], ◌∷◌, Option, None, Some, option_map}
+use Rattle.std.specs.Prelude.{◌≡◌, ℕ, List, [], ◌∷◌, None, Some, option_map}
 use Rattle.simple_asn1.specs.Structure.{IsStructure, Nodes, tree_at}
 use Rattle.asn1_certificate.specs.Types.{certificate, subject_public_key_info, tbs_certificate, validity}
 use Rattle.asn1_certificate.specs.declared.algorithm.SubjectPublicKeyInfo.{SubjectPublicKeyInfo}
 use Rattle.asn1_certificate.specs.declared.certificate.Certificate.{Certificate}
 use Rattle.asn1_certificate.specs.declared.certificate.TBSCertificate.{TBSCertificate}
 use Rattle.asn1_certificate.specs.declared.validity.Validity.{Validity}
-use Rattle.asn1_records.specs.Answers.{IsRefusal}
+use Rattle.asn1_records.specs.Fields.{AnswersFields, IsRecordIfAny}
 use Rattle.asn1_records.specs.Records.{IsRecordAt, no_record}
-use Rattle.asn1_records.specs.Room.{OrNoMemory}
-use Rattle.asn1_records.specs.Status.{done, not_certificate}
-use Rattle.asn1_records.specs.declared.record.Block.{Block}
+use Rattle.asn1_records.specs.Status.{not_certificate}
 use Rattle.asn1_records.specs.declared.record.CertificateAnswer.{CertificateAnswer}
 
 -- where the blocks stand that a certificate, the first block of a document with this structure, has for its fields
@@ -28,11 +26,6 @@ pub record AreFields (ns : Nodes) (c : Certificate) (t : TBSCertificate) (v : Va
       (Some (tree_at ns v.not_before) ∷ Some (tree_at ns v.not_after) ∷ [])
   pub of_key : subject_public_key_info (tree_at ns t.subject_public_key_info) ≡ Some
       (Some (tree_at ns k.algorithm) ∷ Some (tree_at ns k.subject_public_key) ∷ [])
-
--- the record of a field that may be absent: all its fields are 0 then
-abbrev pub IsRecordIfAny : List ℕ → Nodes → Option ℕ → Block → Type 0
-IsRecordIfAny octets ns None r = r ≡ no_record
-IsRecordIfAny octets ns (Some index) r = IsRecordAt octets ns index r
 
 -- the octets are a document that begins with a certificate, and these are the records of its fields
 pub record IsCertificate (octets : List ℕ) (s : CertificateAnswer) : Type 0 where
@@ -86,10 +79,7 @@ abbrev pub IsNoCertificate : List ℕ → Type 0
 IsNoCertificate octets = (ns : Nodes) × IsStructure octets ns × (certificate (tree_at ns 0) ≡ None)
 
 -- the fields of a certificate; another block; the first fault and its place; or memory ran out
-pub data AnswersCertificate (octets : List ℕ) (s : CertificateAnswer) : Type 0 where
-  is_certificate : s.status ≡ done → s.offset ≡ 0 → IsCertificate octets s → AnswersCertificate octets s
-  is_no_certificate :
-      s.status ≡ not_certificate → s.offset ≡ 0 → IsNoCertificate octets → HasNoFields s →
-      AnswersCertificate octets s
-  was_refused_certificate :
-      OrNoMemory (IsRefusal octets) s.status s.offset → HasNoFields s → AnswersCertificate octets s
+abbrev pub AnswersCertificate : List ℕ → CertificateAnswer → Type 0
+AnswersCertificate octets s =
+    AnswersFields octets s.status s.offset not_certificate (IsCertificate octets s) (IsNoCertificate octets)
+    (HasNoFields s)

@@ -4,10 +4,11 @@ ghost use Rattle.asn1_outline.specs.Outlines.{entries_in, octets_in};
 ghost use Rattle.asn1_outline.specs.Structure.{IsStructure, Nodes, tree_at};
 ghost use Rattle.asn1_certificate.specs.Types.{certificate as certificate_tree};
 ghost use Rattle.asn1_records.specs.Certificates.{AnswersCertificate, AreFields, HasNoFields};
-ghost use Rattle.asn1_records.specs.Inner.CertificateRecords.{record_if_any, record_in, records_in};
+ghost use Rattle.asn1_records.specs.Inner.CertificateRecords.{records_in};
 
 use crate::document_entries::{Fault, outline_of};
-use crate::record::{Block, CertificateAnswer, NO_BLOCK, block_of};
+use crate::fields::{record_at, record_if_any};
+use crate::record::{CertificateAnswer, NO_BLOCK};
 use crate::status::{DONE, NOT_CERTIFICATE};
 use asn1_certificate::algorithm::SubjectPublicKeyInfo;
 use asn1_certificate::certificate::{Certificate, TBSCertificate};
@@ -40,26 +41,6 @@ fn places_in(outline: &Outline<'_>) -> Option<Places>
         validity,
         key,
     })
-}
-
-// The record of the block at the index.
-fn record_at(outline: &Outline<'_>, index: usize) -> Block
-    ensures { result ≡ record_in (entries_in outline.now) index }
-{
-    match outline.block(index) {
-        Some(block) => block_of(block.entry()),
-        None => NO_BLOCK,
-    }
-}
-
-// The record of the block at the index, if there is one.
-fn record_if_any(outline: &Outline<'_>, index: Option<usize>) -> Block
-    ensures { result ≡ record_if_any (entries_in outline.now) index }
-{
-    match index {
-        Some(index) => record_at(outline, index),
-        None => NO_BLOCK,
-    }
 }
 
 // The records of these fields.

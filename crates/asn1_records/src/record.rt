@@ -99,6 +99,43 @@ pub struct CertificateAnswer {
     pub signature: Block,
 }
 
+/// A certification request and its fields. `simple_asn1.h` describes them.
+#[repr(C)]
+#[derive(Clone, Copy)]
+pub struct RequestAnswer {
+    pub status: u32,
+    pub offset: usize,
+    pub certification_request: Block,
+    pub certification_request_info: Block,
+    pub version: Block,
+    pub subject: Block,
+    pub subject_public_key_info: Block,
+    pub public_key_algorithm: Block,
+    pub subject_public_key: Block,
+    pub attributes: Block,
+    pub signature_algorithm: Block,
+    pub signature: Block,
+}
+
+/// A list of revoked certificates and its fields. `simple_asn1.h` describes them.
+#[repr(C)]
+#[derive(Clone, Copy)]
+pub struct RevocationListAnswer {
+    pub status: u32,
+    pub offset: usize,
+    pub certificate_list: Block,
+    pub tbs_cert_list: Block,
+    pub version: Block,
+    pub tbs_signature: Block,
+    pub issuer: Block,
+    pub this_update: Block,
+    pub next_update: Block,
+    pub revoked_certificates: Block,
+    pub crl_extensions: Block,
+    pub signature_algorithm: Block,
+    pub signature: Block,
+}
+
 /// Where the item numbers of a path begin, and how many they are.
 #[repr(C)]
 #[derive(Clone, Copy)]
@@ -143,6 +180,10 @@ const _: () = prove!(size_of::<MomentAnswer>() == 32);
 const _: () = prove!(size_of::<SignedAnswer>() == 208);
 
 const _: () = prove!(size_of::<CertificateAnswer>() == 1104);
+
+const _: () = prove!(size_of::<RequestAnswer>() == 656);
+
+const _: () = prove!(size_of::<RevocationListAnswer>() == 720);
 
 const _: () = prove!(size_of::<Path>() == 16);
 

@@ -35,6 +35,10 @@ pub const TOO_LONG: u32 = 17;
 
 pub const NOT_CERTIFICATE: u32 = 18;
 
+pub const NOT_REQUEST: u32 = 19;
+
+pub const NOT_REVOCATION_LIST: u32 = 20;
+
 pub fn status_of_fault(e: &ASN1DecodeErr) -> u32
     ensures { result ≡ status_of (fault_of e.now) }
 {

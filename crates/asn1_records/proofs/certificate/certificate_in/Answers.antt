@@ -2,7 +2,8 @@
 use Rattle.std.proofs.Common.{sym, ap, subst}
 use Rattle.asn1_outline.specs.Structure.{IsStructure}
 use Rattle.asn1_records.specs.Answers.{IsRefusal}
-use Rattle.asn1_records.specs.Certificates.{IsCertificate, is_certificate, is_no_certificate, was_refused_certificate}
+use Rattle.asn1_records.specs.Certificates.{IsCertificate}
+use Rattle.asn1_records.specs.Fields.{is_one, is_other, was_refused_fields}
 use Rattle.asn1_records.specs.declared.record.CertificateAnswer.{CertificateAnswer}
 use Rattle.asn1_records.proofs.CertificateFields.{IsCertificate-found}
 use Rattle.asn1_records.proofs.Entries.{AreRecords-outline}
@@ -12,7 +13,7 @@ use Rattle.asn1_records.proofs.certificate.certificate_in.Goals as goal
 pub returns-in-Err : goal.returns-in-Err
 returns-in-Err c =
     let (status, offset, none) = c.no_fields.ensures in
-    was_refused_certificate (OrNoMemory-at (IsRefusal c.args.octets.now) _ _ _ _ status offset c.in-Err.ensures.fault)
+    was_refused_fields (OrNoMemory-at (IsRefusal c.args.octets.now) _ _ _ _ status offset c.in-Err.ensures.fault)
     none
 
 pub returns-in-Some : goal.returns-in-Some
@@ -21,7 +22,7 @@ returns-in-Some c =
     let o = c.in-Ok.outline in
     let found = IsCertificate-found x o.entries.items c.in-Some.places c.in-Ok.ensures.document
     (λ ns d. c.in-Some.ensures ns (subst (λ z. IsStructure z ns) (sym c.in-Ok.ensures.lent) d)) in
-    is_certificate (ap (λ (z : CertificateAnswer). z.status) c.records_of.ensures)
+    is_one (ap (λ (z : CertificateAnswer). z.status) c.records_of.ensures)
     (ap (λ (z : CertificateAnswer). z.offset) c.records_of.ensures)
     (subst (IsCertificate x) (sym c.records_of.ensures) found)
 
@@ -30,5 +31,5 @@ returns c =
     let x = c.args.octets.now in
     let (status, offset, none) = c.no_fields-in-None.ensures in
     let (ns, d, are) = AreRecords-outline x c.in-Ok.outline.entries.items c.in-Ok.ensures.document in
-    is_no_certificate status offset
+    is_other status offset
     (ns, d, c.in-None.ensures ns (subst (λ z. IsStructure z ns) (sym c.in-Ok.ensures.lent) d)) none

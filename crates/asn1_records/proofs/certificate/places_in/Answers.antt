@@ -5,7 +5,8 @@ use Rattle.asn1_outline.specs.Structure.{tree_at}
 use Rattle.asn1_certificate.specs.Types.{certificate, subject_public_key_info, tbs_certificate, validity}
 use Rattle.asn1_records.specs.Certificates.{AreFields}
 use Rattle.asn1_records.specs.declared.certificate.Places.{Places}
-use Rattle.asn1_records.proofs.CertificateFields.{CertificateTypes-places, TBSTypes-places, typed-found}
+use Rattle.asn1_records.proofs.CertificateFields.{CertificateTypes-places, TBSTypes-places}
+use Rattle.asn1_records.proofs.FoundFields.{typed-found}
 use Rattle.asn1_records.proofs.certificate.places_in.Goals as goal
 
 pub returns-in_err-certificate : goal.returns-in_err-certificate
@@ -17,7 +18,7 @@ returns-in_err-certificate c ns d =
 pub returns-in_err-tbs : goal.returns-in_err-tbs
 returns-in_err-tbs c ns d =
     let types = CertificateTypes-places ns c.in_ok-certificate.certificate (c.in_ok-certificate.ensures ns d) in
-    absurd (typed-found (tbs_certificate (tree_at ns c.in_ok-certificate.certificate.tbs_certificate)) types.tbs
+    absurd (typed-found (tbs_certificate (tree_at ns c.in_ok-certificate.certificate.tbs_certificate)) types.content
     (c.in_err-tbs.ensures ns d))
 
 pub returns-in_err-validity : goal.returns-in_err-validity
