@@ -130,6 +130,37 @@ static void look_at_certificate(const uint8_t *octets, size_t size)
     }
 }
 
+static void look_at_request(const uint8_t *octets, size_t size)
+{
+    simple_asn1_request_parts parts = simple_asn1_request(octets, size);
+    if (parts.status == SIMPLE_ASN1_OK) {
+        CHECK(parts.certification_request.header + parts.certification_request.contents <= size);
+        CHECK(is_within(&parts.certification_request_info, &parts.certification_request));
+        CHECK(is_within(&parts.subject_public_key, &parts.subject_public_key_info));
+        CHECK(is_within(&parts.attributes, &parts.certification_request_info));
+        CHECK(simple_asn1_bits(octets, size, parts.signature.offset).status == SIMPLE_ASN1_OK);
+    }
+}
+
+static void look_at_revocation_list(const uint8_t *octets, size_t size)
+{
+    simple_asn1_revocation_list_parts parts = simple_asn1_revocation_list(octets, size);
+    if (parts.status == SIMPLE_ASN1_OK) {
+        size_t at = parts.revoked_certificates.offset + parts.revoked_certificates.header, count = 0;
+        size_t end = at + parts.revoked_certificates.contents;
+        simple_asn1_block entry, serial_number, date;
+        CHECK(is_within(&parts.tbs_cert_list, &parts.certificate_list));
+        CHECK(simple_asn1_time(octets, size, parts.this_update.offset).status == SIMPLE_ASN1_OK);
+        for (; at < end; at += entry.header + entry.contents, count++) {
+            CHECK(simple_asn1_header(octets, size, at, &entry, 1).status == SIMPLE_ASN1_OK);
+            CHECK(simple_asn1_header(octets, size, at + entry.header, &serial_number, 1).status == SIMPLE_ASN1_OK);
+            date.offset = serial_number.offset + serial_number.header + serial_number.contents;
+            CHECK(simple_asn1_time(octets, size, date.offset).status == SIMPLE_ASN1_OK);
+        }
+        CHECK(at == end && count == parts.revoked_certificates.items);
+    }
+}
+
 static void look_at_signed(const uint8_t *octets, size_t size)
 {
     simple_asn1_signed_parts parts = simple_asn1_signed(octets, size);
@@ -186,6 +217,8 @@ int LLVMFuzzerTestOneInput(const uint8_t *octets, size_t size)
     rewrite(octets, size, blocks, asked.count, any_tag_is_cut, any_is_kept);
     look_at_signed(octets, size);
     look_at_certificate(octets, size);
+    look_at_request(octets, size);
+    look_at_revocation_list(octets, size);
     free(blocks);
     return 0;
 }

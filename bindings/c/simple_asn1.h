@@ -15,8 +15,9 @@
  *   canonical, and of more than 65,536 that are no document or for which there is too little room; of others their
  *   blocks, and what is written. simple_asn1_write: the bytes that the records describe, and what rewriting these takes.
  * - simple_asn1_values: the values, if there is room for all, and these levels. simple_asn1_signed: two records, and
- *   these levels. simple_asn1_certificate: the records of all blocks, and these levels. simple_asn1_departures: 16
- *   bytes for each departure, also inside contents that turn out to be no encodings, where only that is listed.
+ *   these levels. simple_asn1_certificate, simple_asn1_request and simple_asn1_revocation_list: the records of all
+ *   blocks, and these levels. simple_asn1_departures: 16 bytes for each departure, also inside contents that turn out to
+ *   be no encodings, where only that is listed.
  *
  * Where it is not X.690's BER, and what strict reading accepts though DER forbids it:
  *
@@ -48,24 +49,26 @@ extern "C" {
 
 enum { /* what calls return */
     SIMPLE_ASN1_OK = 0,
-    SIMPLE_ASN1_EMPTY = 1,             /* errors of reading: the input is empty */
-    SIMPLE_ASN1_BOOLEAN_LENGTH = 2,    /* a BOOLEAN must have one contents octet */
-    SIMPLE_ASN1_LENGTH = 3,            /* a length beyond size_t */
-    SIMPLE_ASN1_UTF8 = 4,              /* a string or time is not UTF-8 */
-    SIMPLE_ASN1_PRINTABLE = 5,         /* a PrintableString has a forbidden character */
-    SIMPLE_ASN1_DATE = 6,              /* a UTCTime or GeneralizedTime is invalid */
-    SIMPLE_ASN1_BIT_STRING_LENGTH = 7, /* a BIT STRING has more unused bits than bits */
-    SIMPLE_ASN1_INCOMPLETE = 8,        /* the input is truncated */
-    SIMPLE_ASN1_NOT_CANONICAL = 9,     /* read_strict: a block that rewrite would change */
+    SIMPLE_ASN1_EMPTY = 1,               /* errors of reading: the input is empty */
+    SIMPLE_ASN1_BOOLEAN_LENGTH = 2,      /* a BOOLEAN must have one contents octet */
+    SIMPLE_ASN1_LENGTH = 3,              /* a length beyond size_t */
+    SIMPLE_ASN1_UTF8 = 4,                /* a string or time is not UTF-8 */
+    SIMPLE_ASN1_PRINTABLE = 5,           /* a PrintableString has a forbidden character */
+    SIMPLE_ASN1_DATE = 6,                /* a UTCTime or GeneralizedTime is invalid */
+    SIMPLE_ASN1_BIT_STRING_LENGTH = 7,   /* a BIT STRING has more unused bits than bits */
+    SIMPLE_ASN1_INCOMPLETE = 8,          /* the input is truncated */
+    SIMPLE_ASN1_NOT_CANONICAL = 9,       /* read_strict: a block that rewrite would change */
     SIMPLE_ASN1_NO_MEMORY = 10,
-    SIMPLE_ASN1_NO_ROOM = 11,          /* count is how much is needed; nothing was written */
-    SIMPLE_ASN1_NO_SUCH_VALUE = 12,    /* there is no block of this kind at the offset */
-    SIMPLE_ASN1_RANGE = 13,            /* the value does not fit */
-    SIMPLE_ASN1_NOT_SIGNED = 14,       /* the first block is not a signed triple */
-    SIMPLE_ASN1_BAD_RECORD = 15,       /* write: the record at index `offset` cannot be written; the last such one */
-    SIMPLE_ASN1_NOT_OID = 16,          /* put: the text is not an OBJECT IDENTIFIER's, as 1.2.840 is */
-    SIMPLE_ASN1_TOO_LONG = 17,         /* oid, dotted, tag, put_oid, encoding: too long for text in decimal */
-    SIMPLE_ASN1_NOT_CERTIFICATE = 18   /* the first block is not a certificate */
+    SIMPLE_ASN1_NO_ROOM = 11,            /* count is how much is needed; nothing was written */
+    SIMPLE_ASN1_NO_SUCH_VALUE = 12,      /* there is no block of this kind at the offset */
+    SIMPLE_ASN1_RANGE = 13,              /* the value does not fit */
+    SIMPLE_ASN1_NOT_SIGNED = 14,         /* the first block is not a signed triple */
+    SIMPLE_ASN1_BAD_RECORD = 15,         /* write: the record at index `offset` cannot be written; the last such one */
+    SIMPLE_ASN1_NOT_OID = 16,            /* put: the text is not an OBJECT IDENTIFIER's, as 1.2.840 is */
+    SIMPLE_ASN1_TOO_LONG = 17,           /* oid, dotted, tag, put_oid, encoding: too long for text in decimal */
+    SIMPLE_ASN1_NOT_CERTIFICATE = 18,    /* the first block is not a certificate */
+    SIMPLE_ASN1_NOT_REQUEST = 19,        /* the first block is not a certification request */
+    SIMPLE_ASN1_NOT_REVOCATION_LIST = 20 /* the first block is not a certificate revocation list */
 };
 
 /* A block. The blocks that it holds come right after it. */
@@ -209,6 +212,37 @@ typedef struct simple_asn1_certificate_parts { /* all records 0 unless the statu
     simple_asn1_block signature;               /* BIT STRING */
 } simple_asn1_certificate_parts;
 
+typedef struct simple_asn1_request_parts { /* all records 0 unless the status is SIMPLE_ASN1_OK */
+    uint32_t status;
+    size_t offset;                                /* of the block at fault */
+    simple_asn1_block certification_request;      /* the whole */
+    simple_asn1_block certification_request_info; /* what is signed: header + contents bytes from octets + offset on */
+    simple_asn1_block version;                    /* INTEGER */
+    simple_asn1_block subject;                    /* Name */
+    simple_asn1_block subject_public_key_info;    /* the whole public key */
+    simple_asn1_block public_key_algorithm;       /* AlgorithmIdentifier */
+    simple_asn1_block subject_public_key;         /* BIT STRING */
+    simple_asn1_block attributes;                 /* [0] in place of a SET of attributes */
+    simple_asn1_block signature_algorithm;        /* AlgorithmIdentifier */
+    simple_asn1_block signature;                  /* BIT STRING */
+} simple_asn1_request_parts;
+
+typedef struct simple_asn1_revocation_list_parts { /* all records 0 unless the status is SIMPLE_ASN1_OK */
+    uint32_t status;
+    size_t offset;                          /* of the block at fault */
+    simple_asn1_block certificate_list;     /* the whole */
+    simple_asn1_block tbs_cert_list;        /* what is signed: header + contents bytes from octets + offset on */
+    simple_asn1_block version;              /* INTEGER, or absent */
+    simple_asn1_block tbs_signature;        /* the algorithm of the signature, as what is signed has it */
+    simple_asn1_block issuer;               /* Name */
+    simple_asn1_block this_update;          /* UTCTime or GeneralizedTime */
+    simple_asn1_block next_update;          /* the same, or absent */
+    simple_asn1_block revoked_certificates; /* SEQUENCE of entries, or absent */
+    simple_asn1_block crl_extensions;       /* [0] around a SEQUENCE of extensions, or absent */
+    simple_asn1_block signature_algorithm;  /* AlgorithmIdentifier */
+    simple_asn1_block signature;            /* BIT STRING */
+} simple_asn1_revocation_list_parts;
+
 /* SIMPLE_ASN1_VERSION of the library that the program runs with. */
 uint32_t simple_asn1_version(void);
 
@@ -292,6 +326,28 @@ simple_asn1_signed_parts simple_asn1_signed(const uint8_t *octets, size_t size);
  * inside version and extensions begins behind their header. simple_asn1_time says which moments not_before and
  * not_after are, simple_asn1_text what a text in a name says, and simple_asn1_bits where the bits are. */
 simple_asn1_certificate_parts simple_asn1_certificate(const uint8_t *octets, size_t size);
+
+/* The same of a certification request (PKCS #10), by RFC 2986, section 4. The attributes begin behind the header of
+ * their record, one after another, each a SEQUENCE of an OBJECT IDENTIFIER and a SET. */
+simple_asn1_request_parts simple_asn1_request(const uint8_t *octets, size_t size);
+
+/* The same of a certificate revocation list, by RFC 5280, section 5.1. An entry of revoked_certificates is a SEQUENCE of
+ * a serial number, a moment and perhaps a SEQUENCE of extensions. simple_asn1_header steps through them in no memory,
+ * however many there are:
+ *
+ *     simple_asn1_revocation_list_parts list = simple_asn1_revocation_list(octets, size);
+ *     size_t at = list.revoked_certificates.offset + list.revoked_certificates.header;
+ *     size_t end = at + list.revoked_certificates.contents;
+ *     simple_asn1_block entry, serial_number, revocation_date;
+ *     while (at < end && simple_asn1_header(octets, size, at, &entry, 1).status == SIMPLE_ASN1_OK) {
+ *         size_t inside = at + entry.header;
+ *         simple_asn1_header(octets, size, inside, &serial_number, 1);
+ *         inside += serial_number.header + serial_number.contents;
+ *         simple_asn1_header(octets, size, inside, &revocation_date, 1);
+ *         at += entry.header + entry.contents;
+ *     }
+ */
+simple_asn1_revocation_list_parts simple_asn1_revocation_list(const uint8_t *octets, size_t size);
 
 /* Each writes the contents octets of a value, for a record of simple_asn1_write to point at:
  *
@@ -402,6 +458,8 @@ static inline const char *simple_asn1_status_text(uint32_t status)
     case SIMPLE_ASN1_NOT_OID: return "the text is not an OBJECT IDENTIFIER";
     case SIMPLE_ASN1_TOO_LONG: return "too long for text in decimal";
     case SIMPLE_ASN1_NOT_CERTIFICATE: return "the first block is not a certificate";
+    case SIMPLE_ASN1_NOT_REQUEST: return "the first block is not a certification request";
+    case SIMPLE_ASN1_NOT_REVOCATION_LIST: return "the first block is not a certificate revocation list";
     default: return "unknown status";
     }
 }

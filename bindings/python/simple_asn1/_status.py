@@ -25,6 +25,8 @@ class Status(enum.IntEnum):
     NOT_OID = 16
     TOO_LONG = 17
     NOT_CERTIFICATE = 18
+    NOT_REQUEST = 19
+    NOT_REVOCATION_LIST = 20
 
     @classmethod
     def _missing_(cls, value: object) -> "Optional[Status]":
@@ -60,6 +62,8 @@ TEXTS = {
     Status.NOT_OID: "the text is not an OBJECT IDENTIFIER",
     Status.TOO_LONG: "too long for text in decimal",
     Status.NOT_CERTIFICATE: "the first block is not a certificate",
+    Status.NOT_REQUEST: "the first block is not a certification request",
+    Status.NOT_REVOCATION_LIST: "the first block is not a certificate revocation list",
 }
 
 

@@ -14,7 +14,7 @@ import sys
 
 import wanted
 from bounds import RUNS, SIZES, is_well
-from shapes import ACCOUNTED, CERTIFICATES, DOCUMENTS, TEXTS, UNREAD
+from shapes import ACCOUNTED, DOCUMENTS, TEXTS, UNREAD, kind_of
 from short import part
 
 # seconds: what takes longer is ended
@@ -102,7 +102,7 @@ def answers(name, make, is_text):
     if is_text:
         return {"dump": dict.fromkeys(LOOKS, int(name in UNREAD)) | {"--text": 1}}
     look, strict = wanted.of_dump(make(SMALL))
-    library = wanted.of_library(make(DEEP), make(SMALL), name in CERTIFICATES)
+    library = wanted.of_library(make(DEEP), make(SMALL), kind_of(name))
     crate = wanted.of_crate(make(DEEP))
     dump = dict.fromkeys(LOOKS, look) | {"--strict": strict, "--json --strict": strict}
     return {"c": library, "python": library, "rust": crate, "dump": dump | {"--text": int(name not in ACCOUNTED)}}

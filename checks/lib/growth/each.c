@@ -57,6 +57,16 @@ static uint32_t has_fields(size_t size)
     return simple_asn1_certificate(octets, size).status;
 }
 
+static uint32_t has_request_fields(size_t size)
+{
+    return simple_asn1_request(octets, size).status;
+}
+
+static uint32_t has_list_fields(size_t size)
+{
+    return simple_asn1_revocation_list(octets, size).status;
+}
+
 static uint32_t is_rewritten(size_t size)
 {
     return simple_asn1_rewrite(octets, size, out, sizeof out).status;
@@ -125,7 +135,8 @@ static const struct {
     {"read", is_read}, {"count", counted}, {"strict", is_read_strictly}, {"outline", is_outlined},
     {"check", is_checked}, {"fault", has_fault}, {"departures", has_departures}, {"signed", has_signature},
     {"rewrite", is_rewritten}, {"write", is_written}, {"spell", is_spelled}, {"encoding", is_encoded},
-    {"values", has_values}, {"certificate", has_fields}, {"each", has_each},
+    {"values", has_values}, {"certificate", has_fields}, {"request", has_request_fields}, {"list", has_list_fields},
+    {"each", has_each},
 };
 
 int main(int count, char **words)

@@ -135,6 +135,15 @@ def attributes(size):
     return certificate(bytes.fromhex("3009 0603551d0e 0402 0400"), subject)
 
 
+def request(size):
+    """A certification request of many attributes."""
+    attribute = bytes.fromhex("3010 06092a864886f70d010907 3103 0c0161")
+    key = encoding(0x30, ALGORITHM + encoding(0x03, bytes(33)))
+    content = bytes.fromhex("020100 300c310a300806035504030c0161") + key
+    content += encoding(0xA0, attribute * (size // len(attribute)))
+    return encoding(0x30, encoding(0x30, content) + ALGORITHM + SIGNATURE)
+
+
 def signed_items(size):
     """What was signed is many items."""
     return encoding(0x30, encoding(0x30, NULL * (size // 2)) + ALGORITHM + SIGNATURE)
@@ -252,13 +261,21 @@ DOCUMENTS = {
     "a certificate of many extensions": extensions,
     "a certificate of many names": names,
     "a certificate of many attributes": attributes,
+    "a request of many attributes": request,
     "many items that are signed": signed_items,
 }
 
-CERTIFICATES = {it for it in DOCUMENTS if it.startswith("a certificate of")}
+# of these types, as the library knows them
+KINDS = {"a certificate of": "certificate", "a request of": "request", "a list of": "list"}
+
+
+def kind_of(name):
+    """The kind of a document, or none."""
+    return next((kind for begin, kind in KINDS.items() if name.startswith(begin)), None)
+
 
 # of which der_dump writes an account
-ACCOUNTED = {it for it in DOCUMENTS if it.startswith(("a list of", "a certificate of"))}
+ACCOUNTED = {it for it in DOCUMENTS if kind_of(it)}
 
 
 def hex_digits(size):

@@ -11,7 +11,9 @@ STATUSES = {
     "EmptyBuffer": 1, "BadBooleanLength": 2, "LengthTooLarge": 3, "UTF8DecodeFailure": 4,
     "PrintableStringDecodeFailure": 5, "InvalidDateValue": 6, "InvalidBitStringLength": 7, "Incomplete": 8,
 }
-OK, INCOMPLETE, NOT_CANONICAL, NO_ROOM, NOT_SIGNED, BAD_RECORD, NOT_CERTIFICATE = 0, 8, 9, 11, 14, 15, 18
+OK, INCOMPLETE, NOT_CANONICAL, NO_ROOM, NOT_SIGNED, BAD_RECORD = 0, 8, 9, 11, 14, 15
+# of calls for fields, if a document is not of the type
+OTHERS = {"certificate": 18, "request": 19, "list": 20}
 # how many blocks may stand around one that the crate for Rust reads
 MOST_AROUND = 256
 # of the rules of DER, those that der_dump has an error for where they are broken in these shapes
@@ -100,22 +102,22 @@ def is_signed(octets):
     return first.identifier == b"\x30" and len(tags) == 3 and tags[1:] == [(b"\x30", b"\x06"), (b"\x03", b"")]
 
 
-def of_library(octets, few, is_certificate):
+def of_library(octets, few, kind):
     """The statuses of the calls for C and Python, by their names in each.c and each.py. The readers of X.690 get few
-    octets of the same shape."""
+    octets of the same shape. A certificate, a request or a list of revoked certificates is of a kind."""
     read, blocks = read_by(reader.Reader, octets)
     outline, _ = read_by(Outline, octets)
     _, rewritten = read_by(Rewritten, octets)
     broken = departures.departures(few)
     same = dict.fromkeys("read check fault rewrite pickled walk slices first last".split(), read)
     by_headers = dict.fromkeys("outline values each items repr views equal asked".split(), outline)
-    return same | by_headers | {
+    fields = {call: read or (OK if call == kind else other) for call, other in OTHERS.items()}
+    return same | by_headers | fields | {
         "write": read or (BAD_RECORD if HUGE_TAG.search(blocks) else OK),
         "spell": read or (BAD_RECORD if HUGE_TAG.search(blocks) else OK),
         "count": read or NO_ROOM,
         "strict": read or (NOT_CANONICAL if CHANGED in rewritten else OK),
         "signed": read or (OK if is_signed(few) else NOT_SIGNED),
-        "certificate": read or (OK if is_certificate else NOT_CERTIFICATE),
         "departures": (outline or INCOMPLETE) if isinstance(broken, int) else OK,
         "encoding": OK,
     }

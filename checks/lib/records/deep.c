@@ -36,6 +36,8 @@ static double seconds(const uint8_t *octets, size_t size, size_t levels)
     CHECK(simple_asn1_write(octets, size, blocks, o.count, out, size).count == size && memcmp(out, octets, size) == 0);
     CHECK(simple_asn1_signed(octets, size).status == SIMPLE_ASN1_NOT_SIGNED);
     CHECK(simple_asn1_certificate(octets, size).status == SIMPLE_ASN1_NOT_CERTIFICATE);
+    CHECK(simple_asn1_request(octets, size).status == SIMPLE_ASN1_NOT_REQUEST);
+    CHECK(simple_asn1_revocation_list(octets, size).status == SIMPLE_ASN1_NOT_REVOCATION_LIST);
     free(blocks), free(out);
     return (double)(clock() - before) / CLOCKS_PER_SEC;
 }

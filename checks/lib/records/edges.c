@@ -18,6 +18,8 @@ static void check_nothing(void)
     CHECK(simple_asn1_oid(NULL, 0, 0, NULL, 0).status == SIMPLE_ASN1_NO_SUCH_VALUE);
     CHECK(simple_asn1_signed(NULL, 0).status == SIMPLE_ASN1_EMPTY);
     CHECK(simple_asn1_certificate(NULL, 0).status == SIMPLE_ASN1_EMPTY);
+    CHECK(simple_asn1_request(NULL, 0).status == SIMPLE_ASN1_EMPTY);
+    CHECK(simple_asn1_revocation_list(NULL, 0).status == SIMPLE_ASN1_EMPTY);
     CHECK(simple_asn1_values(NULL, 0, NULL, 0, NULL, 0, NULL, 0).status == SIMPLE_ASN1_EMPTY);
     CHECK(simple_asn1_departures(NULL, 0, NULL, 0).status == SIMPLE_ASN1_EMPTY);
 }
@@ -35,6 +37,8 @@ static void check_answers(void)
     CHECK(o.status == SIMPLE_ASN1_NO_ROOM && o.count == 5);
     CHECK(simple_asn1_signed(five, 5).status == SIMPLE_ASN1_NOT_SIGNED);
     CHECK(simple_asn1_certificate(five, 5).status == SIMPLE_ASN1_NOT_CERTIFICATE);
+    CHECK(simple_asn1_request(five, 5).status == SIMPLE_ASN1_NOT_REQUEST);
+    CHECK(simple_asn1_revocation_list(five, 5).status == SIMPLE_ASN1_NOT_REVOCATION_LIST);
     o = simple_asn1_check(five, 5);
     CHECK(o.status == SIMPLE_ASN1_OK && o.offset == 0 && o.count == 0);
 
@@ -320,11 +324,76 @@ static void check_signed(void)
     CHECK(s.algorithm.next == 0 && s.algorithm.depth == 0 && s.signature.next == 0 && s.signature.depth == 0);
 }
 
+static int is_at(const simple_asn1_block *part, size_t offset, size_t header, size_t contents)
+{
+    return part->offset == offset && part->header == header && part->contents == contents;
+}
+
+/* Each record of fields stands where `openssl asn1parse` shows it. */
+static void check_request(void)
+{
+    simple_asn1_request_parts r = simple_asn1_request(a_request, sizeof a_request);
+    CHECK(r.status == SIMPLE_ASN1_OK && r.offset == 0);
+    CHECK(is_at(&r.certification_request, 0, 3, 210) && r.certification_request.next == 27);
+    CHECK(is_at(&r.certification_request_info, 3, 3, 133) && r.certification_request_info.items == 4);
+    CHECK(is_at(&r.version, 6, 2, 1) && is_at(&r.subject, 9, 2, 20));
+    CHECK(is_at(&r.subject_public_key_info, 31, 2, 42) && is_at(&r.public_key_algorithm, 33, 2, 5));
+    CHECK(is_at(&r.subject_public_key, 40, 2, 33));
+    CHECK(is_at(&r.attributes, 75, 2, 62) && r.attributes.tag_class == 2 && r.attributes.items == 2);
+    CHECK(is_at(&r.signature_algorithm, 139, 2, 5) && is_at(&r.signature, 146, 2, 65) && r.signature.depth == 1);
+    CHECK(simple_asn1_certificate(a_request, sizeof a_request).status == SIMPLE_ASN1_NOT_CERTIFICATE);
+    r = simple_asn1_request(a_revocation_list, sizeof a_revocation_list);
+    CHECK(r.status == SIMPLE_ASN1_NOT_REQUEST && is_at(&r.certification_request, 0, 0, 0));
+    r = simple_asn1_request(a_request, sizeof a_request - 1);
+    CHECK(r.status == SIMPLE_ASN1_INCOMPLETE && r.offset == 0 && is_at(&r.signature, 0, 0, 0));
+}
+
+/* Of the entry that begins at an offset: its serial number, the moment and the extensions. Returns where it ends. */
+static size_t check_entry(size_t at, size_t *parts)
+{
+    simple_asn1_block entry, part;
+    CHECK(simple_asn1_header(a_revocation_list, sizeof a_revocation_list, at, &entry, 1).status == SIMPLE_ASN1_OK);
+    size_t inside = at + entry.header, end = inside + entry.contents;
+    while (inside < end) {
+        CHECK(simple_asn1_header(a_revocation_list, sizeof a_revocation_list, inside, &part, 1).status ==
+              SIMPLE_ASN1_OK);
+        *parts++ = inside;
+        inside += part.header + part.contents;
+    }
+    CHECK(inside == end);
+    return end;
+}
+
+static void check_revocation_list(void)
+{
+    const uint8_t *octets = a_revocation_list;
+    size_t size = sizeof a_revocation_list, first[2] = {0}, second[3] = {0};
+    simple_asn1_revocation_list_parts l = simple_asn1_revocation_list(octets, size);
+    CHECK(l.status == SIMPLE_ASN1_OK && l.offset == 0);
+    CHECK(is_at(&l.certificate_list, 0, 3, 224) && is_at(&l.tbs_cert_list, 3, 3, 147) && l.tbs_cert_list.items == 7);
+    CHECK(is_at(&l.version, 6, 2, 1) && is_at(&l.tbs_signature, 9, 2, 5) && is_at(&l.issuer, 16, 2, 20));
+    CHECK(is_at(&l.this_update, 38, 2, 13) && is_at(&l.next_update, 53, 2, 15));
+    CHECK(is_at(&l.revoked_certificates, 70, 2, 65) && l.revoked_certificates.items == 2);
+    CHECK(is_at(&l.crl_extensions, 137, 2, 14) && l.crl_extensions.tag_class == 2);
+    CHECK(is_at(&l.signature_algorithm, 153, 2, 5) && is_at(&l.signature, 160, 2, 65));
+    size_t at = check_entry(l.revoked_certificates.offset + l.revoked_certificates.header, first);
+    CHECK(at == 93 && first[0] == 74 && first[1] == 78 && simple_asn1_int64(octets, size, 74).value == 0x1234);
+    CHECK(check_entry(at, second) == 137 && second[0] == 95 && second[1] == 108 && second[2] == 123);
+    CHECK(simple_asn1_int64(octets, size, 95).status == SIMPLE_ASN1_RANGE);
+    CHECK(simple_asn1_time(octets, size, 78).day == 1 && simple_asn1_time(octets, size, 108).day == 2);
+    l = simple_asn1_revocation_list(a_request, sizeof a_request);
+    CHECK(l.status == SIMPLE_ASN1_NOT_REVOCATION_LIST && is_at(&l.certificate_list, 0, 0, 0));
+    l = simple_asn1_revocation_list(octets, size - 1);
+    CHECK(l.status == SIMPLE_ASN1_INCOMPLETE && l.offset == 0 && is_at(&l.signature, 0, 0, 0));
+}
+
 /* Whether the octets are a document; all calls must agree on it. */
 static int check_changed(const uint8_t *octets, size_t size)
 {
     simple_asn1_signed(octets, size);
     simple_asn1_certificate(octets, size);
+    simple_asn1_request(octets, size);
+    simple_asn1_revocation_list(octets, size);
     simple_asn1_outcome o = simple_asn1_read(octets, size, NULL, 0);
     if (o.status != SIMPLE_ASN1_NO_ROOM) {
         CHECK(o.status >= SIMPLE_ASN1_EMPTY && o.status < SIMPLE_ASN1_NOT_CANONICAL && o.offset <= size);
@@ -352,6 +421,24 @@ static int check_changed(const uint8_t *octets, size_t size)
     return 1;
 }
 
+/* Cuts a document off before each of its octets, and changes each of them; counts what is read and what is refused. */
+static void change_each(const uint8_t *whole, size_t size, size_t *read, size_t *refused)
+{
+    for (size_t k = 0; k < 2 * size; k++) {
+        /* of exactly its size, so that a sanitizer sees what is read past it */
+        size_t n = k < size ? k : size;
+        uint8_t *octets = malloc(n ? n : 1);
+        memcpy(octets, whole, n);
+        if (k >= size)
+            octets[k - size] ^= (uint8_t)(1 << k % 8);
+        if (check_changed(octets, n))
+            ++*read;
+        else
+            ++*refused;
+        free(octets);
+    }
+}
+
 int main(int argc, char **argv)
 {
     check_nothing();
@@ -364,23 +451,15 @@ int main(int argc, char **argv)
     check_made();
     check_tagged();
     check_signed();
+    check_request();
+    check_revocation_list();
     size_t read = 0, refused = 0;
+    change_each(a_request, sizeof a_request, &read, &refused);
+    change_each(a_revocation_list, sizeof a_revocation_list, &read, &refused);
     for (int f = 1; f < argc; f++) {
         size_t size;
         uint8_t *whole = read_file(argv[f], &size);
-        for (size_t k = 0; k < 2 * size; k++) {
-            /* of exactly its size, so that a sanitizer sees what is read past it */
-            size_t n = k < size ? k : size;
-            uint8_t *octets = malloc(n ? n : 1);
-            memcpy(octets, whole, n);
-            if (k >= size)
-                octets[k - size] ^= (uint8_t)(1 << k % 8);
-            if (check_changed(octets, n))
-                read++;
-            else
-                refused++;
-            free(octets);
-        }
+        change_each(whole, size, &read, &refused);
         free(whole);
     }
     printf("edges are as they have to be; of changed documents %zu are read and %zu refused\n", read, refused);

@@ -77,6 +77,8 @@ static uint32_t status_of(int call)
     case 18: return simple_asn1_departures(broken, sizeof broken, departures, 1 << 10).status;
     case 19: return simple_asn1_bits(octets, size, bits).status;
     case 20: return simple_asn1_certificate(octets, size).status;
+    case 21: return simple_asn1_request(a_request, sizeof a_request).status;
+    case 22: return simple_asn1_revocation_list(a_revocation_list, sizeof a_revocation_list).status;
     default: return simple_asn1_write(octets, size, blocks, count, out, sizeof out).status;
     }
 }
@@ -97,7 +99,7 @@ int main(int argc, char **argv)
             *kind = blocks[i].offset;
     }
     size_t refused = 0;
-    for (int call = 0; call < 22; call++) {
+    for (int call = 0; call < 24; call++) {
         for (long k = 0;; k++) {
             long before = live;
             asked = 0, left = k;

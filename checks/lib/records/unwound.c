@@ -1,7 +1,7 @@
 /* Steps through calls of the library, one instruction at a time, and looks at each whether the unwind tables lead to
  * the program's start: unwound FILE.der .. */
 #define _GNU_SOURCE
-#include "simple_asn1.h"
+#include "documents.h"
 #include <execinfo.h>
 #include <signal.h>
 #include <stdio.h>
@@ -65,6 +65,8 @@ static void call_all(const uint8_t *octets, size_t size, simple_asn1_block *bloc
     simple_asn1_write(octets, size, blocks, o.count, out, sizeof out);
     simple_asn1_signed(octets, size);
     simple_asn1_certificate(octets, size);
+    simple_asn1_request(a_request, sizeof a_request);
+    simple_asn1_revocation_list(a_revocation_list, sizeof a_revocation_list);
     simple_asn1_fault(octets, size / 2, out, sizeof out);
     for (size_t i = 0; i < o.count; i++) {
         simple_asn1_int64(octets, size, blocks[i].offset);

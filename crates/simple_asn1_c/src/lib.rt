@@ -14,6 +14,8 @@ ghost use Rattle.asn1_records.specs.Departures.{AnswersDepartures};
 ghost use Rattle.asn1_records.specs.Paths.{AnswersValues};
 ghost use Rattle.asn1_records.specs.Puts.{AnswersPutBits, AnswersPutBoolean, AnswersPutIdentifier, AnswersPutInteger, AnswersPutMoment, AnswersPutText, moment_in};
 ghost use Rattle.asn1_records.specs.Raw.{AnswersEncoding, AnswersRawBits, AnswersRawIdentifier, AnswersRawMoment, AnswersRawText, AnswersSpell};
+ghost use Rattle.asn1_records.specs.Requests.{AnswersRequest};
+ghost use Rattle.asn1_records.specs.RevocationLists.{AnswersRevocationList};
 ghost use Rattle.asn1_records.specs.Status.{done};
 ghost use Rattle.asn1_records.specs.Values.{AnswersBits, AnswersIdentifier, AnswersInteger, AnswersMoment, AnswersText, UniversalAt};
 
@@ -33,8 +35,10 @@ use asn1_records::putting::{all_put, not_enough, nothing_put, put_found, put_fro
 use asn1_records::raw::{put_raw_bits, put_raw_identifier, put_raw_moment, put_raw_text};
 use asn1_records::record::{
     BitStringAnswer, Block, CertificateAnswer, DepartureRecord, IntegerAnswer, MomentAnswer,
-    Outcome, Path, SignedAnswer, Value,
+    Outcome, Path, RequestAnswer, RevocationListAnswer, SignedAnswer, Value,
 };
+use asn1_records::request::request_in;
+use asn1_records::revocation_list::revocation_list_in;
 use asn1_records::rewriting::put_canonical;
 use asn1_records::signed::signed_in;
 use asn1_records::spelling::spell;
@@ -267,6 +271,27 @@ pub extern "C" fn simple_asn1_certificate(alloc: Global, octets: &[u8]) -> Certi
     ensures { AnswersCertificate octets.now result }
 {
     certificate_in(alloc, octets)
+}
+
+/// The records of the fields of the certification request that a document begins with (RFC 2986, 4), as
+/// [`simple_asn1_read`] writes them. `attributes` is the implicit tag, so that the first of them begins behind its
+/// header. `NOT_REQUEST` if the document begins with another block; otherwise as [`simple_asn1_certificate`].
+#[unsafe(no_mangle)]
+pub extern "C" fn simple_asn1_request(alloc: Global, octets: &[u8]) -> RequestAnswer
+    ensures { AnswersRequest octets.now result }
+{
+    request_in(alloc, octets)
+}
+
+/// The records of the fields of the list of revoked certificates that a document begins with (RFC 5280, 5.1), as
+/// [`simple_asn1_read`] writes them; of an absent field all numbers are 0. `revoked_certificates` is the whole
+/// SEQUENCE, and `crl_extensions` the explicit tag. `NOT_REVOCATION_LIST` if the document begins with another block;
+/// otherwise as [`simple_asn1_certificate`].
+#[unsafe(no_mangle)]
+pub extern "C" fn simple_asn1_revocation_list(alloc: Global, octets: &[u8]) -> RevocationListAnswer
+    ensures { AnswersRevocationList octets.now result }
+{
+    revocation_list_in(alloc, octets)
 }
 
 /// Writes the canonical octets of the document that records describe: one with items holds the records after it, any

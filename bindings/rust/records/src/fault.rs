@@ -52,6 +52,10 @@ pub enum FaultKind {
     TooLong,
     /// The first block is not a certificate.
     NotCertificate,
+    /// The first block is not a certification request.
+    NotRequest,
+    /// The first block is not a certificate revocation list.
+    NotRevocationList,
     /// A status of a later library, by its number there.
     Unknown(u32),
 }
@@ -76,6 +80,8 @@ impl Fault {
             sys::NOT_OID => FaultKind::NotOid,
             sys::TOO_LONG => FaultKind::TooLong,
             sys::NOT_CERTIFICATE => FaultKind::NotCertificate,
+            sys::NOT_REQUEST => FaultKind::NotRequest,
+            sys::NOT_REVOCATION_LIST => FaultKind::NotRevocationList,
             _ => FaultKind::Unknown(status),
         };
         Fault { kind, offset }
@@ -102,6 +108,8 @@ impl fmt::Display for FaultKind {
             FaultKind::NotOid => "the text is not an OBJECT IDENTIFIER",
             FaultKind::TooLong => "too long for text in decimal",
             FaultKind::NotCertificate => "the first block is not a certificate",
+            FaultKind::NotRequest => "the first block is not a certification request",
+            FaultKind::NotRevocationList => "the first block is not a certificate revocation list",
             FaultKind::Unknown(status) => return write!(f, "unknown status {status}"),
         })
     }

@@ -20,6 +20,8 @@ pub const BAD_RECORD: u32 = 15;
 pub const NOT_OID: u32 = 16;
 pub const TOO_LONG: u32 = 17;
 pub const NOT_CERTIFICATE: u32 = 18;
+pub const NOT_REQUEST: u32 = 19;
+pub const NOT_REVOCATION_LIST: u32 = 20;
 
 pub const RULE_LONG_IDENTIFIER: u32 = 1;
 pub const RULE_PADDED_TAG: u32 = 2;
@@ -170,6 +172,41 @@ pub struct CertificateParts {
 
 #[repr(C)]
 #[derive(Clone, Copy, Debug, PartialEq, Eq)]
+pub struct RequestParts {
+    pub status: u32,
+    pub offset: usize,
+    pub certification_request: Block,
+    pub certification_request_info: Block,
+    pub version: Block,
+    pub subject: Block,
+    pub subject_public_key_info: Block,
+    pub public_key_algorithm: Block,
+    pub subject_public_key: Block,
+    pub attributes: Block,
+    pub signature_algorithm: Block,
+    pub signature: Block,
+}
+
+#[repr(C)]
+#[derive(Clone, Copy, Debug, PartialEq, Eq)]
+pub struct RevocationListParts {
+    pub status: u32,
+    pub offset: usize,
+    pub certificate_list: Block,
+    pub tbs_cert_list: Block,
+    pub version: Block,
+    pub tbs_signature: Block,
+    pub issuer: Block,
+    pub this_update: Block,
+    pub next_update: Block,
+    pub revoked_certificates: Block,
+    pub crl_extensions: Block,
+    pub signature_algorithm: Block,
+    pub signature: Block,
+}
+
+#[repr(C)]
+#[derive(Clone, Copy, Debug, PartialEq, Eq)]
 pub struct Fault {
     pub status: u32,
     pub offset: usize,
@@ -210,6 +247,8 @@ extern "C" {
     pub fn simple_asn1_oid(octets: *const u8, size: usize, offset: usize, out: *mut u8, room: usize) -> Outcome;
     pub fn simple_asn1_signed(octets: *const u8, size: usize) -> SignedParts;
     pub fn simple_asn1_certificate(octets: *const u8, size: usize) -> CertificateParts;
+    pub fn simple_asn1_request(octets: *const u8, size: usize) -> RequestParts;
+    pub fn simple_asn1_revocation_list(octets: *const u8, size: usize) -> RevocationListParts;
     pub fn simple_asn1_put_boolean(value: u8, out: *mut u8, room: usize) -> Outcome;
     pub fn simple_asn1_put_int64(value: i64, out: *mut u8, room: usize) -> Outcome;
     pub fn simple_asn1_put_bits(octets: *const u8, size: usize, bits: usize, out: *mut u8, room: usize) -> Outcome;
