@@ -29,6 +29,21 @@ CERTIFICATE = bytes.fromhex(
     "C8C180AA9F07C398DA3637C96D8A7A38414962269433865B558217208F1209C497D96049D9286FB99621F1D5561171F18B01"
 )
 
+# a certification request and a list of revoked certificates, made and looked at in the same way
+REQUEST = bytes.fromhex(
+    "3081D230818502010030143112301006035504030C09612E6578616D706C65302A300506032B657003210003A107BFF3CE10BE1D70DD18"
+    "E74BC09967E4D6309BA50D5F1DDC8664125531B8A03E301506092A864886F70D01090731080C06736563726574302506092A864886F70D"
+    "01090E3118301630140603551D11040D300B8209622E6578616D706C65300506032B65700341001808C93FC63D0231951D7C0DF2E0A43A"
+    "CFA31C593F802FEB01E08B5933DA122650973B01FEAF321130CCD10089F75162878A261C46E0C8450F93CB6AE2995A03"
+)
+LIST = bytes.fromhex(
+    "3081E0308193020101300506032B657030143112301006035504030C09612E6578616D706C65170D3236303130323033303430355A180F"
+    "32303536303130323033303430355A3041301302021234170D3236303130313033303430355A302A020B0099887766554433221100170D"
+    "3236303130323033303430355A300C300A0603551D1504030A0101A00E300C300A0603551D140403020107300506032B6570034100A136"
+    "F1292179B61B7EADCB9DA4E151A17ECF6686444959943EA107D2FA5BF66CB6CA6E55CDE0DCAD62466135C4E105433CBBCE860C68113778"
+    "CF57D2B80E070F"
+)
+
 
 def only(octets):
     return simple_asn1.read(bytes.fromhex(octets)).blocks[0]
@@ -219,6 +234,67 @@ class Reading(unittest.TestCase):
         refused = self.refused(simple_asn1.Certificate, bytes.fromhex("30 03 02 01 05"))
         self.assertEqual(refused, (Status.NOT_CERTIFICATE, 0))
         self.assertEqual(self.refused(simple_asn1.Certificate, CERTIFICATE[:-1]), (Status.INCOMPLETE, 0))
+
+    def test_a_request_has_its_fields(self):
+        request = simple_asn1.CertificationRequest(REQUEST)
+        self.assertEqual(request.octets, REQUEST)
+        self.assertEqual(request.certification_request_info, REQUEST[3:139])
+        self.assertEqual((request.version, request.subject), (0, REQUEST[9:31]))
+        self.assertEqual(request.subject_public_key_info, REQUEST[31:75])
+        self.assertEqual(request.public_key_algorithm, "1.3.101.112")
+        self.assertEqual(request.subject_public_key, (REQUEST[43:75], 256))
+        self.assertEqual(
+            request.attributes,
+            [("1.2.840.113549.1.9.7", [REQUEST[92:100]]), ("1.2.840.113549.1.9.14", [REQUEST[115:139]])])
+        self.assertEqual(request.extensions, [("2.5.29.17", False, b"0\x0b\x82\x09b.example")])
+        self.assertEqual(request.signature_algorithm, "1.3.101.112")
+        self.assertEqual(request.signature_algorithm_identifier, REQUEST[139:146])
+        self.assertEqual(request.signature, (REQUEST[149:], 512))
+        self.assertEqual(request, simple_asn1.CertificationRequest(REQUEST + b"\x05\x00"))
+        self.assertNotEqual(request, simple_asn1.Certificate(CERTIFICATE))
+        self.assertEqual(repr(request), "<CertificationRequest of 213 bytes>")
+
+    def test_a_request_may_have_no_attributes_or_odd_ones(self):
+        def request(attributes):
+            tagged = b"\xa0" + bytes([len(attributes)]) + attributes
+            info = b"\x30" + bytes([69 + len(tagged)]) + REQUEST[6:75] + tagged
+            signed = info + REQUEST[139:]
+            return simple_asn1.CertificationRequest(b"\x30\x81" + bytes([len(signed)]) + signed)
+
+        self.assertEqual((request(b"").attributes, request(b"").extensions), ([], []))
+        for value in "05 00", "30 02 05 00", "30 06 30 04 05 00 05 00":
+            value = bytes.fromhex(value)
+            values = b"\x31" + bytes([len(value)]) + value
+            odd = request(b"\x30" + bytes([11 + len(values)]) + REQUEST[102:113] + values)
+            self.assertEqual(odd.attributes, [("1.2.840.113549.1.9.14", [value])])
+            with self.assertRaises(NoSuchValue):
+                odd.extensions  # noqa: B018
+
+    def test_a_list_has_its_fields(self):
+        issued = simple_asn1.RevocationList(LIST)
+        self.assertEqual(issued.octets, LIST)
+        self.assertEqual((issued.tbs_cert_list, issued.tbs_signature), (LIST[3:153], LIST[9:16]))
+        self.assertEqual((issued.version, issued.issuer), (1, LIST[16:38]))
+        self.assertEqual(str(issued.this_update), "2026-01-02 03:04:05+00:00")
+        self.assertEqual(str(issued.next_update), "2056-01-02 03:04:05+00:00")
+        self.assertEqual([str(moment) for moment in issued.updates], ["2026-01-02T03:04:05Z", "2056-01-02T03:04:05Z"])
+        self.assertEqual(issued.extensions, [("2.5.29.20", False, b"\x02\x01\x07")])
+        self.assertEqual(issued.signature_algorithm, "1.3.101.112")
+        self.assertEqual(issued.signature_algorithm_identifier, LIST[153:160])
+        self.assertEqual(issued.signature, (LIST[163:], 512))
+        first, second = issued.revoked_certificates
+        self.assertEqual((first.serial_number, first.extensions), (0x1234, []))
+        self.assertEqual(str(first.revocation_date), "2026-01-01 03:04:05+00:00")
+        self.assertEqual((second.serial_number, str(second.moment)), (0x99887766554433221100, "2026-01-02T03:04:05Z"))
+        self.assertEqual(second.extensions, [("2.5.29.21", False, b"\x0a\x01\x01")])
+        self.assertEqual(repr(first), "<RevokedCertificate: serial number 4660>")
+        self.assertEqual(repr(issued), "<RevocationList of 227 bytes: 2 revoked certificates>")
+
+    def test_another_document_is_no_request_or_list(self):
+        self.assertEqual(self.refused(simple_asn1.CertificationRequest, LIST), (Status.NOT_REQUEST, 0))
+        self.assertEqual(self.refused(simple_asn1.RevocationList, REQUEST), (Status.NOT_REVOCATION_LIST, 0))
+        self.assertEqual(self.refused(simple_asn1.CertificationRequest, REQUEST[:-1]), (Status.INCOMPLETE, 0))
+        self.assertEqual(self.refused(simple_asn1.RevocationList, LIST[:-1]), (Status.INCOMPLETE, 0))
 
 
 class Numbered:

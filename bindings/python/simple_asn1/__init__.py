@@ -14,16 +14,20 @@ in SIMPLE_ASN1_LIBRARY, or else in the package, or where bindings/c/build puts i
 """
 from ._builder import Builder
 from ._calls import Octets, Record
-from ._certificate import Certificate, Extension
+from ._certificate import Certificate
 from ._departures import Departure, Rule, departures
 from ._document import Bits, Block, Document, Moment, Signed
 from ._document import check, outline, read, read_pem, read_strict, rewrite, write
+from ._fields import Extension
 from ._paths import Paths, Value
 from ._pem import PemObject, pem_objects
+from ._request import Attribute, CertificationRequest
+from ._revocation_list import RevocationList, RevokedCertificate
 from ._status import TEXTS, NoSuchValue, Refused, Status
 
 __all__ = [
-    "Bits", "Block", "Builder", "Certificate", "Departure", "Document", "Extension", "Moment", "NoSuchValue", "Octets",
-    "Paths", "PemObject", "Record", "Refused", "Rule", "Signed", "Status", "TEXTS", "Value", "check", "departures",
-    "outline", "pem_objects", "read", "read_pem", "read_strict", "rewrite", "write",
+    "Attribute", "Bits", "Block", "Builder", "Certificate", "CertificationRequest", "Departure", "Document",
+    "Extension", "Moment", "NoSuchValue", "Octets", "Paths", "PemObject", "Record", "Refused", "RevocationList",
+    "RevokedCertificate", "Rule", "Signed", "Status", "TEXTS", "Value", "check", "departures", "outline",
+    "pem_objects", "read", "read_pem", "read_strict", "rewrite", "write",
 ]  # fmt: skip

@@ -103,6 +103,43 @@ class CertificateParts(ctypes.Structure):
     ]
 
 
+class RequestParts(ctypes.Structure):
+    _fields_ = [("status", ctypes.c_uint32), ("offset", ctypes.c_size_t)] + [
+        (name, Block)
+        for name in (
+            "certification_request",
+            "certification_request_info",
+            "version",
+            "subject",
+            "subject_public_key_info",
+            "public_key_algorithm",
+            "subject_public_key",
+            "attributes",
+            "signature_algorithm",
+            "signature",
+        )
+    ]
+
+
+class RevocationListParts(ctypes.Structure):
+    _fields_ = [("status", ctypes.c_uint32), ("offset", ctypes.c_size_t)] + [
+        (name, Block)
+        for name in (
+            "certificate_list",
+            "tbs_cert_list",
+            "version",
+            "tbs_signature",
+            "issuer",
+            "this_update",
+            "next_update",
+            "revoked_certificates",
+            "crl_extensions",
+            "signature_algorithm",
+            "signature",
+        )
+    ]
+
+
 class Record(NamedTuple):
     """The record of a block; simple_asn1.h describes the fields."""
 
@@ -243,6 +280,9 @@ def _library() -> Any:
         ("oid", Outcome, octets + offset + room),
         ("signed", SignedParts, octets),
         ("certificate", CertificateParts, octets),
+        ("request", RequestParts, octets),
+        ("revocation_list", RevocationListParts, octets),
+        ("header", Outcome, octets + offset + records),
         ("put_boolean", Outcome, [ctypes.c_uint8] + room),
         ("put_int64", Outcome, [ctypes.c_int64] + room),
         ("put_bits", Outcome, octets + offset + room),
@@ -480,12 +520,33 @@ def signed(octets: bytes) -> List[Record]:
     return [record_of(part) for part in (answer.content, answer.algorithm, answer.signature)]
 
 
-def certificate(octets: bytes) -> Dict[str, Record]:
-    """The records of a certificate's fields by their names; of an absent one with zeros."""
-    answer = _LIBRARY.simple_asn1_certificate(octets, len(octets))
+def _fields(call: Callable[..., Any], octets: bytes) -> Dict[str, Record]:
+    """The records of fields by their names; of an absent one with zeros."""
+    answer = call(octets, len(octets))
     if answer.status != Status.OK:
         raise refusal(answer.status, answer.offset)
-    return {name: record_of(getattr(answer, name)) for name, kind in CertificateParts._fields_ if kind is Block}
+    return {name: record_of(getattr(answer, name)) for name, kind in answer._fields_ if kind is Block}
+
+
+def certificate(octets: bytes) -> Dict[str, Record]:
+    return _fields(_LIBRARY.simple_asn1_certificate, octets)
+
+
+def request(octets: bytes) -> Dict[str, Record]:
+    return _fields(_LIBRARY.simple_asn1_request, octets)
+
+
+def revocation_list(octets: bytes) -> Dict[str, Record]:
+    return _fields(_LIBRARY.simple_asn1_revocation_list, octets)
+
+
+def header(octets: bytes, offset: int) -> Record:
+    """The record of the encoding at an offset, read by its header alone."""
+    block = Block()
+    answer = _LIBRARY.simple_asn1_header(octets, len(octets), offset, ctypes.byref(block), 1)
+    if answer.status != Status.OK:
+        raise refusal(answer.status, offset)
+    return record_of(block)
 
 
 def put_boolean(value: bool) -> bytes:

@@ -1,38 +1,24 @@
 """The fields of a certificate."""
 from datetime import datetime as DateTime
-from typing import List, NamedTuple, Optional, Tuple
+from typing import List, Optional, Tuple
 
 from . import _calls
-from ._calls import Octets, Record, made, octets_of
-from ._document import Bits, Document, Moment, _count, _end
+from ._calls import Octets
+from ._document import Bits, Moment
+from ._fields import Extension, Fields
 
 
-class Extension(NamedTuple):
-    """An extension of a certificate."""
-
-    oid: str
-    """Its OBJECT IDENTIFIER, as in 2.5.29.19."""
-    critical: bool
-    """Who does not know a critical extension has to reject the certificate."""
-    value: bytes
-    """The octets of its value: a document of the type that the identifier says."""
-
-
-class Certificate:
+class Certificate(Fields):
     """A certificate by its fields (RFC 5280, section 4.1).
 
     That octets are a certificate is checked, and no more: no signature, no chain and no moment. A document that begins
     with another block raises Refused, with the status NOT_CERTIFICATE.
     """
 
-    def __init__(self, source: Octets) -> None:
-        self._document = octets_of(source)
-        self._parts = _calls.certificate(self._document)
+    _whole = "certificate"
 
-    @property
-    def octets(self) -> bytes:
-        """The octets of the certificate."""
-        return self._octets("certificate")
+    def __init__(self, source: Octets) -> None:
+        super().__init__(source, _calls.certificate)
 
     @property
     def tbs_certificate(self) -> bytes:
@@ -47,7 +33,7 @@ class Certificate:
 
     @property
     def serial_number(self) -> int:
-        return int.from_bytes(self._inside(self._parts["serial_number"]), "big", signed=True)
+        return self._integer("serial_number")
 
     @property
     def tbs_signature(self) -> bytes:
@@ -107,54 +93,7 @@ class Certificate:
     @property
     def extensions(self) -> List[Extension]:
         """The extensions, in order."""
-        part = self._parts["extensions"]
-        if not part.header:
-            return []
-        found = []
-        for extension in Document(self._inside(part))[0]:
-            kind, *critical, value = extension
-            found.append(Extension(kind.oid, bool(critical) and critical[0].contents != b"\0", value.contents))
-        return found
+        return self._extensions("extensions")
 
-    @property
-    def signature_algorithm(self) -> str:
-        """The OBJECT IDENTIFIER of the signature's algorithm, as in 1.2.840."""
-        return self._identifier("signature_algorithm")
-
-    @property
-    def signature_algorithm_identifier(self) -> bytes:
-        """The octets of the AlgorithmIdentifier behind what was signed."""
-        return self._octets("signature_algorithm")
-
-    @property
-    def signature(self) -> Bits:
-        """The octets that hold the bits of the signature, and the number of bits."""
-        return self._bits("signature")
-
-    def _octets(self, name: str) -> bytes:
-        """Those of a part; none where it is absent."""
-        part = self._parts[name]
-        return self._document[part.offset : _end(part)]
-
-    def _inside(self, part: Record) -> bytes:
-        return self._document[part.offset + part.header : _end(part)]
-
-    def _moment(self, name: str) -> Moment:
-        return made(Moment, _calls.time(self._document, self._parts[name].offset))
-
-    def _bits(self, name: str) -> Bits:
-        return made(Bits, _calls.bits(self._document, self._parts[name].offset))
-
-    def _identifier(self, name: str) -> str:
-        """The OBJECT IDENTIFIER with which a part begins."""
-        part = self._parts[name]
-        return _calls.oid_at(self._document, part.offset + part.header, part.contents)
-
-    def __eq__(self, other: object) -> bool:
-        return isinstance(other, Certificate) and self.octets == other.octets
-
-    def __hash__(self) -> int:
-        return hash(self.octets)
-
-    def __repr__(self) -> str:
-        return f"<Certificate of {_count(len(self.octets), 'byte')}: serial number {self.serial_number}>"
+    def _shown(self) -> str:
+        return f": serial number {self.serial_number}"

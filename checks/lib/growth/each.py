@@ -59,6 +59,8 @@ CALLS = {
     "departures": simple_asn1.departures,
     "signed": simple_asn1.Signed,
     "certificate": simple_asn1.Certificate,
+    "request": simple_asn1.CertificationRequest,
+    "list": simple_asn1.RevocationList,
     "values": PATHS.values,
     "write": lambda octets: simple_asn1.write(octets, read(octets).records),
     "pickled": lambda octets: pickle.loads(pickle.dumps(read(octets))),

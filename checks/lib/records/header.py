@@ -112,6 +112,8 @@ records = {
     "moment": _calls.MomentAnswer,
     "signed_parts": _calls.SignedParts,
     "certificate_parts": _calls.CertificateParts,
+    "request_parts": _calls.RequestParts,
+    "revocation_list_parts": _calls.RevocationListParts,
     "refusal": Refusal,
 }
 same("Python's records and those it hands out", simple_asn1.Record._fields, tuple(f[0] for f in _calls.Block._fields_))
@@ -142,8 +144,8 @@ same("the header's and Python's records", found, wanted)
 source = "".join((top / "crates/asn1_records/src" / name).read_text() for name in ("record.rt", "first_fault.rt"))
 answers = {
     "IntegerAnswer": "integer", "BitStringAnswer": "bit_string", "MomentAnswer": "moment",
-    "SignedAnswer": "signed_parts", "CertificateAnswer": "certificate_parts", "FaultAnswer": "refusal",
-    "DepartureRecord": "departure",
+    "SignedAnswer": "signed_parts", "CertificateAnswer": "certificate_parts", "RequestAnswer": "request_parts",
+    "RevocationListAnswer": "revocation_list_parts", "FaultAnswer": "refusal", "DepartureRecord": "departure",
 }
 for kind, size in re.findall(r"size_of::<(\w+)>\(\) == (\d+)", source):
     name = answers.get(kind, kind.lower())

@@ -3,7 +3,7 @@
 use crate::Fault;
 pub use simple_asn1_sys::Block as Record;
 use simple_asn1_sys::*;
-pub use simple_asn1_sys::{CertificateParts, Path, SignedParts, Value};
+pub use simple_asn1_sys::{CertificateParts, Path, RequestParts, RevocationListParts, SignedParts, Value};
 
 /// A moment in UTC, to the nanosecond.
 #[derive(Clone, Copy, Debug, PartialEq, Eq, PartialOrd, Ord, Hash)]
@@ -180,6 +180,32 @@ pub fn certificate(octets: &[u8]) -> Result<CertificateParts, Fault> {
     match answer.status {
         OK => Ok(answer),
         status => Err(Fault::of_status(status, answer.offset)),
+    }
+}
+
+pub fn request(octets: &[u8]) -> Result<RequestParts, Fault> {
+    let answer = unsafe { simple_asn1_request(octets.as_ptr(), octets.len()) };
+    match answer.status {
+        OK => Ok(answer),
+        status => Err(Fault::of_status(status, answer.offset)),
+    }
+}
+
+pub fn revocation_list(octets: &[u8]) -> Result<RevocationListParts, Fault> {
+    let answer = unsafe { simple_asn1_revocation_list(octets.as_ptr(), octets.len()) };
+    match answer.status {
+        OK => Ok(answer),
+        status => Err(Fault::of_status(status, answer.offset)),
+    }
+}
+
+/// The record of the encoding at an offset, read by its header alone: `items`, `next` and `depth` are 0.
+pub fn header(octets: &[u8], offset: usize) -> Result<Record, Fault> {
+    let mut record = Record::default();
+    let answer = unsafe { simple_asn1_header(octets.as_ptr(), octets.len(), offset, &mut record, 1) };
+    match answer.status {
+        OK => Ok(record),
+        status => Err(Fault::of_status(status, offset)),
     }
 }
 

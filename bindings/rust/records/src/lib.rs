@@ -5,15 +5,21 @@ mod calls;
 mod certificate;
 mod departures;
 mod fault;
+mod fields;
 mod paths;
+mod request;
+mod revocation_list;
 
 pub use builder::Builder;
 use calls::SignedParts;
 pub use calls::{Moment, Record};
-pub use certificate::{Certificate, Extension};
+pub use certificate::Certificate;
 pub use departures::{departures, Departure, Rule};
 pub use fault::{Fault, FaultKind};
+pub use fields::Extension;
 pub use paths::{Paths, Value};
+pub use request::{Attribute, CertificationRequest};
+pub use revocation_list::{RevocationList, RevokedCertificate, RevokedCertificates};
 
 use std::fmt;
 use std::iter::FusedIterator;
