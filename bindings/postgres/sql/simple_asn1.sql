@@ -80,4 +80,23 @@ SELECT der_rewrite('\x0500300302');
 SELECT der_fault('\x0500'), der_fault('\x0500300302'), der_fault(''), der_fault('\x0500308103020105', true),
        der_fault('\x308103020105'), (der_fault('\x05000102ffff')).*;
 SELECT der_fault('\x0500') IS NULL AS read, (der_fault('\x0500')).fault;
+
+-- the fields of a certificate that the package cryptography for Python made, as openssl shows them
+CREATE TEMP TABLE certificate AS SELECT decode('308201063081b9a00302010202021234300506032b65703019310b3009060355040613024348310a300806035504030c01653020170d32'
+    || '36303130323033303430355a180f32303536303130323033303430355a3019310b3009060355040613024348310a300806035504030c01'
+    || '65302a300506032b657003210003a107bff3ce10be1d70dd18e74bc09967e4d6309ba50d5f1ddc8664125531b8a3233021300f0603551d'
+    || '130101ff040530030101ff300e0603551d11040730058203652e78300506032b6570034100ca8392a0aef788963c2ba366ced2c8c180aa'
+    || '9f07c398da3637c96d8a7a38414962269433865b558217208f1209c497d96049d9286fb99621f1d5561171f18b01', 'hex') AS der;
+SELECT c.serial_number, c.not_before, c.not_after, c.version, c.public_key_algorithm, c.signature_algorithm
+FROM certificate, der_certificate(der) c;
+SELECT c.issuer, c.subject, c.extensions FROM certificate, der_certificate(der) c;
+SELECT c.subject_public_key_info, c.signature = substring(der FROM 203) AS signature,
+       c.tbs_certificate = substring(der FROM 5 FOR 188) AS tbs FROM certificate, der_certificate(der) c;
+-- without version and extensions, and with a serial number beyond bigint
+SELECT c.serial_number, c.version, c.extensions, c.subject FROM der_certificate(
+    '\x304b3040020900ffffffffffffffff300306012a3000301e170d3236303130313030303030305a170d3237303130313030303030305a'
+    '3000300a300306012a0303000102300306012a030200ff') c;
+-- what is none
+SELECT der_certificate('\x0500') IS NULL AS another, der_certificate(substring(der FOR 265)) IS NULL AS cut_off,
+       der_certificate('') IS NULL AS empty, der_certificate(NULL) IS NULL AS null FROM certificate;
 DROP EXTENSION simple_asn1;
