@@ -153,7 +153,7 @@ SHORT = [
     Check("changes", "lib/compare_reading.py", "prefixes of certificates and changed ones read as by a plain reader",
           programs="test_calls"),
     Check("mutants", "lib/mutants.py",
-          "changed certificates are taken as RFC 5280 says; cryptography and openssl differ for known reasons",
+          "changed certificates, requests and lists are taken as RFCs say; others differ for known reasons",
           needs="python:cryptography openssl", after="libraries"),
     Check("dask", "lib/dask_counts.py", "four workers, one of them killed, count certificates as one process does",
           needs="python:distributed", uses="cc", after="libraries"),

@@ -1,5 +1,6 @@
-"""Certificates with something changed: which are certificates, and where their fields stand, as a plain reading of the
-modules of RFC 5280 says; and each difference from what cryptography and openssl take has a reason.
+"""Certificates, certification requests and revocation lists with something changed: which are still of their types, and
+where their fields stand, as a plain reading of the modules of RFC 5280 and RFC 2986 says; and each difference from what
+cryptography and openssl take has a reason.
 
     checks/run mutants [-- COUNT [SEED]]    so many, 10,000 unless given, and 1,000 in short
 
@@ -11,6 +12,8 @@ import collections
 import copy
 import ctypes
 import ctypes.util
+import datetime
+import functools
 import multiprocessing
 import os
 import pathlib
@@ -71,10 +74,11 @@ class Node:
 
 
 class Module:
-    """Types of RFC 5280, appendix A. With `some` a SET SIZE (1..MAX) has one item, as it has to."""
+    """Types of RFC 5280 and RFC 2986, appendix A. With `some` a SET SIZE (1..MAX) has one item, as it has to. With
+    `shallow` values in attributes may be malformed."""
 
-    def __init__(self, some):
-        self.some = some
+    def __init__(self, some, shallow=False):
+        self.some, self.shallow = some, shallow
 
     def fields(self, node, *types):
         """The fields of a SEQUENCE, None for an OPTIONAL one that is absent, or None if it is another."""
@@ -123,10 +127,13 @@ class Module:
             (True, tagged(3, self.extensions)),
         )
 
+    def signed(self, node, content):
+        return self.fields(node, (False, lambda it: bool(content(it))), (False, self.algorithm),
+                           (False, leaf(BIT_STRING)))
+
     def certificate(self, node):
         """Where the fields stand that Certificate of the binding has, by their names; None if it is another type."""
-        found = self.fields(node, (False, lambda it: bool(self.tbs(it))), (False, self.algorithm),
-                            (False, leaf(BIT_STRING)))
+        found = self.signed(node, self.tbs)
         if not found:
             return None
         tbs, algorithm, signature = found
@@ -140,6 +147,58 @@ class Module:
             "not_after": after, "subject": subject, "subject_public_key_info": key,
             "public_key_algorithm": key_algorithm, "subject_public_key": public_key, "issuer_unique_id": issuer_id,
             "subject_unique_id": subject_id, "extensions": extensions, "signature_algorithm": algorithm,
+            "signature": signature,
+        }
+
+    def attributes(self, node):
+        """Under [0] in implicit tagging, of which the contents octets are the items."""
+        def attribute(node):
+            return bool(self.fields(node, (False, leaf(IDENTIFIER)),
+                                    (False, lambda it: self.each(it, SET, anything, True))))
+
+        items = node.items if self.shallow and node.kind == 2 and not node.tag else node.inside(0)
+        return items is not None and all(map(attribute, items))
+
+    def info(self, node):
+        return self.fields(node, (False, leaf(INTEGER)), (False, self.name), (False, lambda it: bool(self.key(it))),
+                           (False, self.attributes))
+
+    def request(self, node):
+        """Where the fields of CertificationRequest stand."""
+        found = self.signed(node, self.info)
+        if not found:
+            return None
+        info, algorithm, signature = found
+        version, subject, key, attributes = self.info(info)
+        key_algorithm, public_key = self.key(key)
+        return {
+            "certification_request": node, "certification_request_info": info, "version": version,
+            "subject": subject, "subject_public_key_info": key, "public_key_algorithm": key_algorithm,
+            "subject_public_key": public_key, "attributes": attributes, "signature_algorithm": algorithm,
+            "signature": signature,
+        }
+
+    def entry(self, node):
+        return self.fields(node, (False, leaf(INTEGER)), (False, leaf(*TIMES)), (True, self.extensions))
+
+    def tbs_list(self, node):
+        return self.fields(
+            node, (True, leaf(INTEGER)), (False, self.algorithm), (False, self.name), (False, leaf(*TIMES)),
+            (True, leaf(*TIMES)), (True, lambda it: self.each(it, SEQUENCE, lambda at: bool(self.entry(at)), False)),
+            (True, tagged(0, self.extensions)),
+        )
+
+    def revocation_list(self, node):
+        """Where the fields of RevocationList stand."""
+        found = self.signed(node, self.tbs_list)
+        if not found:
+            return None
+        tbs, algorithm, signature = found
+        version, tbs_signature, issuer, this_update, next_update, revoked, extensions = self.tbs_list(tbs)
+        return {
+            "certificate_list": node, "tbs_cert_list": tbs, "version": version, "tbs_signature": tbs_signature,
+            "issuer": issuer, "this_update": this_update, "next_update": next_update,
+            "revoked_certificates": revoked, "crl_extensions": extensions, "signature_algorithm": algorithm,
             "signature": signature,
         }
 
@@ -171,22 +230,35 @@ def bits(tag):
     return is_bits
 
 
-def wanted(octets, module):
-    """Whether it is a document, and the fields of the certificate with which it begins, if it begins with one."""
+def wanted(kind, octets, module):
+    """Whether it is a document, and the fields of what it begins with, if that is of the kind."""
     try:
         reader.Reader(octets).document()
     except reader.Fault:
         return False, None
-    return True, module.certificate(Node(octets, 0, len(octets)))
+    return True, getattr(module, kind.name)(Node(octets, 0, len(octets)))
 
 
-def read(octets):
+def read(kind, octets):
     """The records of its fields, by the library; None where they are refused."""
     from simple_asn1 import Refused, _calls
     try:
-        return _calls.certificate(octets)
+        return getattr(_calls, kind.name)(octets)
     except Refused:
         return None
+
+
+def revoked(octets, found):
+    """Whether the library steps through the revoked certificates as they stand there."""
+    from simple_asn1 import RevocationList
+    entries = found["revoked_certificates"].items if found["revoked_certificates"] else []
+    parts = [(it.items[0].contents, it.items[1].start, b"".join(at.octets[at.offset : at.end] for at in it.items[2:]))
+             for it in entries]
+    return parts == [
+        (octets[it._number.offset + it._number.header :][: it._number.contents], it._date.offset + it._date.header,
+         octets[it._date.offset + it._date.header + it._date.contents : it._end])
+        for it in RevocationList(octets).revoked_certificates
+    ]
 
 
 def signed(octets):
@@ -203,61 +275,128 @@ def is_at(record, node):
         node.offset, node.start - node.offset, node.end - node.start)
 
 
-def by_cryptography(octets):
+def by_cryptography(kind, octets):
     """Whether cryptography takes it, and why not."""
     from cryptography import x509
     try:
-        return x509.load_der_x509_certificate(octets), ""
+        return getattr(x509, f"load_der_x509_{kind.short}")(octets), ""
     except Exception as fault:  # ValueError, InvalidVersion and others of its own
         return None, str(fault).splitlines()[0]
 
 
-def has_same_values(octets, found, taken):
+def has_same_values(kind, octets, found, taken):
     """Whether cryptography has the same values of a few fields."""
     from cryptography.hazmat.primitives.serialization import Encoding
-    tbs, serial, signature = found["tbs_certificate"], found["serial_number"], found["signature"]
+    whole, content = found[kind.whole], found[kind.content]
+    numbers = {
+        "certificate": lambda: ([taken.serial_number], [found["serial_number"]]),
+        "request": lambda: ([], []),
+        "revocation_list": lambda: (
+            [it.serial_number for it in taken],
+            [it.items[0] for it in found["revoked_certificates"].items] if found["revoked_certificates"] else []),
+    }
+    theirs, ours = numbers[kind.name]()
     return (
-        taken.public_bytes(Encoding.DER) == octets[: found["certificate"].end]
-        and taken.tbs_certificate_bytes == octets[tbs.offset : tbs.end]
-        and taken.serial_number == int.from_bytes(serial.contents, "big", signed=True)
-        and taken.signature == signature.contents[1:]
+        taken.public_bytes(Encoding.DER) == octets[: whole.end]
+        and getattr(taken, kind.signed) == octets[content.offset : content.end]
+        and theirs == [int.from_bytes(it.contents, "big", signed=True) for it in ours]
+        and taken.signature == found["signature"].contents[1:]
     )
 
 
 class OpenSSL:
-    """d2i_X509 of libcrypto, which cryptography has beside it."""
+    """d2i_X509 of libcrypto and its like, which cryptography has beside it."""
 
     def __init__(self):
         self.library = ctypes.CDLL(ctypes.util.find_library("crypto") or "libcrypto.so.3")
-        self.library.d2i_X509.restype = ctypes.c_void_p
-        self.library.d2i_X509.argtypes = [ctypes.c_void_p, ctypes.POINTER(ctypes.c_char_p), ctypes.c_long]
-        self.library.X509_free.argtypes = [ctypes.c_void_p]
         self.library.ERR_clear_error.restype = None
 
-    def takes(self, octets):
-        front = ctypes.c_char_p(octets)
-        found = self.library.d2i_X509(None, ctypes.byref(front), len(octets))
-        self.library.X509_free(found)
+    def takes(self, kind, octets):
+        front, type_name = ctypes.c_char_p(octets), kind.of_openssl
+        read, free = getattr(self.library, f"d2i_{type_name}"), getattr(self.library, f"{type_name}_free")
+        read.restype = ctypes.c_void_p
+        read.argtypes = [ctypes.c_void_p, ctypes.POINTER(ctypes.c_char_p), ctypes.c_long]
+        free.argtypes = [ctypes.c_void_p]
+        found = read(None, ctypes.byref(front), len(octets))
+        free(found)
         self.library.ERR_clear_error()
         return bool(found)
+
+
+# of a type: its names in the library, in the functions of cryptography and openssl, and those of its fields
+Kind = collections.namedtuple("Kind", "name short of_openssl whole content signed")
+KINDS = [
+    Kind("certificate", "certificate", "X509", "certificate", "tbs_certificate", "tbs_certificate_bytes"),
+    Kind("request", "csr", "X509_REQ", "certification_request", "certification_request_info",
+         "tbs_certrequest_bytes"),
+    Kind("revocation_list", "crl", "X509_CRL", "certificate_list", "tbs_cert_list", "tbs_certlist_bytes"),
+]
+
+
+@functools.lru_cache(None)
+def roots_of(kind):
+    """The documents of a kind that are changed."""
+    return {"certificate": certificates, "request": requests, "revocation_list": revocation_lists}[kind.name]()
+
+
+def signer():
+    """A key whose signatures are the same in each run, and the name of who has it."""
+    from cryptography import x509
+    from cryptography.hazmat.primitives.asymmetric.ed25519 import Ed25519PrivateKey
+    from cryptography.x509.oid import NameOID
+    attributes = (NameOID.COUNTRY_NAME, "CH"), (NameOID.COMMON_NAME, "a.example")
+    return Ed25519PrivateKey.from_private_bytes(bytes(32)), x509.Name([x509.NameAttribute(*it) for it in attributes])
+
+
+def requests():
+    """Requests without attributes, with extensions, and with these and a password."""
+    from cryptography import x509
+    from cryptography.hazmat.primitives.serialization import Encoding
+    key, name = signer()
+    bare = x509.CertificateSigningRequestBuilder().subject_name(name)
+    alternative = bare.add_extension(x509.SubjectAlternativeName([x509.DNSName("b.example")]), False)
+    limited = alternative.add_extension(x509.BasicConstraints(True, 3), True)
+    both = limited.add_attribute(x509.oid.AttributeOID.CHALLENGE_PASSWORD, b"secret")
+    return [it.sign(key, None).public_bytes(Encoding.DER) for it in (bare, alternative, limited, both)]
+
+
+def revocation_lists():
+    """Lists without entries, with some, and with extensions of their own and of entries."""
+    from cryptography import x509
+    from cryptography.hazmat.primitives.serialization import Encoding
+    key, name = signer()
+    start = datetime.datetime(2026, 1, 2, 3, 4, 5)
+    bare = x509.CertificateRevocationListBuilder().issuer_name(name).last_update(start)
+    bare = bare.next_update(start.replace(year=2060))
+    entry = x509.RevokedCertificateBuilder().serial_number(3**80).revocation_date(start)
+    reason = entry.add_extension(x509.CRLReason(x509.ReasonFlags.key_compromise), False)
+    two = bare.add_revoked_certificate(entry.build()).add_revoked_certificate(reason.build())
+    numbered = two.add_extension(x509.CRLNumber(5), False)
+    return [it.sign(key, None).public_bytes(Encoding.DER) for it in (bare, two, numbered)]
 
 
 # why another takes less, or more
 NOT_DER = "it breaks rules of DER, which cryptography asks for, and openssl of some types"
 DEFAULTS = "a DEFAULT stands there, which DER forbids (X.690, 11.5)"
 VALUES = "where the modules leave a type open, as of parameters and in names, the others ask for those that they know"
-VERSION = "the version is not v1, v2 or v3"
+VERSION = "the version is none that the type has a name for"
 BEHIND = "bytes stand behind it, which the library reads as blocks, cryptography refuses and openssl leaves"
 EMPTY = "a SET or SEQUENCE without items stands where RFC 5280 has SIZE (1..MAX)"
 LATER = "a value is malformed that the others read when they are asked for it"
 UNUSED = "the bits under an implicit tag are not as DER has them (X.690, 8.6 and 11.2)"
 OWN = "openssl asks for less in what it reads at once"
+ORDER = "attributes are out of order, which an implicit tag hides where no schema is known"
+TWICE = "the algorithm of the signature stands there twice, and once as another (RFC 5280, 5.1.1.2)"
 
 # in what cryptography says
 SAID = {"EncodedDefault": DEFAULTS, "AlgorithmIdentifier::params": VALUES, "AttributeTypeValue::value": VALUES,
-        "TbsCertificate::version": VERSION, "InvalidVersion": VERSION, "is not a valid X509 version": VERSION}
+        "TbsCertificate::version": VERSION, "CertificationRequestInfo::version": VERSION,
+        "TBSCertList::version": VERSION, "InvalidVersion": VERSION, "is not a valid X509 version": VERSION,
+        "is not a valid CSR version": VERSION, "is not a valid CRL version": VERSION,
+        "InvalidSetOrdering": ORDER, "Inner and outer signature algorithms do not match": TWICE}
 # the same where more stands in an AlgorithmIdentifier, of an algorithm that has no parameters
-ALGORITHMS = 'signature_alg"] }', 'SubjectPublicKeyInfo::algorithm"] }'
+ALGORITHMS = ('signature_alg"] }', 'signature_algorithm"] }', 'TBSCertList::signature"] }',
+              'SubjectPublicKeyInfo::algorithm"] }')
 
 
 def is_der(octets):
@@ -265,19 +404,19 @@ def is_der(octets):
     return departures.departures(octets) == []
 
 
-def reason_of_less(octets, fields, said):
+def reason_of_less(kind, octets, fields, said):
     """Why cryptography, which said this, or openssl, where nothing is said, refuses what the library takes."""
     if not is_der(octets):
         return NOT_DER
-    if fields["certificate"].end < len(octets):
+    if fields[kind.whole].end < len(octets):
         return BEHIND
-    numbers = fields["issuer_unique_id"], fields["subject_unique_id"]
+    numbers = fields.get("issuer_unique_id"), fields.get("subject_unique_id")
     if not all(der.RULES[BIT_STRING](it.contents) for it in numbers if it):
         return UNUSED
     found = [reason for words, reason in SAID.items() if words in said]
     if said.endswith(ALGORITHMS) or "AlgorithmIdentifier" in said:
         found.append(VALUES)
-    if not said and not all(has_texts(fields[name]) for name in ("issuer", "subject")):
+    if not said and not all(has_texts(fields[name]) for name in ("issuer", "subject") if name in fields):
         found.append(VALUES)
     return found[0] if found else None
 
@@ -288,49 +427,54 @@ def has_texts(name):
     return all(it.items[1].kind == 0 and it.items[1].tag in TEXTS for it in attributes)
 
 
-def reason_of_more(octets, is_document):
-    """Why another takes what the library refuses: a value is at fault, or it is no certificate."""
-    try:
-        is_without_sizes = bool(Module(some=False).certificate(Node(octets, 0, len(octets))))
-    except (reader.Fault, IndexError):
-        return None
-    return (EMPTY if is_document else LATER) if is_without_sizes else None
+def reason_of_more(kind, octets, is_document):
+    """Why another takes what the library refuses: a value is at fault, or it is of another type."""
+    for module, reason in (Module(some=False), EMPTY if is_document else LATER), (Module(False, shallow=True), LATER):
+        try:
+            if getattr(module, kind.name)(Node(octets, 0, len(octets))):
+                return reason
+        except (reader.Fault, IndexError):
+            pass
+    return None
 
 
 def tried(task):
     """How often there is each answer and each reason, and what is wrong, of some mutants."""
     seed, count = task
-    source, roots, openssl = random.Random(seed), certificates(), OpenSSL()
+    source, openssl = random.Random(seed), OpenSSL()
     counted, wrong = collections.Counter(), []
     warnings.simplefilter("ignore")
     for _ in range(count):
-        octets = mutant(source, source.choice(roots))
-        for reason in judged(octets, openssl):
+        kind = source.choice(KINDS)
+        octets = mutant(source, source.choice(roots_of(kind)))
+        for reason in judged(kind, octets, openssl):
             counted[reason] += 1
             if reason.startswith("WRONG"):
                 wrong.append(f"{reason}: {octets.hex()}")
     return counted, wrong
 
 
-def judged(octets, openssl):
+def judged(kind, octets, openssl):
     """What is to be said of one mutant."""
-    is_document, found = wanted(octets, Module(some=True))
-    records = read(octets)
+    is_document, found = wanted(kind, octets, Module(some=True))
+    records = read(kind, octets)
     if (records is None) != (found is None):
-        return ["WRONG, the plain reading says " + ("no" if found is None else "yes")]
+        return [f"WRONG, {kind.name}, the plain reading says " + ("no" if found is None else "yes")]
     if found and not all(is_at(records[name], node) for name, node in found.items()):
         return ["WRONG, a field stands elsewhere"]
-    if found and signed(octets) != octets[found["tbs_certificate"].offset : found["tbs_certificate"].end]:
+    if found and signed(octets) != octets[found[kind.content].offset : found[kind.content].end]:
         return ["WRONG, other octets were signed"]
-    said = ["a certificate" if found else "none"]
-    taken, why = by_cryptography(octets)
-    if found and taken:
-        said += [] if has_same_values(octets, found, taken) else ["WRONG, cryptography has other values"]
-    for name, is_taken, words in ("cryptography", bool(taken), why), ("openssl", openssl.takes(octets), ""):
+    if found and kind.name == "revocation_list" and not revoked(octets, found):
+        return ["WRONG, other entries of a list"]
+    said = [f"a {kind.name}" if found else f"no {kind.name}"]
+    taken, why = by_cryptography(kind, octets)
+    if found and taken is not None:  # a list without entries is false
+        said += [] if has_same_values(kind, octets, found, taken) else ["WRONG, cryptography has other values"]
+    for name, is_taken, words in ("cryptography", taken is not None, why), ("openssl", openssl.takes(kind, octets), ""):
         if bool(found) and not is_taken:
-            reason = reason_of_less(octets, found, words)
+            reason = reason_of_less(kind, octets, found, words)
         elif is_taken and not found:
-            reason = reason_of_more(octets, is_document) or (OWN if name == "openssl" else None)
+            reason = reason_of_more(kind, octets, is_document) or (OWN if name == "openssl" else None)
         else:
             continue
         said.append(f"{name}: {reason}" if reason else f"WRONG, {name} says {words or 'otherwise'}, without a reason")
@@ -412,8 +556,8 @@ def main(*words):
         print(f"mutants: {line}")
     for what, times in counted.most_common():
         print(f"mutants: {times} {what}")
-    print(f"mutants: {count} changed certificates, seed {seed}, {len(wrong)} wrong")
-    return 1 if wrong or not counted["a certificate"] else 0
+    print(f"mutants: {count} changed certificates, requests and lists, seed {seed}, {len(wrong)} wrong")
+    return 1 if wrong or not all(counted[f"a {kind.name}"] for kind in KINDS) else 0
 
 
 if __name__ == "__main__":
