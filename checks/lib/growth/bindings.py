@@ -19,7 +19,7 @@ import sys
 import tempfile
 
 from bounds import PATIENCE, RUNS, SIZES, is_well
-from shapes import ALGORITHM, LIST_FRONT, REVOKED, SIGNATURE, words
+from shapes import ALGORITHM, LIST_FRONT, REVOKED, SIGNATURE, plain_words
 from x690 import Nest, encoding, header
 
 
@@ -268,7 +268,7 @@ def text_time(program, work):
     path = os.path.join(work, "words")
     with open(path, "wb") as file:
         for _ in range(TEXT_SIZE // 1_000_000):
-            file.write(words(1_000_000))
+            file.write(plain_words(1_000_000))
     with open(path, "rb") as source:
         child = subprocess.Popen([program], stdin=source, stdout=subprocess.DEVNULL)
         _, status, used = os.wait4(child.pid, 0)

@@ -330,7 +330,7 @@ def without_mark(size):
     return hex_digits(size // 2).decode().encode("utf-16-le")
 
 
-def words(size):
+def plain_words(size):
     """Text that has no document, of words that are symbols of base64, hex digits or numbers."""
     return b"A dead cafe, 48 bags of MIIB and 30 beds: face it, at 06:00 abe faded.\n" * (size // 71)
 
@@ -349,5 +349,5 @@ TEXTS = {
     "an array among words": array_among_words,
     "a commented object of PEM": commented_pem,
     "text in UTF-16 without a mark": without_mark,
-    "words without a document": words,
+    "words without a document": plain_words,
 }

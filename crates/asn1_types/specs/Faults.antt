@@ -47,12 +47,13 @@ abbrev pub optional_fault : {A : Type 0} → (A → Tree (Unit {0})) → (ℕ �
     → ℕ → Trees ℕ → Spot → Type 0
 optional_fault tree rest holder no_trees s = Seen next (rest holder no_trees) s
 optional_fault tree rest holder (more_trees b bs) s =
-    (IsNoValue tree b × Seen next (rest holder (more_trees b bs)) s) ⊎ (IsValue tree b × Seen next (rest holder bs) s)
+    (IsNoValue tree b × Seen next (rest holder (more_trees b bs)) s)
+    ⊎ (IsValue tree b × Seen next (rest holder bs) s)
 
 -- of a field with a default, and those after it: the field, where its block is the default, and else as of one that may
 -- be missing
-abbrev pub defaulted_fault : {A : Type 0} → (A → Tree (Unit {0})) → (A → Bool) → (ℕ → Trees ℕ → Spot → Type 0)
-    → ℕ → Trees ℕ → Spot → Type 0
+abbrev pub defaulted_fault : {A : Type 0} → (A → Tree (Unit {0})) → (A → Bool)
+    → (ℕ → Trees ℕ → Spot → Type 0) → ℕ → Trees ℕ → Spot → Type 0
 defaulted_fault tree is_default rest holder no_trees s = Seen next (rest holder no_trees) s
 defaulted_fault {A = A} tree is_default rest holder (more_trees b bs) s =
     (IsNoValue tree b × Seen next (rest holder (more_trees b bs)) s)

@@ -1,5 +1,5 @@
 // Fields with a default.
-ghost use Rattle.std.specs.Prelude.{◌≡◌, ◌≢◌, ℕ, Bool, true, not, IfOk, IfErr, MatchOption, MatchResult};
+ghost use Rattle.std.specs.Prelude.{◌≡◌, ◌≢◌, ℕ, Bool, true, not, IfOk, IfErr, MatchResult};
 ghost use Rattle.asn1_blocks.specs.Tree.{shapes};
 ghost use Rattle.asn1_blocks.specs.View.{views};
 ghost use Rattle.asn1_headers.specs.declared.error.ASN1EncodeErr.TheVariants.{OutOfMemory as no_memory};

@@ -173,7 +173,8 @@ pub fn read_first<T: Asn1Type + Drop>(
 ) -> Result<Option<(T, &ASN1Block, &[ASN1Block])>, AllocError>
     ensures { IfOk result (λ found. MatchOption found
         (IsAbsent T.tree (views blocks.now))
-        (λ p. (views blocks.now ≡ more_trees (view p.1.now) (views p.2.now)) × (shape (view p.1.now) ≡ T.tree p.0))) }
+        (λ p. (views blocks.now ≡ more_trees (view p.1.now) (views p.2.now))
+        × (shape (view p.1.now) ≡ T.tree p.0))) }
 {
     let Some((block, rest)) = blocks.split_first() else {
         return Ok(None);
