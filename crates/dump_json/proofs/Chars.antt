@@ -1,11 +1,12 @@
 -- Characters, and digits of numbers.
 use Rattle.std.proofs.Common.{◌≡◌, ◌≢◌, ◌≤◌, ◌<◌, ◌+◌, ◌^◌, ℕ, zero, suc, true, List, [], ◌∷◌, get_or, map, decimal, arith, inl, inr, subst, sym}
 use Rattle.std.specs.Prelude.{EachIndex}
+use Rattle.std.proofs.lemmas.Bool.{and_parts}
 use Rattle.std.proofs.lemmas.Str.{encode_ascii}
 use Rattle.std.proofs.lemmas.Fmt.{decimal_digit, decimal-digits_of}
 use Rattle.std.proofs.lemmas.Int.Digits.{all_below_base_digits_of, first_digits_of}
 use Rattle.std.specs.Int.Digits.{AllBelowBase, digits_of}
-use Rattle.std.specs.List.{AllByRecursion}
+use Rattle.std.specs.List.{AllByRecursion, list_all}
 use Rattle.der_io.specs.Escaped.{is_shown}
 use Rattle.dump_json.specs.Grammar.{AreChars, IsChar, IsDigit, IsHexDigit, IsInt, is_plain}
 use Rattle.dump_json.proofs.Texts.{AreChars-append, AreChars-one}
@@ -28,9 +29,11 @@ AreChars-plain_one b e =
     AreChars-ascii b (grind (arith, e)) (grind (arith, e)) (grind (arith, e)) (grind (arith, e))
 
 -- characters of ASCII that stand for themselves
-pub AreChars-plain : (t : List ℕ) → AllByRecursion (λ b. is_plain b ≡ true) t → AreChars t
-AreChars-plain [] h = AreChars.none
-AreChars-plain (b ∷ t) (e, h) = AreChars-append (b ∷ []) t (AreChars-plain_one b e) (AreChars-plain t h)
+pub AreChars-plain : (t : List ℕ) → list_all is_plain t ≡ true → AreChars t
+AreChars-plain [] e = AreChars.none
+AreChars-plain (b ∷ t) e =
+    let (one, more) = and_parts (is_plain b) (list_all is_plain t) e in
+    AreChars-append (b ∷ []) t (AreChars-plain_one b one) (AreChars-plain t more)
 
 pub AreChars-each : (t : List ℕ) → EachIndex t (λ k. is_plain (get_or t k 0) ≡ true) → AreChars t
 AreChars-each [] h = AreChars.none
@@ -44,6 +47,11 @@ AreChars-digit b (inl (low, high)) =
     AreChars-ascii b (omega (arith, low)) (omega (arith, high)) (omega (arith, low)) (omega (arith, high))
 AreChars-digit b (inr (low, high)) =
     AreChars-ascii b (omega (arith, low)) (omega (arith, high)) (omega (arith, low)) (omega (arith, low))
+
+-- two of them, and others
+pub AreChars-pair : (b c : ℕ) → IsHexDigit b → IsHexDigit c → (t : List ℕ) → AreChars t → AreChars (b ∷ c ∷ t)
+AreChars-pair b c d e t h =
+    AreChars-append (b ∷ []) (c ∷ t) (AreChars-digit b d) (AreChars-append (c ∷ []) t (AreChars-digit c e) h)
 
 AreDigits-below : (ds : List ℕ) → AllBelowBase 10 ds → AllByRecursion IsDigit (map (λ d. 48 + d) ds)
 AreDigits-below [] h = h

@@ -1,11 +1,12 @@
 -- What is written of a document.
-use Rattle.std.proofs.Common.{ℕ, Bool, true, false, List, ◌++◌, ap, append_assoc, codes, refl, subst, sym}
+use Rattle.std.proofs.Common.{◌≡◌, ◌∙◌, ℕ, Bool, true, false, List, ◌++◌, ap, append_assoc, codes, drop, refl, subst, sym}
 use Rattle.std.proofs.KnownBytes.{Appends-trans}
 use Rattle.std.specs.Io.KnownBytes.{Appends}
+use Rattle.std.specs.List.{list_all}
 use Rattle.std.specs.Prelude.{Option, Some}
 use Rattle.der_io.specs.Output.{IsWritten}
-use Rattle.dump_json.specs.Grammar.{AreChars, IsInt, IsMember, IsNumber, IsOpenArray, IsOpenObject, IsString, IsValue, comma_if}
-use Rattle.dump_json.specs.Lines.{AreLines, IsLine, Turns}
+use Rattle.dump_json.specs.Grammar.{AreChars, IsInt, IsMember, IsNumber, IsOpenArray, IsOpenObject, IsString, IsValue, comma_if, is_plain}
+use Rattle.dump_json.specs.Lines.{AreLines, BeginsMember, IsLine, Turns}
 use Rattle.dump_json.proofs.Chars.{AreChars-plain}
 use Rattle.dump_json.proofs.Texts.{Turns-then}
 
@@ -48,16 +49,31 @@ IsWritten-string a b c d p (t, q, h) r = (
   IsString.quoted t h,
 )
 
--- a comma, if others stand before; a name, a colon and a value
+-- the front of a member, and its value
 pub IsWritten-member :
-    (later : Bool) (a b c d e : Option (List ℕ)) → Appends a b (comma_if later) → IsWritten IsString b c →
-    Appends c d (codes ":") → IsWritten IsValue d e → IsWritten (Turns (IsOpenObject later) (IsOpenObject true)) a e
-IsWritten-member later a b c d e p (name, q, h) r (v, s, k) = (
-  comma_if later ++ (name ++ (codes ":" ++ v)),
-  Appends-trans a b e (comma_if later) (name ++ (codes ":" ++ v)) p
-      (Appends-trans b c e name (codes ":" ++ v) q (Appends-trans c d e (codes ":") v r s)),
-  λ t o. IsOpenObject.with_member later t (name ++ (codes ":" ++ v)) o (IsMember.member name v h k),
+    (later : Bool) (a b c : Option (List ℕ)) (s : List ℕ) → Appends a b s → BeginsMember later s →
+    IsWritten IsValue b c → IsWritten (Turns (IsOpenObject later) (IsOpenObject true)) a c
+IsWritten-member later a b c s p (name, e, h) (v, q, k) = (
+  s ++ v,
+  Appends-trans a b c s v p q,
+  λ t o. subst (λ z. IsOpenObject true (t ++ z))
+      (sym (ap (λ z. z ++ v) e ∙ append_assoc (comma_if later) (name ++ codes ":") v
+      ∙ ap (λ z. comma_if later ++ z) (append_assoc name (codes ":") v)))
+      (IsOpenObject.with_member later t (name ++ (codes ":" ++ v)) o (IsMember.member name v h k)),
 )
+
+-- a name of characters of ASCII that stand for themselves, between a comma and a colon
+pub BeginsMember-plain :
+    (t : List ℕ) → list_all is_plain t ≡ true → BeginsMember true (codes ",\"" ++ (t ++ codes "\":"))
+BeginsMember-plain t e = (
+  codes "\"" ++ (t ++ codes "\""),
+  ap (λ z. codes ",\"" ++ z) (sym (append_assoc t (codes "\"") (codes ":"))),
+  IsString.quoted t (AreChars-plain t e),
+)
+
+-- the same without the comma
+pub BeginsMember-first : (s : List ℕ) → BeginsMember true s → BeginsMember false (drop 1 s)
+BeginsMember-first s (name, e, h) = (name, ap (drop 1) e, h)
 
 -- the end of an object, and of its line
 pub IsWritten-end_line :
@@ -80,15 +96,13 @@ IsWritten-item later a b c p (v, q, h) = (
 )
 
 IsString-blocks : IsString (codes "\"blocks\"")
-IsString-blocks = IsString.quoted (codes "blocks")
-    (AreChars-plain (codes "blocks") (refl, (refl, (refl, (refl, (refl, (refl, tt)))))))
+IsString-blocks = IsString.quoted (codes "blocks") (AreChars-plain (codes "blocks") refl)
 
 IsString-bits : IsString (codes "\"bits\"")
-IsString-bits = IsString.quoted (codes "bits") (AreChars-plain (codes "bits") (refl, (refl, (refl, (refl, tt)))))
+IsString-bits = IsString.quoted (codes "bits") (AreChars-plain (codes "bits") refl)
 
 IsString-octets : IsString (codes "\"octets\"")
-IsString-octets = IsString.quoted (codes "octets")
-    (AreChars-plain (codes "octets") (refl, (refl, (refl, (refl, (refl, (refl, tt)))))))
+IsString-octets = IsString.quoted (codes "octets") (AreChars-plain (codes "octets") refl)
 
 -- the object of bits
 pub IsWritten-bits :
@@ -106,18 +120,6 @@ IsWritten-bits a b c d e f p (n, q, h) r (o, s, k) u = (
       (IsOpenObject.with_member false (codes "{") (codes "\"bits\":" ++ n) IsOpenObject.begin_object
       (IsMember.member (codes "\"bits\"") n IsString-bits (IsValue.number n (IsNumber.positive n h))))
       (IsMember.member (codes "\"octets\"") o IsString-octets (IsValue.string o k)))),
-)
-
--- the member of blocks
-pub IsWritten-blocks :
-    (later : Bool) (a b c d : Option (List ℕ)) → Appends a b (comma_if later) → Appends b c (codes "\"blocks\":") →
-    IsWritten IsValue c d → IsWritten (Turns (IsOpenObject later) (IsOpenObject true)) a d
-IsWritten-blocks later a b c d p q (v, r, h) = (
-  comma_if later ++ (codes "\"blocks\":" ++ v),
-  Appends-trans a b d (comma_if later) (codes "\"blocks\":" ++ v) p
-      (Appends-trans b c d (codes "\"blocks\":") v q r),
-  λ t o. IsOpenObject.with_member later t (codes "\"blocks\":" ++ v) o
-      (IsMember.member (codes "\"blocks\"") v IsString-blocks h),
 )
 
 -- an object that begins with the member of blocks

@@ -5,7 +5,7 @@ ghost use Rattle.dump_json.specs.Grammar.{IsOpenObject};
 ghost use Rattle.dump_json.specs.Lines.{AreLines, IsLine, Turns};
 
 use crate::json::Json;
-use crate::members::{Member, write_members};
+use crate::members::{Member, Name, write_members};
 use crate::piece::fault_object;
 use crate::rows::Seen;
 use crate::value::Value;
@@ -33,8 +33,8 @@ pub struct Origin<'a> {
 impl<'a> Origin<'a> {
     fn members(self) -> [Member<'a>; 2] {
         [
-            ("file", self.file.map(Value::Text)),
-            ("label", self.label.map(Value::Text)),
+            (Name::File, self.file.map(Value::Text)),
+            (Name::Label, self.label.map(Value::Text)),
         ]
     }
 }
@@ -77,7 +77,7 @@ impl Dumper<'_> {
     {
         if octets.is_empty() {
             let fault = fault_at(self.alloc, 0, &ASN1DecodeErr::EmptyBuffer)?;
-            self.write_line("fault", fault_object(self.alloc, &fault, 0)?, out)?;
+            self.write_line(Name::Fault, fault_object(self.alloc, &fault, 0)?, out)?;
             return Ok(false);
         }
         let mut seen = Seen {
@@ -91,8 +91,8 @@ impl Dumper<'_> {
             Some(fault) => Some(fault_object(self.alloc, fault, fault.offset)?),
             None => None,
         };
-        self.write_some("not_der", not_der, out)?;
-        self.write_some("fault", fault, out)?;
+        self.write_some(Name::NotDer, not_der, out)?;
+        self.write_some(Name::Fault, fault, out)?;
         Ok(is_right)
     }
 
@@ -128,14 +128,14 @@ impl Dumper<'_> {
     pub fn push_refusal<W: Write>(&self, why: &str, out: &mut W) -> Result<(), StreamFault>
         ensures { OnOk result (IsWritten IsLine (W.contents out.old) (W.contents out.new)) }
     {
-        let fault = Json::object(self.alloc, &[("text", Some(Value::Text(why)))])?;
-        self.write_line("fault", fault, out)
+        let fault = Json::object(self.alloc, &[(Name::Text, Some(Value::Text(why)))])?;
+        self.write_line(Name::Fault, fault, out)
     }
 
     // Writes the line of an object with this member, if it is there.
     fn write_some<W: Write>(
         &self,
-        name: &str,
+        name: Name,
         value: Option<Json>,
         out: &mut W,
     ) -> Result<(), StreamFault>
@@ -149,7 +149,7 @@ impl Dumper<'_> {
     }
 
     // Writes the line of an object with this member, and with where octets are from.
-    fn write_line<W: Write>(&self, name: &str, value: Json, out: &mut W) -> Result<(), StreamFault>
+    fn write_line<W: Write>(&self, name: Name, value: Json, out: &mut W) -> Result<(), StreamFault>
         ensures { OnOk result (IsWritten IsLine (W.contents out.old) (W.contents out.new)) }
     {
         write_part(out, b"{")?;

@@ -7,7 +7,7 @@ ghost use Rattle.dump_json.specs.Lines.{Turns};
 use crate::json::Json;
 use crate::labels::{name_of, shown_of};
 use crate::leaf::{tag_value, value_in};
-use crate::members::write_members;
+use crate::members::{Name, write_members};
 use crate::value::Value;
 use der_io::StreamFault;
 use dump_names::Names;
@@ -50,27 +50,30 @@ pub fn write_piece<'a, W: Write>(
     let name = name_of(alloc, names, piece, named)?;
     let shown = shown_of(alloc, piece)?;
     let members = [
-        ("offset", Some(Value::count(offset))),
-        ("header", Some(Value::count(piece.sizes().header))),
-        ("size", Some(size)),
-        ("depth", Some(Value::count(piece.place.depth))),
-        ("class", Some(class)),
-        ("constructed", Some(constructed)),
-        ("tag", Some(number)),
-        ("type", Some(type_name)),
-        ("value", Some(value)),
+        (Name::Offset, Some(Value::count(offset))),
+        (Name::Header, Some(Value::count(piece.sizes().header))),
+        (Name::Size, Some(size)),
+        (Name::Depth, Some(Value::count(piece.place.depth))),
+        (Name::Class, Some(class)),
+        (Name::Constructed, Some(constructed)),
+        (Name::Tag, Some(number)),
+        (Name::Type, Some(type_name)),
+        (Name::Value, Some(value)),
         (
-            "field",
+            Name::Field,
             named.and_then(|named| named.field).map(Value::Text),
         ),
-        ("path", path.map(Value::Text)),
-        ("of", named.map(|named| Value::Text(named.of))),
-        ("name", name),
-        ("shown", shown),
-        ("octets", octets_of(piece)),
-        ("not_der", rules),
-        ("fault", fault),
-        ("guessed", piece.is_guess().then_some(Value::Boolean(true))),
+        (Name::Path, path.map(Value::Text)),
+        (Name::Of, named.map(|named| Value::Text(named.of))),
+        (Name::Name, name),
+        (Name::Shown, shown),
+        (Name::Octets, octets_of(piece)),
+        (Name::NotDer, rules),
+        (Name::Fault, fault),
+        (
+            Name::Guessed,
+            piece.is_guess().then_some(Value::Boolean(true)),
+        ),
     ];
     write_members(&members, false, out)
 }
@@ -148,9 +151,9 @@ fn octets_of<'a>(piece: &'a Piece<'_>) -> Option<Value<'a>> {
 // The object of a fault at the offset of the document.
 pub fn fault_object(alloc: Global, fault: &Fault, offset: usize) -> Result<Json, AllocError> {
     let members = [
-        ("code", fault.code.map(Value::Text)),
-        ("offset", Some(Value::count(offset))),
-        ("text", Some(Value::Text(&fault.message))),
+        (Name::Code, fault.code.map(Value::Text)),
+        (Name::Offset, Some(Value::count(offset))),
+        (Name::Text, Some(Value::Text(&fault.message))),
     ];
     Json::object(alloc, &members)
 }
@@ -166,10 +169,10 @@ pub fn rule_object(
         None => None,
     };
     let members = [
-        ("offset", offset),
-        ("rule", Some(Value::Text(rule.name))),
-        ("section", Some(Value::Text(rule.section))),
-        ("text", Some(Value::Text(rule.text))),
+        (Name::Offset, offset),
+        (Name::Rule, Some(Value::Text(rule.name))),
+        (Name::Section, Some(Value::Text(rule.section))),
+        (Name::Text, Some(Value::Text(rule.text))),
     ];
     Json::object(alloc, &members)
 }

@@ -6,7 +6,7 @@ ghost use Rattle.dump_json.specs.Lines.{Turns};
 
 use crate::json::Json;
 use crate::line::Dumper;
-use crate::members::comma;
+use crate::members::{Name, comma};
 use crate::piece::{rule_object, write_piece};
 use der_io::{StreamFault, write_part};
 use dump_values::faults::Fault;
@@ -126,8 +126,7 @@ impl Dumper<'_> {
         };
         let before = checked_sum(piece.document_offset()?, piece.sizes().header)?;
         let inside = piece.place.inside(checked_sum(before, nested.before)?)?;
-        write_part(out, comma(is_later))?;
-        write_part(out, b"\"blocks\":")?;
+        write_part(out, Name::Blocks.begin(is_later))?;
         self.write_rows(nested.octets, inside, seen, out)?;
         write_part(out, b"}")?;
         Ok(())

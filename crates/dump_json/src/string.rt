@@ -57,11 +57,31 @@ pub fn write_hex<W: Write>(octets: &[u8], out: &mut W) -> Result<(), StreamFault
 fn write_digits<W: Write>(octets: &[u8], out: &mut W) -> Result<(), StreamFault>
     ensures { OnOk result (IsWritten AreChars (W.contents out.old) (W.contents out.new)) }
 {
-    for b in octets {
-        write_part(
-            out,
-            &[hex_digit(u32::from(b / 16)), hex_digit(u32::from(b % 16))],
-        )?;
+    let mut rest = octets;
+    while let [a, b, c, d, e, f, g, h, more @ ..] = rest {
+        let digits = [
+            high_digit(*a),
+            low_digit(*a),
+            high_digit(*b),
+            low_digit(*b),
+            high_digit(*c),
+            low_digit(*c),
+            high_digit(*d),
+            low_digit(*d),
+            high_digit(*e),
+            low_digit(*e),
+            high_digit(*f),
+            low_digit(*f),
+            high_digit(*g),
+            low_digit(*g),
+            high_digit(*h),
+            low_digit(*h),
+        ];
+        write_part(out, &digits)?;
+        rest = more;
+    }
+    for b in rest {
+        write_part(out, &[high_digit(*b), low_digit(*b)])?;
     }
     Ok(())
 }
@@ -128,6 +148,20 @@ fn write_unit<W: Write>(unit: u32, out: &mut W) -> Result<(), StreamFault>
         ],
     )?;
     Ok(())
+}
+
+// The hex digit of the four high bits of an octet.
+fn high_digit(octet: u8) -> u8
+    ensures { IsHexDigit result }
+{
+    hex_digit(u32::from(octet / 16))
+}
+
+// The hex digit of the four low bits of an octet.
+fn low_digit(octet: u8) -> u8
+    ensures { IsHexDigit result }
+{
+    hex_digit(u32::from(octet % 16))
 }
 
 fn hex_digit(n: u32) -> u8

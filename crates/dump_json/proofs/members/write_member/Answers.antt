@@ -1,7 +1,6 @@
 -- For `members::write_member`: what it returns is right.
-use Rattle.std.proofs.Common.{[], subst}
+use Rattle.std.proofs.Common.{[]}
 use Rattle.std.proofs.KnownBytes.{Appends-nil}
-use Rattle.std.specs.Io.KnownBytes.{Appends}
 use Rattle.dump_json.specs.Grammar.{IsOpenObject}
 use Rattle.dump_json.proofs.Texts.{Turns-none}
 use Rattle.dump_json.proofs.Written.{IsWritten-member}
@@ -13,6 +12,5 @@ returns-in_default g c =
 
 pub returns : goal.returns
 returns g c =
-    IsWritten-member c.args.is_later _ _ _ _ _
-    (subst (Appends _ _) c.comma.ensures c.in_ok-write_part.ensures.written)
-    c.in_ok-write_string.ensures c.in_ok-write_part-2.ensures.written c.in_ok-write_value.ensures
+    IsWritten-member c.args.is_later _ _ _ _ c.in_ok-write_part.ensures.written c.begin.ensures
+    c.in_ok-write_value.ensures

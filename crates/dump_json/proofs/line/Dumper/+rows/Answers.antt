@@ -3,7 +3,7 @@ use Rattle.std.proofs.Common.{◌∙◌, codes, subst, true}
 use Rattle.std.specs.Io.KnownBytes.{Appends}
 use Rattle.dump_walk.specs.Pieces.{Passes}
 use Rattle.dump_json.specs.Grammar.{IsOpenArray, IsOpenObject, IsValue}
-use Rattle.dump_json.proofs.Written.{IsWritten-again, IsWritten-blocks, IsWritten-item, IsWritten-then}
+use Rattle.dump_json.proofs.Written.{IsWritten-again, IsWritten-item, IsWritten-member, IsWritten-then}
 use Rattle.dump_json.proofs.line.Dumper.+rows.Goals as goal
 
 pub write_row-returns : goal.write_row-returns
@@ -18,10 +18,9 @@ write_end-returns-in_default g t c =
 pub write_end-returns : goal.write_end-returns
 write_end-returns g t c =
     IsWritten-again (IsOpenObject c.args.is_later) (IsOpenObject true) IsValue _ _ _
-    (IsWritten-blocks c.args.is_later _ _ _ _
-    (subst (Appends _ _) c.comma.ensures c.in_ok-write_part-2.ensures.written)
-    c.in_ok-write_part-3.ensures.written c.in_ok-write_rows.ensures)
-    (codes "}", c.in_ok-write_part-4.ensures.written, λ s o. IsValue.object true s o)
+    (IsWritten-member c.args.is_later _ _ _ _ c.in_ok-write_part-2.ensures.written c.begin.ensures
+    c.in_ok-write_rows.ensures)
+    (codes "}", c.in_ok-write_part-3.ensures.written, λ s o. IsValue.object true s o)
 
 pub write_rows-pieces-init : goal.write_rows-pieces-init
 write_rows-pieces-init g t c = record {
