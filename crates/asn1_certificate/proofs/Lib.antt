@@ -1,2 +1,3 @@
 mod EntryTrees
 mod Steps
+mod Iterated

@@ -2,3 +2,4 @@ pub mod Sequences
 pub mod Types
 pub mod Held
 pub mod Reading
+pub mod Items

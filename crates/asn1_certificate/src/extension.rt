@@ -1,9 +1,12 @@
 // Extensions of a certificate.
-ghost use Rattle.std.specs.Prelude.{◌≡◌, ◌<◌, ◌∷◌, [], None, Some, MatchOption, option_map};
+ghost use Rattle.std.specs.Prelude.{◌≡◌, ◌<◌, ◌∷◌, [], Bool, false, true, None, Some, IfSome, MatchOption, option_map};
+ghost use Rattle.std.specs.Iterator.{item_count};
 ghost use Rattle.asn1_outline.specs.Outlines.{octets_in};
 ghost use Rattle.asn1_outline.specs.Structure.{IsStructure, Nodes, tree_at};
 ghost use Rattle.asn1_certificate.specs.Sequences.{each, tagged as tagged_tree};
-ghost use Rattle.asn1_certificate.specs.Reading.{Tells, left, trees_at};
+ghost use Rattle.asn1_blocks.specs.declared.block.GroupKind.TheVariants.{Sequence};
+ghost use Rattle.asn1_certificate.specs.Items.{GivesFields};
+ghost use Rattle.asn1_certificate.specs.Reading.{IsGroupOf, Tells, left, trees_at};
 ghost use Rattle.asn1_certificate.specs.Types.{extension as extension_tree, is_extension, is_extensions as is_extensions_tree};
 
 use crate::fields::Fields;
@@ -11,6 +14,8 @@ use crate::kinds::{begins_with_leaf, group, sequence, tagged};
 use asn1_blocks::block::GroupKind;
 use asn1_headers::tags::{BOOLEAN, OBJECT_IDENTIFIER, OCTET_STRING};
 use asn1_outline::outline::Outline;
+use std::iter::FusedIterator;
+use std::marker::Model;
 
 /// The places of the fields of an Extension.
 #[derive(Clone, Copy, Debug)]
@@ -47,6 +52,75 @@ impl Extension {
             critical,
             extn_value,
         })
+    }
+}
+
+/// The Extensions of a certificate, of a list of revoked ones or of one of these, in order, as the fields of each.
+///
+/// ```rust
+/// use asn1_certificate::extension::Extensions;
+/// use simple_asn1::Outline;
+///
+/// // How many of the Extensions in the SEQUENCE at the index say whether they are critical.
+/// fn marked(outline: &Outline<'_>, index: usize) -> Option<usize> {
+///     let mut count = 0;
+///     for extension in Extensions::at(outline, index)? {
+///         if extension.critical.is_some() {
+///             count += 1;
+///         }
+///     }
+///     Some(count)
+/// }
+/// ```
+#[derive(Drop)]
+pub struct Extensions<'o> {
+    outline: &'o Outline<'o>,
+    items: Fields<'o>,
+}
+
+impl<'o> Model for Extensions<'o> {
+    ghost use Rattle.asn1_outline.specs.Outlines.{octets_in};
+    ghost use Rattle.asn1_certificate.specs.Items.{AreOf, Items};
+    ghost use Rattle.asn1_certificate.specs.Reading.{left};
+    ghost use Rattle.asn1_certificate.specs.Types.{is_extension};
+
+    ghost Value = { Items };
+
+    ghost view = { λ it. record { octets = octets_in it.outline.now; indices = left it.items } };
+
+    ghost invariant = { λ it. AreOf is_extension (octets_in it.outline.now) (left it.items) };
+}
+
+impl<'o> Iterator for Extensions<'o> {
+    type Item = Extension;
+
+    ghost next_gives = { GivesFields extension_tree (λ ns found. Some (tree_at ns found.extn_id)
+        ∷ option_map (tree_at ns) found.critical ∷ Some (tree_at ns found.extn_value) ∷ []) };
+
+    ghost remaining = { item_count (λ items. items.indices) };
+
+    fn next(&mut self) -> Option<Extension> {
+        let index = self.items.take()?;
+        Extension::at(self.outline, index)
+    }
+}
+
+impl<'o> FusedIterator for Extensions<'o> {}
+
+impl<'o> Extensions<'o> {
+    /// The Extensions in the SEQUENCE at the index; `None` if the block is another.
+    pub fn at(outline: &'o Outline<'o>, index: usize) -> Option<Extensions<'o>>
+        ensures octets { IfSome result (λ items. items.octets ≡ octets_in outline.now) }
+        ensures items { (ns : Nodes) → IsStructure (octets_in outline.now) ns → MatchOption result
+            (is_extensions_tree (tree_at ns index) ≡ false)
+            (λ items. (is_extensions_tree (tree_at ns index) ≡ true)
+            × IsGroupOf Sequence (trees_at ns items.indices) (tree_at ns index)) }
+    {
+        if !is_extensions(outline, index) {
+            return None;
+        }
+        let items = group(outline, index, GroupKind::Sequence)?;
+        Some(Extensions { outline, items })
     }
 }
 

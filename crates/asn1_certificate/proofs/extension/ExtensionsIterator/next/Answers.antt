@@ -1,0 +1,15 @@
+-- For `extension::ExtensionsIterator::next`: it gives the fields of the first item that is left.
+use Rattle.std.proofs.Common.{[], ◌∷◌, Some}
+use Rattle.std.specs.Prelude.{option_map}
+use Rattle.asn1_outline.specs.Structure.{tree_at}
+use Rattle.asn1_certificate.specs.Reading.{left}
+use Rattle.asn1_certificate.specs.Types.{extension}
+use Rattle.asn1_certificate.proofs.Iterated.{GivesFields-first}
+use Rattle.asn1_certificate.proofs.extension.ExtensionsIterator.next.Goals as goal
+
+pub returns-clause-steps : goal.returns-clause-steps
+returns-clause-steps c =
+    let it = c.self.inside in
+    let o = it.outline.now in
+    GivesFields-first extension _ o.octets.now o.entries.items o.document (left it.items) (left c.take.new.self)
+    c.in_ok-index.index c.in_ok-index.ensures c.self.invariant c.args.self.now c.at.result c.self.view_is c.at.ensures
