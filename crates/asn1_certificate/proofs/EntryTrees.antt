@@ -29,7 +29,7 @@ use Rattle.asn1_outline.proofs.Structures.{IsStructure-unique}
 use Rattle.asn1_outline.proofs.Values.{EntryContents-entry, IsCapped-small, IsLeafOf-entry, IsNoLeafWith-entry, SameEncoding-octets}
 use Rattle.asn1_certificate.specs.Held.{AreHeld}
 use Rattle.asn1_certificate.specs.Sequences.{Found, are_bits, are_each, each, is_bits, is_leaf, sequence, sequence_of, sequence_of_some, set_of_some, some, tagged, tagged_set_of}
-use Rattle.asn1_certificate.specs.Reading.{IsGroupOf, left, some_index, trees_at}
+use Rattle.asn1_certificate.specs.Reading.{IsGroupOf, IsTagged, left, some_index, trees_at}
 use Rattle.asn1_certificate.specs.declared.fields.Fields.{Fields}
 
 -- class Universal is not class context-specific
@@ -142,7 +142,7 @@ entry-group x r o g items e =
     (sym z.class, c.number.0 (omega (arith, small, z.tag)) ∙ sym z.tag)
 
 -- trees at indices, one map after another
-map-indices : (ns : Nodes) (items : List (ℕ × Entry)) →
+pub map-indices : (ns : Nodes) (items : List (ℕ × Entry)) →
     trees_at ns (map (λ (item : ℕ × Entry). item.0) items)
     ≡ trees_of (map (λ (item : ℕ × Entry). tree_at ns item.0) items)
 map-indices ns [] = refl
@@ -315,9 +315,9 @@ tagged-not_explicit (explicit c p m b) n is not = absurd (false≢true (sym not)
 tagged-not_explicit (unknown c k p m v) n is not = refl
 
 -- a tree in explicit tagging is of the type if what is inside is
-pub tagged-inside : (b : Tree ℕ) (o n : ℕ) (inner : Tree ℕ) (is : Tree ℕ → Bool) →
-    b ≡ explicit ContextSpecific o n inner → tagged n is b ≡ is inner
-tagged-inside b o n inner is e = ap (tagged n is) e ∙ ap (λ z. z && is inner) (eq-eqb n n refl)
+pub tagged-inside : (b : Tree ℕ) (n : ℕ) (inner : Tree ℕ) (is : Tree ℕ → Bool) → IsTagged n inner b →
+    tagged n is b ≡ is inner
+tagged-inside b n inner is (o, e) = ap (tagged n is) e ∙ ap (λ z. z && is inner) (eq-eqb n n refl)
 
 -- a tree whose encoding is primitive and of class context-specific
 is_bits-encoding : (o : ℕ) (y : List ℕ) (b : Tree ℕ) (n : ℕ) (v : List ℕ) (h : ℕ) → Encodes o y b →
@@ -403,12 +403,14 @@ pub tagged-taken : (x : List ℕ) (es : List Entry) (ns : Nodes) (k n : ℕ) →
     (old new : List ℕ) → old ≡ map (λ (item : ℕ × Entry). item.0) items → (found : Option ℕ) →
     MatchOption found ((old ≡ []) × (new ≡ [])) (λ j. old ≡ j ∷ new) →
     MatchOption found ((is : Tree ℕ → Bool) → tagged n is (tree_at ns k) ≡ false)
-    (λ j. (is : Tree ℕ → Bool) → tagged n is (tree_at ns k) ≡ is (tree_at ns j))
+    (λ j. IsTagged n (tree_at ns j) (tree_at ns k))
 tagged-taken x es ns k n lent d h (o, inner, e) items trees old new begin None (none, _) =
     absurd (some-inside x es ns k lent d items ContextSpecific o n inner h e trees (sym begin ∙ none))
-tagged-taken x es ns k n lent d h (o, inner, e) items trees old new begin (Some j) first =
-    λ is. tagged-inside (tree_at ns k) o n inner is e
-    ∙ ap is (sym (first-inside x es ns k lent d items j new ContextSpecific o n inner h e trees (sym begin ∙ first)))
+tagged-taken x es ns k n lent d h (o, inner, e) items trees old new begin (Some j) first = (
+  o,
+  e ∙ ap (explicit ContextSpecific o n)
+      (sym (first-inside x es ns k lent d items j new ContextSpecific o n inner h e trees (sym begin ∙ first))),
+)
 
 -- the tree of an entry that is not of a constructed encoding with the tag is no SET in implicit tagging
 pub tagged_set_of-other : (x : List ℕ) (b : Tree ℕ) (r : Entry) (n : ℕ) (held : Tree ℕ → Trees ℕ)

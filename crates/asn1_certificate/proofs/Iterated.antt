@@ -5,13 +5,16 @@ use Rattle.std.specs.Prelude.{MatchOption}
 use Rattle.std.proofs.Props.{props}
 use Rattle.std.proofs.lemmas.Bool.{false≢true}
 use mathlib.Core.Logic.{∥∥₁_elim}
+use Rattle.asn1_blocks.specs.declared.block.GroupKind.TheVariants.{Sequence}
 use Rattle.asn1_blocks.specs.Grammar.{IsDocument}
 use Rattle.asn1_blocks.specs.Tree.{Tree}
 use Rattle.asn1_outline.specs.Entries.{IsOutline}
 use Rattle.asn1_outline.specs.Structure.{IsStructure, Nodes, tree_at}
 use Rattle.asn1_outline.specs.declared.entry.Entry.{Entry}
 use Rattle.asn1_certificate.specs.Items.{AreOf, GivesFields, HasFields, Items}
-use Rattle.asn1_certificate.specs.Sequences.{Found, is_found}
+use Rattle.asn1_certificate.specs.Reading.{IsGroupOf, IsTagged, trees_at}
+use Rattle.asn1_certificate.specs.Sequences.{Found, is_found, tagged}
+use Rattle.asn1_certificate.proofs.EntryTrees.{tagged-inside}
 use Rattle.asn1_certificate.proofs.Steps.{each-stop}
 
 module _ {A : Type 0} (found_of : Tree ℕ → Option Found) (given : Nodes → A → Found) (octets : List ℕ) (es : List Entry)
@@ -42,3 +45,16 @@ module _ {A : Type 0} (found_of : Tree ℕ → Option Found) (given : Nodes → 
   GivesFields-first before result view fields =
       subst (λ z. GivesFields found_of given z result (record { octets = octets; indices = new })) view
       (refl, first-fields result fields)
+
+-- the items of what is in explicit tagging are those of what was given of it
+pub tagged-items : {X : Type 0} (ns : Nodes) (is : Tree ℕ → Bool) (index k n : ℕ) (indices : X → List ℕ)
+    (result : Option X) → IsTagged n (tree_at ns k) (tree_at ns index) →
+    MatchOption result (is (tree_at ns k) ≡ false)
+    (λ x. (is (tree_at ns k) ≡ true) × IsGroupOf Sequence (trees_at ns (indices x)) (tree_at ns k)) →
+    MatchOption result (tagged n is (tree_at ns index) ≡ false)
+    (λ x. (tagged n is (tree_at ns index) ≡ true) × (b : Tree ℕ) × IsTagged n b (tree_at ns index)
+    × IsGroupOf Sequence (trees_at ns (indices x)) b)
+tagged-items ns is index k n indices None tag other =
+    tagged-inside (tree_at ns index) n (tree_at ns k) is tag ∙ other
+tagged-items ns is index k n indices (Some x) tag (told, items) =
+    (tagged-inside (tree_at ns index) n (tree_at ns k) is tag ∙ told, tree_at ns k, tag, items)

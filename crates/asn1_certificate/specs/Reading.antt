@@ -1,8 +1,9 @@
--- What is left of the fields that are being read: the indices of their entries. Private contracts alone name these.
+-- What is left of the fields that are being read: the indices of their entries; and which tree holds those at indices.
 use Rattle.std.specs.Prelude.{◌≡◌, ℕ, Bool, false, true, List, [], ◌∷◌, map, Option, None, Some, IfSome}
 use Rattle.asn1_blocks.specs.declared.block.GroupKind.{GroupKind}
+use Rattle.asn1_headers.specs.declared.header.ASN1Class.TheVariants.{ContextSpecific}
 use Rattle.asn1_headers.specs.declared.tags.TheConstants.{BIT_STRING}
-use Rattle.asn1_blocks.specs.Tree.{Tree, Trees, group, trees_of}
+use Rattle.asn1_blocks.specs.Tree.{Tree, Trees, explicit, group, trees_of}
 use Rattle.asn1_outline.specs.declared.entry.Entry.{Entry}
 use Rattle.asn1_certificate.specs.declared.fields.Fields.{Fields}
 use Rattle.asn1_outline.specs.Structure.{Nodes, tree_at}
@@ -39,6 +40,10 @@ Tells ns is told ks = IfSome (first_of_indices ks) (λ k. told ≡ is (tree_at n
 -- the tree is a SEQUENCE or SET of these trees
 abbrev pub IsGroupOf : GroupKind → Trees ℕ → Tree ℕ → Type 0
 IsGroupOf kind items b = (o : ℕ) × (b ≡ group o kind items)
+
+-- the tree is the other in explicit tagging, with a tag of class context-specific
+abbrev pub IsTagged : ℕ → Tree ℕ → Tree ℕ → Type 0
+IsTagged tag inside b = (o : ℕ) × (b ≡ explicit ContextSpecific o tag inside)
 
 -- SIGNED{} (RFC 5912, 14): what is signed, which is of the type, the algorithm, and the signature
 abbrev pub signed_fields : (Tree ℕ → Bool) → Trees ℕ → Option Found

@@ -1,12 +1,13 @@
 // Extensions of a certificate.
-ghost use Rattle.std.specs.Prelude.{◌≡◌, ◌<◌, ◌∷◌, [], Bool, false, true, None, Some, IfSome, MatchOption, option_map};
+ghost use Rattle.std.specs.Prelude.{◌≡◌, ◌<◌, ◌∷◌, [], ℕ, false, true, None, Some, IfSome, MatchOption, option_map};
 ghost use Rattle.std.specs.Iterator.{item_count};
 ghost use Rattle.asn1_outline.specs.Outlines.{octets_in};
 ghost use Rattle.asn1_outline.specs.Structure.{IsStructure, Nodes, tree_at};
 ghost use Rattle.asn1_certificate.specs.Sequences.{each, tagged as tagged_tree};
+ghost use Rattle.asn1_blocks.specs.Tree.{Tree};
 ghost use Rattle.asn1_blocks.specs.declared.block.GroupKind.TheVariants.{Sequence};
 ghost use Rattle.asn1_certificate.specs.Items.{GivesFields};
-ghost use Rattle.asn1_certificate.specs.Reading.{IsGroupOf, Tells, left, trees_at};
+ghost use Rattle.asn1_certificate.specs.Reading.{IsGroupOf, IsTagged, Tells, left, trees_at};
 ghost use Rattle.asn1_certificate.specs.Types.{extension as extension_tree, is_extension, is_extensions as is_extensions_tree};
 
 use crate::fields::Fields;
@@ -121,6 +122,34 @@ impl<'o> Extensions<'o> {
         }
         let items = group(outline, index, GroupKind::Sequence)?;
         Some(Extensions { outline, items })
+    }
+
+    /// The Extensions in explicit tagging at the index, with the tag number, which in a TBSCertificate is 3 and in a
+    /// TBSCertList 0; `None` if the block is another.
+    ///
+    /// ```rust
+    /// use asn1_certificate::certificate::{Certificate, TBSCertificate};
+    /// use asn1_certificate::extension::Extensions;
+    /// use simple_asn1::Outline;
+    ///
+    /// // How many Extensions a certificate has.
+    /// fn extension_count(outline: &Outline<'_>) -> Option<usize> {
+    ///     let certificate = Certificate::at(outline, 0)?;
+    ///     let signed = TBSCertificate::at(outline, certificate.tbs_certificate)?;
+    ///     Some(Extensions::tagged(outline, signed.extensions?, 3)?.count())
+    /// }
+    /// ```
+    pub fn tagged(outline: &'o Outline<'o>, index: usize, tag: u64) -> Option<Extensions<'o>>
+        requires { tag < 64 }
+        ensures octets { IfSome result (λ items. items.octets ≡ octets_in outline.now) }
+        ensures items { (ns : Nodes) → IsStructure (octets_in outline.now) ns → MatchOption result
+            (tagged_tree tag is_extensions_tree (tree_at ns index) ≡ false)
+            (λ items. (tagged_tree tag is_extensions_tree (tree_at ns index) ≡ true)
+            × (b : Tree ℕ) × IsTagged tag b (tree_at ns index)
+            × IsGroupOf Sequence (trees_at ns items.indices) b) }
+    {
+        let inside = tagged(outline, index, tag)?;
+        Extensions::at(outline, inside)
     }
 }
 

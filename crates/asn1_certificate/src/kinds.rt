@@ -1,14 +1,14 @@
 // What a block is: a leaf, a SEQUENCE or SET, a block in explicit tagging, or bits in implicit tagging.
-ghost use Rattle.std.specs.Prelude.{◌≡◌, ◌==◌, ◌↔◌, ◌<◌, ℕ, Bool, false, true, None, Option, MatchOption, IsTrue};
+ghost use Rattle.std.specs.Prelude.{◌≡◌, ◌==◌, ◌↔◌, ◌<◌, ℕ, Bool, false, true, None, Option, IfSome, MatchOption, IsTrue};
 ghost use Rattle.asn1_blocks.specs.Contents.{group_tag, is_leaf_tag};
 ghost use Rattle.asn1_blocks.specs.Tree.{Tree, Trees};
 ghost use Rattle.asn1_headers.specs.declared.tags.TheConstants.{NULL};
 ghost use Rattle.asn1_headers.specs.declared.header.ASN1Class.TheVariants.{ContextSpecific, Universal};
 ghost use Rattle.asn1_outline.specs.Outlines.{IsBlockOf, entry_in, octets_in};
-ghost use Rattle.asn1_outline.specs.Structure.{IsStructure, Nodes, tree_at};
+ghost use Rattle.asn1_outline.specs.Structure.{IsStructure, Nodes, node_at, node_items, nodes_trees, tree_at};
 ghost use Rattle.asn1_certificate.specs.Held.{AreHeld};
 ghost use Rattle.asn1_certificate.specs.Sequences.{Found, are_bits as means_bits, each, is_bits as is_bits_tree, is_leaf as is_leaf_tree, sequence as sequence_tree, tagged as tagged_tree, tagged_set_of};
-ghost use Rattle.asn1_certificate.specs.Reading.{IsGroupOf, Tells, left, trees_at};
+ghost use Rattle.asn1_certificate.specs.Reading.{IsGroupOf, IsTagged, Tells, left, trees_at};
 
 use crate::fields::Fields;
 use asn1_blocks::block::GroupKind;
@@ -98,7 +98,7 @@ pub(crate) fn tagged(outline: &Outline<'_>, index: usize, tag: u64) -> Option<us
     requires { tag < 64 }
     ensures { (ns : Nodes) → IsStructure (octets_in outline.now) ns → MatchOption result
         ((is : Tree ℕ → Bool) → tagged_tree tag is (tree_at ns index) ≡ false)
-        (λ k. (is : Tree ℕ → Bool) → tagged_tree tag is (tree_at ns index) ≡ is (tree_at ns k)) }
+        (λ k. IsTagged tag (tree_at ns k) (tree_at ns index)) }
 {
     let block = outline.block(index)?;
     if !is_context_specific(&block, tag) {
@@ -114,7 +114,9 @@ pub(crate) fn tagged(outline: &Outline<'_>, index: usize, tag: u64) -> Option<us
 // The items of the SET in implicit tagging at the index, if its contents octets are blocks.
 pub(crate) fn tagged_set<'o>(outline: &'o Outline<'_>, index: usize, tag: u64) -> Option<Fields<'o>>
     requires { tag < 64 }
-    ensures { (ns : Nodes) (held : Tree ℕ → Trees ℕ) → IsStructure (octets_in outline.now) ns
+    ensures items { (ns : Nodes) → IsStructure (octets_in outline.now) ns → IfSome result (λ items.
+        trees_at ns (left items) ≡ nodes_trees (node_items (node_at ns index))) }
+    ensures set { (ns : Nodes) (held : Tree ℕ → Trees ℕ) → IsStructure (octets_in outline.now) ns
         → AreHeld ns held → MatchOption result
         ((is : Tree ℕ → Bool) → tagged_set_of held tag is (tree_at ns index) ≡ false)
         (λ items. (is : Tree ℕ → Bool) → tagged_set_of held tag is (tree_at ns index)

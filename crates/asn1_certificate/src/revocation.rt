@@ -1,9 +1,12 @@
 // Lists of revoked certificates.
-ghost use Rattle.std.specs.Prelude.{◌≡◌, ◌∷◌, [], None, Some, MatchOption, option_map};
+ghost use Rattle.std.specs.Prelude.{◌≡◌, ◌∷◌, [], false, true, None, Some, IfSome, MatchOption, option_map};
+ghost use Rattle.std.specs.Iterator.{item_count};
+ghost use Rattle.asn1_blocks.specs.declared.block.GroupKind.TheVariants.{Sequence};
 ghost use Rattle.asn1_outline.specs.Outlines.{octets_in};
 ghost use Rattle.asn1_outline.specs.Structure.{IsStructure, Nodes, tree_at};
 ghost use Rattle.asn1_certificate.specs.Sequences.{each, sequence_of};
-ghost use Rattle.asn1_certificate.specs.Reading.{Tells, left, trees_at};
+ghost use Rattle.asn1_certificate.specs.Items.{GivesFields};
+ghost use Rattle.asn1_certificate.specs.Reading.{IsGroupOf, Tells, left, trees_at};
 ghost use Rattle.asn1_certificate.specs.Types.{certificate_list, is_revoked_certificate, is_tbs_cert_list, revoked_certificate as revoked_certificate_tree, tbs_cert_list as tbs_cert_list_tree};
 
 use crate::algorithm::begins_with_algorithm;
@@ -16,6 +19,8 @@ use crate::validity::begins_with_time;
 use asn1_blocks::block::GroupKind;
 use asn1_headers::tags::INTEGER;
 use asn1_outline::outline::Outline;
+use std::iter::FusedIterator;
+use std::marker::Model;
 
 /// The places of the fields of a revoked certificate in a list.
 #[derive(Clone, Copy, Debug)]
@@ -52,6 +57,89 @@ impl RevokedCertificate {
             revocation_date,
             crl_entry_extensions,
         })
+    }
+}
+
+/// The revoked certificates of a list in order, as the fields of each.
+///
+/// ```rust
+/// use asn1_certificate::revocation::{CertificateList, RevokedCertificates, TBSCertList};
+/// use simple_asn1::{BigInt, Outline};
+/// use std::alloc::{AllocError, Global};
+///
+/// // Whether a list of revoked certificates has the serial number.
+/// fn is_listed(alloc: Global, outline: &Outline<'_>, number: &BigInt) -> Result<bool, AllocError> {
+///     let Some(list) = CertificateList::at(outline, 0) else {
+///         return Ok(false);
+///     };
+///     let Some(signed) = TBSCertList::at(outline, list.tbs_cert_list) else {
+///         return Ok(false);
+///     };
+///     let Some(index) = signed.revoked_certificates else {
+///         return Ok(false);
+///     };
+///     let Some(all) = RevokedCertificates::at(outline, index) else {
+///         return Ok(false);
+///     };
+///     for revoked in all {
+///         if let Some(block) = outline.block(revoked.user_certificate) {
+///             if block.integer(alloc)?.as_ref() == Some(number) {
+///                 return Ok(true);
+///             }
+///         }
+///     }
+///     Ok(false)
+/// }
+/// ```
+#[derive(Drop)]
+pub struct RevokedCertificates<'o> {
+    outline: &'o Outline<'o>,
+    items: Fields<'o>,
+}
+
+impl<'o> Model for RevokedCertificates<'o> {
+    ghost use Rattle.asn1_outline.specs.Outlines.{octets_in};
+    ghost use Rattle.asn1_certificate.specs.Items.{AreOf, Items};
+    ghost use Rattle.asn1_certificate.specs.Reading.{left};
+    ghost use Rattle.asn1_certificate.specs.Types.{is_revoked_certificate};
+
+    ghost Value = { Items };
+
+    ghost view = { λ it. record { octets = octets_in it.outline.now; indices = left it.items } };
+
+    ghost invariant = { λ it. AreOf is_revoked_certificate (octets_in it.outline.now) (left it.items) };
+}
+
+impl<'o> Iterator for RevokedCertificates<'o> {
+    type Item = RevokedCertificate;
+
+    ghost next_gives = { GivesFields revoked_certificate_tree (λ ns found. Some (tree_at ns found.user_certificate)
+        ∷ Some (tree_at ns found.revocation_date) ∷ option_map (tree_at ns) found.crl_entry_extensions ∷ []) };
+
+    ghost remaining = { item_count (λ items. items.indices) };
+
+    fn next(&mut self) -> Option<RevokedCertificate> {
+        let index = self.items.take()?;
+        RevokedCertificate::at(self.outline, index)
+    }
+}
+
+impl<'o> FusedIterator for RevokedCertificates<'o> {}
+
+impl<'o> RevokedCertificates<'o> {
+    /// The revoked certificates in the SEQUENCE at the index; `None` if the block is another.
+    pub fn at(outline: &'o Outline<'o>, index: usize) -> Option<RevokedCertificates<'o>>
+        ensures octets { IfSome result (λ items. items.octets ≡ octets_in outline.now) }
+        ensures items { (ns : Nodes) → IsStructure (octets_in outline.now) ns → MatchOption result
+            (sequence_of is_revoked_certificate (tree_at ns index) ≡ false)
+            (λ items. (sequence_of is_revoked_certificate (tree_at ns index) ≡ true)
+            × IsGroupOf Sequence (trees_at ns items.indices) (tree_at ns index)) }
+    {
+        if !is_revoked_list(outline, index) {
+            return None;
+        }
+        let items = group(outline, index, GroupKind::Sequence)?;
+        Some(RevokedCertificates { outline, items })
     }
 }
 

@@ -1,7 +1,4 @@
 -- For `extension::ExtensionsIterator::next`: it gives the fields of the first item that is left.
-use Rattle.std.proofs.Common.{[], ◌∷◌, Some}
-use Rattle.std.specs.Prelude.{option_map}
-use Rattle.asn1_outline.specs.Structure.{tree_at}
 use Rattle.asn1_certificate.specs.Reading.{left}
 use Rattle.asn1_certificate.specs.Types.{extension}
 use Rattle.asn1_certificate.proofs.Iterated.{GivesFields-first}

@@ -1,0 +1,12 @@
+-- For `attribute::AttributesIterator::next`: it gives the fields of the first item that is left.
+use Rattle.asn1_certificate.specs.Reading.{left}
+use Rattle.asn1_certificate.specs.Types.{attribute}
+use Rattle.asn1_certificate.proofs.Iterated.{GivesFields-first}
+use Rattle.asn1_certificate.proofs.attribute.AttributesIterator.next.Goals as goal
+
+pub returns-clause-steps : goal.returns-clause-steps
+returns-clause-steps c =
+    let it = c.self.inside in
+    let o = it.outline.now in
+    GivesFields-first attribute _ o.octets.now o.entries.items o.document (left it.items) (left c.take.new.self)
+    c.in_ok-index.index c.in_ok-index.ensures c.self.invariant c.args.self.now c.at.result c.self.view_is c.at.ensures
