@@ -16,13 +16,15 @@ abbrev pub AreOf : (Tree ℕ → Bool) → List ℕ → List ℕ → Type 0
 AreOf is octets ks = (ns : Nodes) → IsStructure octets ns → each is (trees_at ns ks) ≡ true
 
 -- in a document of these octets, the fields that were found of the tree at the index are those given
-abbrev pub HasFields : {A : Type 0} → (Tree ℕ → Option Found) → (Nodes → A → Found) → List ℕ → ℕ → A → Type 0
+abbrev pub HasFields : {A : Type 0} → (Tree ℕ → Option Found) → (Nodes → A → Found)
+    → List ℕ → ℕ → A → Type 0
 HasFields found_of given octets k item =
     (ns : Nodes) → IsStructure octets ns → found_of (tree_at ns k) ≡ Some (given ns item)
 
 -- a call of `next` gives the fields of the first item that is left and leaves the others, or gives `None` where none is
 -- left
-abbrev pub GivesFields : {A : Type 0} → (Tree ℕ → Option Found) → (Nodes → A → Found) → Items → Option A → Items → Type 0
+abbrev pub GivesFields : {A : Type 0} → (Tree ℕ → Option Found) → (Nodes → A → Found)
+    → Items → Option A → Items → Type 0
 GivesFields found_of given before result after =
     (after.octets ≡ before.octets)
     × MatchOption result ((before.indices ≡ []) × (after.indices ≡ []))

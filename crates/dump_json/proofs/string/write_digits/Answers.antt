@@ -12,7 +12,7 @@ loop-rest-init g c = ([], Appends-nil (g.W.Write.contents c.args.out.now), AreCh
 
 pub loop-rest-preserved : goal.loop-rest-preserved
 loop-rest-preserved g c =
-    let from_h = AreChars-pair _ _ c.high_digit-in-len8-up-7.ensures c.low_digit-in-len8-up-7.ensures [] AreChars.none in
+    let from_h = AreChars-pair _ _ c.high_digit-in-len8-up-7.ensures c.low_digit-in-len8-up-7.ensures _ AreChars.none in
     let from_g = AreChars-pair _ _ c.high_digit-in-len8-up-6.ensures c.low_digit-in-len8-up-6.ensures _ from_h in
     let from_f = AreChars-pair _ _ c.high_digit-in-len8-up-5.ensures c.low_digit-in-len8-up-5.ensures _ from_g in
     let from_e = AreChars-pair _ _ c.high_digit-in-len8-up-4.ensures c.low_digit-in-len8-up-4.ensures _ from_f in
