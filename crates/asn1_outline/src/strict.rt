@@ -61,8 +61,8 @@ fn canonical_outline<'a>(alloc: Global, octets: &'a [u8]) -> Result<Outline<'a>,
 // The most entries that are looked at. More do not fit into the processor's cache, so that octets are looked at faster.
 const MOST_ENTRIES: usize = 4096;
 
-/// Whether a document is canonical, of which these are the entries: by them, unless they are many; where these say no,
-/// by its octets; and then by its blocks.
+/// Whether a document is canonical, of which these are the entries: by them, unless they are many, and where these say
+/// no, as `check_octets` tells it.
 ///
 /// # Errors
 /// `NotCanonical` with the offset of the first top-level block that is not; `OutOfMemory`.
@@ -75,6 +75,19 @@ pub fn check_canonical(alloc: Global, octets: &[u8], entries: &[Entry]) -> Resul
     if entries.len() <= MOST_ENTRIES && are_clearly_canonical(octets, entries) {
         return Ok(());
     }
+    check_octets(alloc, octets)
+}
+
+/// Whether a document is canonical, by its octets, and where these say no, by its blocks.
+///
+/// # Errors
+/// `NotCanonical` with the offset of the first top-level block that is not, or the fault of what is no document;
+/// `OutOfMemory`.
+pub fn check_octets(alloc: Global, octets: &[u8]) -> Result<(), LocatedErr>
+    ensures canonical { OnOk result
+        ((bs : Trees ℕ) → IsDocument octets.now bs → octets.now ≡ all_canonical bs) }
+    ensures fault { IfErr result (OutOfMemoryOrAt (StrictFaultAt octets.now)) }
+{
     match are_clearly_canonical_in_place(alloc, octets) {
         Ok(true) => Ok(()),
         Ok(false) => check_blocks(alloc, octets),

@@ -10,9 +10,11 @@ ghost use Rattle.asn1_outline.specs.declared.entry.Entry.{Entry};
 ghost use Rattle.asn1_outline.specs.Listing.{AreFound, KeepsOf};
 ghost use Rattle.asn1_outline.specs.Outlines.{entries_in, octets_in};
 ghost use Rattle.asn1_outline.specs.Shapes.{HasShapes, Shapes, entries_of};
+ghost use Rattle.asn1_writing.specs.Strict.{StrictFaultAt};
 ghost use Rattle.asn1_records.specs.Answers.{IsRefusal, IsRefusedByHeader, IsRefusedStrict};
 ghost use Rattle.asn1_records.specs.Room.{IsNoMemory, OrNoMemory};
 ghost use Rattle.asn1_records.specs.Status.{status_of};
+ghost use Rattle.asn1_headers.specs.Reading.{OutOfMemoryOrAt};
 ghost use Rattle.asn1_headers.specs.declared.error.ASN1DecodeErr.TheVariants.{OutOfMemory};
 
 use crate::status::{NO_MEMORY, status_of_fault};
@@ -23,10 +25,9 @@ use asn1_outline::entry_builder::{EntryBuilder, Found};
 use asn1_outline::header_walk::{check_headers, list_headers_within};
 use asn1_outline::listing::{EntryItems, list_within};
 use asn1_outline::outline::Outline;
-use asn1_outline::strict::check_canonical;
-use asn1_writing::strict::strict_blocks;
+use asn1_outline::strict::{check_canonical, check_octets};
 use simple_asn1::{
-    ASN1DecodeErr, LocatedErr, check_document, discard, law_one_reading, rewrite_unless_canonical,
+    ASN1DecodeErr, LocatedErr, check_document, law_one_reading, rewrite_unless_canonical,
 };
 use std::alloc::Global;
 
@@ -123,7 +124,7 @@ pub fn find_records_strict(alloc: Global, octets: &[u8], room: usize) -> Result<
     }
 }
 
-// Whether a document is in canonical form, of which this was found. Without its entries it is read a second time.
+// Whether a document is in canonical form, of which this was found. Without its entries its octets are gone over.
 // Blocks are built only where a quick look does not find that it is canonical.
 fn check_strict(alloc: Global, octets: &[u8], found: &Found) -> Result<(), Fault>
     requires { (bs : Trees ℕ) × (all : List Entry) × IsDocument octets.now bs
@@ -131,30 +132,22 @@ fn check_strict(alloc: Global, octets: &[u8], found: &Found) -> Result<(), Fault
     ensures document { OnOk result ((bs : Trees ℕ) × CanonicalDocument octets.now bs) }
     ensures fault { IfErr result (λ f. OrNoMemory (IsRefusedStrict octets.now) f.status f.offset) }
 {
-    if let Found::Entries(entries) = found {
-        return match check_canonical(alloc, octets, entries) {
-            Ok(()) => Ok(()),
-            Err(located) => Err(fault_at(&located)),
-        };
-    }
-    match written_unless_canonical(alloc, octets) {
-        Ok(None) => Ok(()),
-        Ok(Some(_)) => check_blocks(alloc, octets),
-        Err(fault) => Err(fault),
+    match check_found(alloc, octets, found) {
+        Ok(()) => Ok(()),
+        Err(located) => Err(fault_at(&located)),
     }
 }
 
-// Whether the octets are a document in canonical form, by its blocks.
-fn check_blocks(alloc: Global, octets: &[u8]) -> Result<(), Fault>
-    ensures document { OnOk result ((bs : Trees ℕ) × CanonicalDocument octets.now bs) }
-    ensures fault { IfErr result (λ f. OrNoMemory (IsRefusedStrict octets.now) f.status f.offset) }
+fn check_found(alloc: Global, octets: &[u8], found: &Found) -> Result<(), LocatedErr>
+    requires { (bs : Trees ℕ) × (all : List Entry) × IsDocument octets.now bs
+        × AreEntriesOf octets.now bs all × ((room : ℕ) × AreFound room all found.now) }
+    ensures canonical { OnOk result
+        ((bs : Trees ℕ) → IsDocument octets.now bs → octets.now ≡ all_canonical bs) }
+    ensures fault { IfErr result (OutOfMemoryOrAt (StrictFaultAt octets.now)) }
 {
-    match strict_blocks(alloc, octets) {
-        Ok(blocks) => {
-            discard(blocks);
-            Ok(())
-        }
-        Err(located) => Err(fault_at(&located)),
+    match found {
+        Found::Entries(entries) => check_canonical(alloc, octets, entries),
+        Found::Count(_) => check_octets(alloc, octets),
     }
 }
 
