@@ -175,8 +175,8 @@ BY_HAND = [
           uses="cc cargo", programs="der_dump", words=("shapes",), after="libraries", is_alone=True),
     Check("growth-library", "lib/growth/library.py", "twice the size takes the library at most three times as long",
           programs="test_calls", is_alone=True),
-    Check("picture", "scripts/picture", "the picture of the README is the page that chromium shows", needs="chromium",
-          programs="der_dump"),
+    Check("picture", "scripts/picture", "the pictures of the README are a page and a terminal as chromium shows them",
+          needs="chromium", programs="der_dump"),
 ]
 
 # the Debian packages of what a check needs or uses, and what the bindings find by themselves
