@@ -43,12 +43,23 @@ has_bits text =
     && (nat_le 18 (length text)
     && (list_all is_bit (take 8 (drop 10 text)) && begins_space (drop 18 text)))
 
--- a pair of digits stands behind four digits of an offset and two spaces or more, as Wireshark prints it, or a tab, as
--- `certutil` does; there may be an indent
-abbrev pub has_short_offset : List ℕ → Bool
-has_short_offset text =
-    (begins (codes "0000  ") (without_indent text) || begins (codes "0000\t") (without_indent text))
-    && begins_space (drop 2 (without_indent (drop 4 (without_indent text))))
+-- the offset in a line: the hex digits at its front
+abbrev pub offset_of : List ℕ → List ℕ
+offset_of line = take (prefix_len is_ascii_hexdigit line) line
+
+-- the digit zero
+abbrev pub is_zero : ℕ → Bool
+is_zero b = b == 48
+
+-- a pair of digits stands behind four zeros of an offset or more and two spaces or more, as Wireshark prints it, or a
+-- tab, as `certutil` does; there may be an indent
+abbrev pub has_bare_offset : List ℕ → Bool
+has_bare_offset text =
+    let line = without_indent text in
+    let rest = drop (length (offset_of line)) line in
+    begins (codes "0000") line
+    && (list_all is_zero (offset_of line)
+    && ((begins (codes "  ") rest || begins (codes "\t") rest) && begins_space (drop 2 (without_indent rest))))
 
 -- the text comes in columns, as `xxd`, `hexdump -C`, `od -t x1`, Wireshark and `certutil` print them: an offset,
 -- digits, and maybe characters. `od` prints seven octal digits of an offset, or six hex digits
@@ -56,18 +67,14 @@ unfoldable pub has_columns : List ℕ → Bool
 has_columns text =
     begins (codes "00000000: ") text
     || (begins (codes "00000000  ") text && list_any (λ b. b == vertical_bar) text)
-    || (has_pairs (codes "0000000 ") text || (has_pairs (codes "000000 ") text || has_short_offset text))
+    || (has_pairs (codes "0000000 ") text || (has_pairs (codes "000000 ") text || has_bare_offset text))
 
 -- the text begins with an offset, and then comes in another way, as that of `hexdump`, `od` and `xxd -b`: in words
 -- whose octets are turned round, in octal digits or in bits
 abbrev pub has_other_columns : List ℕ → Bool
 has_other_columns text =
-    (begins (codes "0000000 ") text && not (has_pairs (codes "0000000 ") text))
-    || ((begins (codes "000000 ") text && not (has_pairs (codes "000000 ") text)) || has_bits text)
-
--- the offset in a line: the hex digits at its front
-abbrev pub offset_of : List ℕ → List ℕ
-offset_of line = take (prefix_len is_ascii_hexdigit line) line
+    ((begins (codes "0000000 ") text || begins (codes "000000 ") text) && not (has_columns text))
+    || has_bits text
 
 -- the digits behind an offset, up to a column of characters: this begins with two spaces where `:` ends the offset, and
 -- else with a `|`, a `>`, or three spaces behind the digits

@@ -3,7 +3,7 @@ ghost use Rattle.std.specs.Prelude.{◌≡◌, ◌++◌, ℕ, List, if◌then◌
 ghost use Rattle.std.specs.Iterator.{YieldsFirst, item_count};
 ghost use Rattle.std.specs.List.{list_all};
 ghost use Rattle.der_digits.specs.Decoded.{HasRead, IsRead};
-ghost use Rattle.der_digits.specs.Digits.{begins_prefix, begins_space, column_behind, column_of, digits_of, has_bits, has_columns, has_other_columns, has_pairs, has_short_offset, is_bit, is_separator, offset_of, without_separators};
+ghost use Rattle.der_digits.specs.Digits.{begins_prefix, begins_space, column_behind, column_of, digits_of, has_bare_offset, has_bits, has_columns, has_other_columns, has_pairs, is_bit, is_separator, is_zero, offset_of, without_separators};
 ghost use Rattle.der_digits.specs.Spelled.{IsSpelling};
 ghost use Rattle.der_digits.specs.Symbols.{symbols_left};
 ghost use Rattle.der_io.specs.Lines.{lines_of};
@@ -20,8 +20,8 @@ pub(crate) const OCTAL_OFFSET: &[u8] = b"0000000 ";
 
 const HEX_OFFSET: &[u8] = b"000000 ";
 
-// Those of Wireshark and of `certutil`, whose lines may have an indent.
-const SHORT_OFFSETS: [&[u8]; 2] = [b"0000  ", b"0000\t"];
+// How that of Wireshark and of `certutil` begins, whose lines may have an indent. Wireshark prints up to eight digits.
+const BARE_OFFSET: &[u8] = b"0000";
 
 // Where the first eight bits stand in what `xxd -b` prints.
 const BITS_START: usize = 10;
@@ -68,15 +68,14 @@ pub fn is_in_columns(text: &[u8]) -> bool
         || (text.starts_with(b"00000000  ") && text.contains(&b'|'))
         || has_pairs(OCTAL_OFFSET, text)
         || has_pairs(HEX_OFFSET, text)
-        || has_short_offset(text)
+        || has_bare_offset(text)
 }
 
 /// Whether the text comes in columns of another kind, as `hexdump` and `od` print them by default, and `xxd -b`.
 pub fn has_other_columns(text: &[u8]) -> bool
     ensures { result ≡ has_other_columns text.now }
 {
-    (text.starts_with(OCTAL_OFFSET) && !has_pairs(OCTAL_OFFSET, text))
-        || (text.starts_with(HEX_OFFSET) && !has_pairs(HEX_OFFSET, text))
+    ((text.starts_with(OCTAL_OFFSET) || text.starts_with(HEX_OFFSET)) && !is_in_columns(text))
         || has_bits(text)
 }
 
@@ -87,14 +86,25 @@ pub(crate) fn has_pairs(offset: &[u8], text: &[u8]) -> bool
     text.starts_with(offset) && begins_space(behind(2, behind(offset.len(), text)))
 }
 
-// Whether a pair of digits stands behind an offset of four digits, and two spaces or more or a tab.
-fn has_short_offset(text: &[u8]) -> bool
-    ensures { result ≡ has_short_offset text.now }
+// Whether a pair of digits stands behind an offset of four zeros or more, and two spaces or more or a tab.
+fn has_bare_offset(text: &[u8]) -> bool
+    ensures { result ≡ has_bare_offset text.now }
 {
-    let text = without_indent(text);
-    let [spaces, tab] = SHORT_OFFSETS;
-    (text.starts_with(spaces) || text.starts_with(tab))
-        && begins_space(behind(2, without_indent(behind(4, text))))
+    let line = without_indent(text);
+    if !line.starts_with(BARE_OFFSET) {
+        return false;
+    }
+    let offset = offset_of(line);
+    let rest = behind(offset.len(), line);
+    are_zeros(offset)
+        && (rest.starts_with(b"  ") || rest.starts_with(b"\t"))
+        && begins_space(behind(2, without_indent(rest)))
+}
+
+fn are_zeros(text: &[u8]) -> bool
+    ensures { result ≡ list_all is_zero text.now }
+{
+    text.iter().all(|b| *b == b'0')
 }
 
 // Whether the text comes in columns of bits, as `xxd -b` prints them.
