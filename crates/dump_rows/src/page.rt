@@ -5,7 +5,7 @@ const HEAD: &str = "<!DOCTYPE html>
 <html lang=\"en\"><head><meta charset=\"utf-8\"><title>DER</title>
 <meta name=\"viewport\" content=\"width=device-width, initial-scale=1\">
 <meta http-equiv=\"Content-Security-Policy\" content=\"default-src 'none'; style-src 'unsafe-inline';
- script-src 'sha256-B7J5tE3kdhya1P0JJapyOgrmBrc+SBtWD8pnN/TAyv0='\">
+ script-src 'sha256-SjdHepkDwr9LD925nfPYb7W2eZosz0r2zDCAb2Lfss0='\">
 <style>
 :root { color-scheme: light dark; --paper: #fff; --ink: #1c2024; --faint: #d9dde2; --pointed: #eef1f4;
  --header: #ffd479; --contents: #b9dcff; --found: #d3f0b4; --fault: #b3261e; --bar: 0px }
@@ -43,8 +43,9 @@ section { display: flex; gap: 1rem; align-items: flex-start; border-bottom: 1px 
  overflow-x: hidden; cursor: pointer }
 .ready .octets:empty { display: none }
 .octets .offsets { color: GrayText; user-select: none }
-/* of thousands of lines, those that are not in sight are not laid out */
-.many details { content-visibility: auto; contain-intrinsic-size: auto 8lh }
+/* of long lists, items that are not in sight are not laid out */
+.tree details:nth-child(n + 100) { content-visibility: auto; contain-intrinsic-size: auto 8lh }
+.tree p:nth-child(n + 100) { content-visibility: auto; contain-intrinsic-size: auto 1lh }
 /* on a phone the bytes stand below, and lines are broken */
 @media (max-width: 60rem) {
  section { display: block }
@@ -126,7 +127,6 @@ const FOOT: &str = "<script>
     }
     setEnds(doc.lines);
     if (!doc.lines.length) continue;
-    if (doc.lines.length > 2000) section.classList.add('many');
     documents.push(doc);
     doc.number = documents.length;
   }
