@@ -329,6 +329,9 @@ def keys(room):
         if name not in ("traditional", "rsa"):
             room.says(f"pkey -in {name}.key -pubout -outform DER -out {name}.pub")
             yield f"{name}.pub", {"key": [kind]}
+    room.says("dsa -in dsa.key -out plain_dsa.key")
+    size = found(r"\((\d+) bit", room.says("dsa -in plain_dsa.key -noout -text"))[0]
+    yield "plain_dsa.key", {"key": [["DSA", f"{size} bits"]]}
     room.says("rsa -in a.key -RSAPublicKey_out -out plain.pub")
     yield "plain.pub", {"key": [room.key_kind(room.says("rsa -RSAPublicKey_in -in plain.pub -noout -text"))]}
     for name, command in ("dsa", "dsaparam"), ("dh", "dhparam"):

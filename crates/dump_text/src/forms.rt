@@ -299,7 +299,7 @@ pub const NUMBER: Parts = &[("", Part::Number)];
 
 pub const TIME: Parts = &[("", Part::Time)];
 
-const END: Parts = &[("", Part::End)];
+pub const END: Parts = &[("", Part::End)];
 
 // RFC 5280, 4.1.1.2, and RFC 4055, 3.1
 pub const ALGORITHM: Parts = &[
@@ -366,7 +366,7 @@ const REVOKED: Parts = &[
 ];
 
 // RFC 2985, 5.4
-const ATTRIBUTE: Parts = &[
+pub const ATTRIBUTE: Parts = &[
     ("type", Part::Item),
     ("values.AttributeValue", Part::Characters),
     ("values.utf8String", Part::Characters),
@@ -482,7 +482,7 @@ const SERVICE: Parts = &[
 ];
 
 // RFC 5280, 4.2.1.6
-const GENERAL_NAMES: Parts = &[
+pub const GENERAL_NAMES: Parts = &[
     ("", Part::Text("")),
     ("otherName", Part::GeneralName("othername:")),
     ("otherName.type-id", Part::TypeId),

@@ -1,6 +1,9 @@
 // What accounts show of messages, of files that hold keys and certificates, and of parameters.
 
-use crate::forms::{ALGORITHM, Form, KEY, NUMBER, Part, Parts, SIGNATURE, TIME, form_in};
+use crate::forms::{
+    ALGORITHM, ATTRIBUTE, END, Form, GENERAL_NAMES, KEY, NUMBER, Part, Parts, SIGNATURE, TIME,
+    form_in,
+};
 
 // How accounts show messages of the type with this name.
 pub fn message_form(type_name: &str) -> Option<&'static Form> {
@@ -116,6 +119,31 @@ const MESSAGES: &[Form] = &[
 ];
 
 const FILES: &[Form] = &[
+    // RFC 5755, 4.1
+    Form {
+        types: &["AttributeCertificate"],
+        title: "attribute certificate",
+        rows: &[
+            ("acinfo.holder.baseCertificateID", "holder", ISSUER_SERIAL),
+            ("acinfo.holder.entityName", "holder", GENERAL_NAMES),
+            ("acinfo.issuer.issuerName", "issuer", GENERAL_NAMES),
+            ("acinfo.serialNumber", "serial number", NUMBER),
+            (
+                "acinfo.attrCertValidityPeriod.notBeforeTime",
+                "not before",
+                TIME,
+            ),
+            (
+                "acinfo.attrCertValidityPeriod.notAfterTime",
+                "not after",
+                END,
+            ),
+            ("acinfo.attributes.Attribute", "attribute", ATTRIBUTE),
+            SIGNATURE,
+        ],
+        optional: &["holder", "issuer", "attribute"],
+        signed: Some("acinfo.extensions.Extension.extnValue"),
+    },
     // RFC 7292, 4
     Form {
         types: &["PFX"],
@@ -297,6 +325,14 @@ const PARAMETERS: &[Form] = &[
         optional: &[],
         signed: None,
     },
+    // as OpenSSL writes it, in no RFC
+    Form {
+        types: &["DSAPrivateKey"],
+        title: "private key",
+        rows: &[("", "key", &[("", Part::Text("DSA")), ("p", Part::Size)])],
+        optional: &[],
+        signed: None,
+    },
     // PKCS #3, 9; RFC 3279, 2.3.2 and 2.3.3
     Form {
         types: &["DHParameter"],
@@ -454,6 +490,25 @@ pub const ENCRYPTION: Parts = &[
         Part::Amount("p ", ""),
     ),
     ("parameters.encryptionScheme.algorithm", Part::Item),
+];
+
+// RFC 5755, 4.1
+const ISSUER_SERIAL: Parts = &[
+    ("", Part::Text("")),
+    ("issuer.directoryName", Part::GeneralName("DirName:")),
+    (
+        "issuer.directoryName.Name.RelativeDistinguishedName",
+        Part::RelativeName,
+    ),
+    (
+        "issuer.directoryName.Name.RelativeDistinguishedName.AttributeTypeAndValue.type",
+        Part::AttributeType,
+    ),
+    (
+        "issuer.directoryName.Name.RelativeDistinguishedName.AttributeTypeAndValue.value",
+        Part::AttributeValue,
+    ),
+    ("serial", Part::Serial),
 ];
 
 // RFC 7292, 4.2
