@@ -16,13 +16,6 @@ from certificate import escaped
 PART = 1 << 22  # bytes of a log that one task reads
 
 
-# Of a certificate (RFC 5280, section 4.1): what comes first, and then the issuer, the end of the validity and the type
-# of the key, without a version before them and with one
-PATHS = simple_asn1.Paths(
-    (0, 0, 0), (0, 0, 2), (0, 0, 3, 1), (0, 0, 5, 0), (0, 0, 3), (0, 0, 4, 1), (0, 0, 6, 0)
-)  # fmt: skip
-
-
 def names(octets):
     """The attributes of a Name, of which it has any number: types, and texts, or octets where there is no text."""
     attributes = [attribute for names in simple_asn1.read(octets)[0] for attribute in names]
@@ -35,12 +28,10 @@ def kinds(octets):
 
 
 def facts(octets, names, kinds):
-    simple_asn1.check(octets)
-    first, *found = PATHS.values(octets)
-    issuer, until, key = found[3:] if first and first.tag_class == 2 else found[:3]
-    if not (issuer and until and key):
-        raise LookupError("it is no certificate")
-    return [("issuer", names(issuer.octets)), ("key", kinds(key.octets)), ("until", str(until.moment.year))]
+    found = simple_asn1.Certificate(octets)
+    _, until = found.validity
+    return [("issuer", names(found.issuer)), ("key", kinds(found.public_key_algorithm_identifier)),
+            ("until", str(until.year))]  # fmt: skip
 
 
 def count(path, start, end=None):
@@ -57,7 +48,7 @@ def count(path, start, end=None):
             try:
                 octets = base64.b64decode(line.rstrip(), validate=True)
                 counts.update(facts(octets, known_names, known_kinds))
-            except (ValueError, LookupError) as why:
+            except ValueError as why:
                 faults.append((number, f"{type(why).__name__}: {why}"))
     return number, counts, faults
 

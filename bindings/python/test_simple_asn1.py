@@ -218,6 +218,7 @@ class Reading(unittest.TestCase):
                          ["2026-01-02T03:04:05Z", "2056-01-02T03:04:05Z"])
         self.assertEqual(certificate.subject_public_key_info, CERTIFICATE[111:155])
         self.assertEqual(certificate.public_key_algorithm, "1.3.101.112")
+        self.assertEqual(certificate.public_key_algorithm_identifier, CERTIFICATE[113:120])
         self.assertEqual(certificate.subject_public_key, (CERTIFICATE[123:155], 256))
         self.assertEqual((certificate.issuer_unique_id, certificate.subject_unique_id), (None, None))
         self.assertEqual(
@@ -242,6 +243,7 @@ class Reading(unittest.TestCase):
         self.assertEqual((request.version, request.subject), (0, REQUEST[9:31]))
         self.assertEqual(request.subject_public_key_info, REQUEST[31:75])
         self.assertEqual(request.public_key_algorithm, "1.3.101.112")
+        self.assertEqual(request.public_key_algorithm_identifier, REQUEST[33:40])
         self.assertEqual(request.subject_public_key, (REQUEST[43:75], 256))
         self.assertEqual(
             request.attributes,

@@ -28,7 +28,8 @@ from faked import CN, O, certificate  # noqa: E402
 WORKERS = 4
 
 # lines at fault, with how the reason begins: not base64, a document cut short, and no certificate
-AT_FAULT = [(b"MAM?AgEF", "Error: "), (b"MAMCAQ==", "Refused: "), (b"BQA=", "LookupError: it is no certificate")]
+AT_FAULT = [(b"MAM?AgEF", "Error: "), (b"MAMCAQ==", "Refused: "),
+            (b"BQA=", "Refused: the first block is not a certificate, at 0")]
 
 # attributes of issuers, and what is printed of them
 HOSTILE = [

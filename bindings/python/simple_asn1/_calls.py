@@ -520,24 +520,43 @@ def signed(octets: bytes) -> List[Record]:
     return [record_of(part) for part in (answer.content, answer.algorithm, answer.signature)]
 
 
-def _fields(call: Callable[..., Any], octets: bytes) -> Dict[str, Record]:
-    """The records of fields by their names; of an absent one with zeros."""
+class Parts:
+    """The records of fields by their names, each made a `Record` when it is asked for; of an absent one with zeros."""
+
+    __slots__ = ("_memory", "_places")
+
+    def __init__(self, memory: bytes, places: Dict[str, int]) -> None:
+        self._memory, self._places = memory, places
+
+    def __getitem__(self, name: str) -> Record:
+        return made(Record, _unpacked(self._memory, self._places[name]))
+
+
+def _places_in(answer: Any) -> Dict[str, int]:
+    """Where the records of an answer stand in it, by their names."""
+    return {name: getattr(answer, name).offset for name, kind in answer._fields_ if kind is Block}
+
+
+_PLACES = {answer: _places_in(answer) for answer in (CertificateParts, RequestParts, RevocationListParts)}
+
+
+def _parts(call: Callable[..., Any], octets: bytes) -> Parts:
     answer = call(octets, len(octets))
-    if answer.status != Status.OK:
+    if answer.status != _OK:
         raise refusal(answer.status, answer.offset)
-    return {name: record_of(getattr(answer, name)) for name, kind in answer._fields_ if kind is Block}
+    return Parts(bytes(answer), _PLACES[type(answer)])
 
 
-def certificate(octets: bytes) -> Dict[str, Record]:
-    return _fields(_LIBRARY.simple_asn1_certificate, octets)
+def certificate(octets: bytes) -> Parts:
+    return _parts(_LIBRARY.simple_asn1_certificate, octets)
 
 
-def request(octets: bytes) -> Dict[str, Record]:
-    return _fields(_LIBRARY.simple_asn1_request, octets)
+def request(octets: bytes) -> Parts:
+    return _parts(_LIBRARY.simple_asn1_request, octets)
 
 
-def revocation_list(octets: bytes) -> Dict[str, Record]:
-    return _fields(_LIBRARY.simple_asn1_revocation_list, octets)
+def revocation_list(octets: bytes) -> Parts:
+    return _parts(_LIBRARY.simple_asn1_revocation_list, octets)
 
 
 def header(octets: bytes, offset: int) -> Record:

@@ -1,8 +1,8 @@
 """What the records of fields say, of a certificate, a request and a list of revoked certificates."""
-from typing import Callable, Dict, List, NamedTuple
+from typing import Callable, List, NamedTuple
 
 from . import _calls
-from ._calls import Octets, Record, made, octets_of
+from ._calls import Octets, Parts, made, octets_of
 from ._document import Bits, Block, Document, Moment, _count, _end
 from ._status import Status, refusal
 
@@ -45,7 +45,7 @@ class Fields:
     # the name of the record of the whole
     _whole = ""
 
-    def __init__(self, source: Octets, call: Callable[[bytes], Dict[str, Record]]) -> None:
+    def __init__(self, source: Octets, call: Callable[[bytes], Parts]) -> None:
         self._document = octets_of(source)
         self._parts = call(self._document)
 

@@ -57,6 +57,11 @@ class CertificationRequest(Fields):
         return self._identifier("public_key_algorithm")
 
     @property
+    def public_key_algorithm_identifier(self) -> bytes:
+        """The octets of the AlgorithmIdentifier of the public key, with its parameters."""
+        return self._octets("public_key_algorithm")
+
+    @property
     def subject_public_key(self) -> Bits:
         """The octets that hold the bits of the public key, and the number of bits."""
         return self._bits("subject_public_key")
