@@ -112,7 +112,7 @@ WHOLE = [
           "der_dump shows stored inputs, a million levels, terminals, offsets as openssl does",
           needs="cc", uses="dumpasn1 man openssl", programs="der_dump"),
     Check("fields", "lib/fields.py", "der_dump --json names each block of certificates, and its path, as RFC 5280 does",
-          programs="der_dump"),
+          programs="der_dump", after="libraries"),
     Check("accounts", "lib/accounts.py", "what der_dump --text says of certificates and messages is what openssl says",
           needs="openssl", programs="der_dump"),
     Check("arms", "lib/arms.py", "with an arm of a match left out, or a text changed, some row of der_dump fails",

@@ -1,16 +1,20 @@
 """Whether each block of each certificate has a name in JSON, and those of a Certificate the names of RFC 5280, 4.1.
 
 Of each block the path is looked at as well, down to the values of extensions: PARTS has the types of RFC 5280 and, of
-keys, of RFC 8017, A.1.1.
+keys, of RFC 8017, A.1.1. Each field of the library's call for certificates stands where der_dump has the name: this is
+NOT CHECKED without the library for C.
 
     checks/run fields [-- FOLDER]    of the certificates of this folder, /etc/ssl/certs unless given
 """
 import json
+import pathlib
 import subprocess
 import sys
 
 import builds
 from certificates import certificates
+
+sys.path.insert(0, str(pathlib.Path(__file__).resolve().parents[2] / "bindings/python"))
 
 # what a block with two around it is in a TBSCertificate: its field and its type, by its tag, or by its place
 TAGGED = {0: ("version", "Version"), 1: ("issuerUniqueID", "UniqueIdentifier"),
@@ -37,6 +41,20 @@ PARTS = {
     "SubjectPublicKeyInfo": [("algorithm", 16, "AlgorithmIdentifier"), ("subjectPublicKey", 3, {"alone": "Key"})],
     "Key": [("modulus", 2, ""), ("publicExponent", 2, "")],
     "Extension": [("extnID", 6, ""), ("critical", 1, ""), ("extnValue", 4, {"alone": None})],
+}
+
+# the fields of the library's call for certificates, with the paths that der_dump has for them
+PLACES = {
+    "certificate": "", "tbs_certificate": "tbsCertificate", "version": "tbsCertificate.version",
+    "serial_number": "tbsCertificate.serialNumber", "tbs_signature": "tbsCertificate.signature",
+    "issuer": "tbsCertificate.issuer", "not_before": "tbsCertificate.validity.notBefore",
+    "not_after": "tbsCertificate.validity.notAfter", "subject": "tbsCertificate.subject",
+    "subject_public_key_info": "tbsCertificate.subjectPublicKeyInfo",
+    "public_key_algorithm": "tbsCertificate.subjectPublicKeyInfo.algorithm",
+    "subject_public_key": "tbsCertificate.subjectPublicKeyInfo.subjectPublicKey",
+    "issuer_unique_id": "tbsCertificate.issuerUniqueID", "subject_unique_id": "tbsCertificate.subjectUniqueID",
+    "extensions": "tbsCertificate.extensions", "signature_algorithm": "signatureAlgorithm",
+    "signature": "signatureValue",
 }
 
 
@@ -110,7 +128,28 @@ def wrong_paths(blocks):
                         for block, path in found if block.get("path", "") != path]
 
 
+def library():
+    """The calls of the library; None where it is not built."""
+    try:
+        from simple_asn1 import _calls
+    except ImportError:
+        return None
+    return _calls
+
+
+def wrong_places(octets, blocks, calls):
+    """Which fields of the call stand elsewhere than the first block with their path, or stand where none has it."""
+    parts, stands = calls.certificate(octets), {}
+    for block in all_blocks(blocks):
+        stands.setdefault(block.get("path", ""), block["offset"])
+    for name, path in PLACES.items():
+        offset = parts[name].offset if parts[name].header else None
+        if offset != stands.get(path):
+            yield stands.get(path, 0), f"{name} of the call stands at {offset}"
+
+
 def main(words):
+    calls = library()
     program, found = builds.program("der_dump"), certificates(*words)
     blocks, looked_at, bad = 0, 0, 0
     for number, octets in enumerate(found):
@@ -119,10 +158,14 @@ def main(words):
         blocks += sum(1 for _ in all_blocks(document))
         count, strayed = wrong_paths(document)
         looked_at += count
-        for offset, what in [*wrong(document), *strayed]:
+        placed = wrong_places(octets, document, calls) if calls else ()
+        for offset, what in [*wrong(document), *strayed, *placed]:
             bad += 1
             print(f"fields: certificate {number}, offset {offset}: {what}")
-    print(f"fields: {len(found)} certificates, {blocks} blocks, {looked_at} paths, {bad} wrong")
+    print(f"fields: {len(found)} certificates, {blocks} blocks, {looked_at} paths, "
+          f"{len(found) * len(PLACES) if calls else 0} fields of the call, {bad} wrong")
+    if not calls:
+        print("fields: NOT CHECKED: the fields of the call, since the library for C is not built")
     return 1 if bad or not found else 0
 
 
