@@ -23,6 +23,24 @@ module _ (ns : Nodes) (is : Tree ℕ → Bool) (others : Trees ℕ → Option Fo
       ap (λ z. field is others (trees_at ns z)) e
       ∙ ap (λ z. if z then found_then (Some (tree_at ns k)) (others (trees_at ns new)) else None) (sym told)
 
+  -- a field that was taken and is of the type
+  pub field-is : (old new : List ℕ) (k : ℕ) → old ≡ k ∷ new → is (tree_at ns k) ≡ true →
+      field is others (trees_at ns old) ≡ found_then (Some (tree_at ns k)) (others (trees_at ns new))
+  field-is old new k e told =
+      ap (λ z. field is others (trees_at ns z)) e
+      ∙ ap (λ z. if z then found_then (Some (tree_at ns k)) (others (trees_at ns new)) else None) told
+
+  -- a field that was taken and is not of the type
+  pub field-other : (old new : List ℕ) (k : ℕ) → old ≡ k ∷ new → is (tree_at ns k) ≡ false →
+      field is others (trees_at ns old) ≡ None
+  field-other old new k e told =
+      ap (λ z. field is others (trees_at ns z)) e
+      ∙ ap (λ z. if z then found_then (Some (tree_at ns k)) (others (trees_at ns new)) else None) told
+
+  -- a field where none is left
+  pub field-none : (old : List ℕ) → old ≡ [] → field is others (trees_at ns old) ≡ None
+  field-none old e = ap (λ z. field is others (trees_at ns z)) e
+
   -- a field that is not there
   pub field-missing : (old : List ℕ) (told : Bool) → Tells ns is told old → told ≡ false →
       field is others (trees_at ns old) ≡ None

@@ -3,3 +3,4 @@ pub mod Types
 pub mod Held
 pub mod Reading
 pub mod Items
+pub mod Parts

@@ -45,10 +45,9 @@ IsGroupOf kind items b = (o : ℕ) × (b ≡ group o kind items)
 abbrev pub IsTagged : ℕ → Tree ℕ → Tree ℕ → Type 0
 IsTagged tag inside b = (o : ℕ) × (b ≡ explicit ContextSpecific o tag inside)
 
--- SIGNED{} (RFC 5912, 14): what is signed, which is of the type, the algorithm, and the signature
-abbrev pub signed_fields : (Tree ℕ → Bool) → Trees ℕ → Option Found
-signed_fields is =
-    field is
-    (field is_algorithm_identifier
+-- SIGNED{} (RFC 5912, 14), behind what is signed: the algorithm, and the signature
+abbrev pub signature_fields : Trees ℕ → Option Found
+signature_fields =
+    field is_algorithm_identifier
     (field (is_leaf BIT_STRING)
-    no_more))
+    no_more)

@@ -3,7 +3,7 @@ ghost use Rattle.std.specs.Prelude.{◌≡◌, ◌∷◌, [], None, Some, MatchO
 ghost use Rattle.asn1_outline.specs.Outlines.{octets_in};
 ghost use Rattle.asn1_outline.specs.Structure.{IsStructure, Nodes, tree_at};
 ghost use Rattle.asn1_certificate.specs.Reading.{Tells, left};
-ghost use Rattle.asn1_certificate.specs.Types.{algorithm_identifier as algorithm_identifier_tree, is_algorithm_identifier, subject_public_key_info as subject_public_key_info_tree, is_subject_public_key_info};
+ghost use Rattle.asn1_certificate.specs.Types.{algorithm_identifier as algorithm_identifier_tree, is_algorithm_identifier, subject_public_key_info as subject_public_key_info_tree};
 
 use crate::fields::Fields;
 use crate::kinds::{begins_with_leaf, sequence};
@@ -89,24 +89,5 @@ impl SubjectPublicKeyInfo {
             algorithm,
             subject_public_key,
         })
-    }
-}
-
-// Whether the block at the index is a SubjectPublicKeyInfo.
-fn is_key(outline: &Outline<'_>, index: usize) -> bool
-    ensures { (ns : Nodes) → IsStructure (octets_in outline.now) ns
-        → result ≡ is_subject_public_key_info (tree_at ns index) }
-{
-    SubjectPublicKeyInfo::at(outline, index).is_some()
-}
-
-// Whether the next field is a SubjectPublicKeyInfo.
-pub(crate) fn begins_with_key(outline: &Outline<'_>, fields: &Fields<'_>) -> bool
-    ensures { (ns : Nodes) → IsStructure (octets_in outline.now) ns
-        → Tells ns is_subject_public_key_info result (left fields.now) }
-{
-    match fields.first() {
-        Some(index) => is_key(outline, index),
-        None => false,
     }
 }

@@ -6,15 +6,16 @@ ghost use Rattle.asn1_outline.specs.Outlines.{octets_in};
 ghost use Rattle.asn1_outline.specs.Structure.{IsStructure, Nodes, tree_at};
 ghost use Rattle.asn1_certificate.specs.Sequences.{each, sequence_of};
 ghost use Rattle.asn1_certificate.specs.Items.{GivesFields};
+ghost use Rattle.asn1_certificate.specs.Parts.{AreListFields};
 ghost use Rattle.asn1_certificate.specs.Reading.{IsGroupOf, Tells, left, trees_at};
-ghost use Rattle.asn1_certificate.specs.Types.{certificate_list, is_revoked_certificate, is_tbs_cert_list, revoked_certificate as revoked_certificate_tree, tbs_cert_list as tbs_cert_list_tree};
+ghost use Rattle.asn1_certificate.specs.Types.{certificate_list as certificate_list_tree, is_revoked_certificate, revoked_certificate as revoked_certificate_tree, tbs_cert_list as tbs_cert_list_tree};
 
 use crate::algorithm::begins_with_algorithm;
 use crate::extension::{begins_with_extensions, begins_with_tagged};
 use crate::fields::Fields;
 use crate::kinds::{begins_with_leaf, group, sequence};
 use crate::names::begins_with_name;
-use crate::signed::signed_fields;
+use crate::signed::signature_fields;
 use crate::validity::begins_with_time;
 use asn1_blocks::block::GroupKind;
 use asn1_headers::tags::INTEGER;
@@ -249,25 +250,6 @@ impl TBSCertList {
     }
 }
 
-// Whether the block at the index is a TBSCertList.
-fn is_tbs(outline: &Outline<'_>, index: usize) -> bool
-    ensures { (ns : Nodes) → IsStructure (octets_in outline.now) ns
-        → result ≡ is_tbs_cert_list (tree_at ns index) }
-{
-    TBSCertList::at(outline, index).is_some()
-}
-
-// Whether the next field is a TBSCertList.
-fn begins_with_tbs(outline: &Outline<'_>, fields: &Fields<'_>) -> bool
-    ensures { (ns : Nodes) → IsStructure (octets_in outline.now) ns
-        → Tells ns is_tbs_cert_list result (left fields.now) }
-{
-    match fields.first() {
-        Some(index) => is_tbs(outline, index),
-        None => false,
-    }
-}
-
 /// The places of the fields of a CertificateList.
 #[derive(Clone, Copy, Debug)]
 pub struct CertificateList {
@@ -283,18 +265,63 @@ impl CertificateList {
     /// The fields of the CertificateList at the index; `None` if the block is another.
     pub fn at(outline: &Outline<'_>, index: usize) -> Option<CertificateList>
         ensures { (ns : Nodes) → IsStructure (octets_in outline.now) ns → MatchOption result
-            (certificate_list (tree_at ns index) ≡ None)
-            (λ found. certificate_list (tree_at ns index) ≡ Some
+            (certificate_list_tree (tree_at ns index) ≡ None)
+            (λ found. certificate_list_tree (tree_at ns index) ≡ Some
             (Some (tree_at ns found.tbs_cert_list) ∷ Some (tree_at ns found.signature_algorithm)
             ∷ Some (tree_at ns found.signature) ∷ [])) }
     {
-        let fields = sequence(outline, index)?;
-        let has_tbs = begins_with_tbs(outline, &fields);
-        let signed = signed_fields(outline, fields, has_tbs)?;
-        Some(CertificateList {
-            tbs_cert_list: signed.content,
-            signature_algorithm: signed.algorithm,
-            signature: signed.signature,
+        let parts = CertificateListParts::at(outline, index)?;
+        Some(parts.certificate_list)
+    }
+}
+
+/// The places of the fields of a CertificateList, and of what is signed in it: what [`CertificateList::at`] and
+/// [`TBSCertList::at`] give, in the time of the first of these.
+#[derive(Clone, Copy, Debug)]
+pub struct CertificateListParts {
+    /// The fields of the CertificateList.
+    pub certificate_list: CertificateList,
+    /// The fields of what is signed.
+    pub tbs_cert_list: TBSCertList,
+}
+
+impl CertificateListParts {
+    /// The fields of the CertificateList at the index; `None` if the block is another.
+    ///
+    /// ```rust
+    /// use asn1_certificate::revocation::CertificateListParts;
+    /// use jiff::civil::DateTime;
+    /// use simple_asn1::Outline;
+    /// use std::alloc::{AllocError, Global};
+    ///
+    /// // When a list of revoked certificates was made.
+    /// fn this_update(alloc: Global, outline: &Outline<'_>) -> Result<Option<DateTime>, AllocError> {
+    ///     let Some(parts) = CertificateListParts::at(outline, 0) else {
+    ///         return Ok(None);
+    ///     };
+    ///     match outline.block(parts.tbs_cert_list.this_update) {
+    ///         Some(block) => block.moment(alloc),
+    ///         None => Ok(None),
+    ///     }
+    /// }
+    /// ```
+    pub fn at(outline: &Outline<'_>, index: usize) -> Option<CertificateListParts>
+        ensures { (ns : Nodes) → IsStructure (octets_in outline.now) ns → MatchOption result
+            (certificate_list_tree (tree_at ns index) ≡ None)
+            (λ found. AreListFields ns index found.certificate_list found.tbs_cert_list) }
+    {
+        let mut fields = sequence(outline, index)?;
+        let content = fields.take()?;
+        let tbs_cert_list = TBSCertList::at(outline, content)?;
+        let signature = signature_fields(outline, fields)?;
+        let certificate_list = CertificateList {
+            tbs_cert_list: content,
+            signature_algorithm: signature.algorithm,
+            signature: signature.signature,
+        };
+        Some(CertificateListParts {
+            certificate_list,
+            tbs_cert_list,
         })
     }
 }

@@ -1,9 +1,8 @@
-// What is signed, with the algorithm and the signature behind it.
-ghost use Rattle.std.specs.Prelude.{◌≡◌, ◌∷◌, [], ℕ, Bool, None, Some, MatchOption};
-ghost use Rattle.asn1_blocks.specs.Tree.{Tree};
+// What stands behind what is signed: the algorithm and the signature.
+ghost use Rattle.std.specs.Prelude.{◌≡◌, ◌∷◌, [], None, Some, MatchOption};
 ghost use Rattle.asn1_outline.specs.Outlines.{octets_in};
 ghost use Rattle.asn1_outline.specs.Structure.{IsStructure, Nodes, tree_at};
-ghost use Rattle.asn1_certificate.specs.Reading.{Tells, left, signed_fields as signed_trees, trees_at};
+ghost use Rattle.asn1_certificate.specs.Reading.{left, signature_fields as signature_trees, trees_at};
 
 use crate::algorithm::begins_with_algorithm;
 use crate::fields::Fields;
@@ -11,31 +10,22 @@ use crate::kinds::begins_with_leaf;
 use asn1_headers::tags::BIT_STRING;
 use asn1_outline::outline::Outline;
 
-// The places of the fields that a Certificate, a CertificateList and a CertificationRequest have alike.
+// The places of the last fields of a Certificate, a CertificateList and a CertificationRequest, which are alike.
 #[derive(Clone, Copy)]
-pub(crate) struct Signed {
-    // What is signed.
-    pub(crate) content: usize,
+pub(crate) struct Signature {
     // An AlgorithmIdentifier.
     pub(crate) algorithm: usize,
     // A BIT STRING.
     pub(crate) signature: usize,
 }
 
-// These fields, if the first is of a type, as a test says, and if there are no others.
-pub(crate) fn signed_fields(
-    outline: &Outline<'_>,
-    mut fields: Fields<'_>,
-    fits: bool,
-) -> Option<Signed>
-    ensures { (ns : Nodes) (is : Tree ℕ → Bool) → IsStructure (octets_in outline.now) ns
-        → Tells ns is fits (left fields.entry) → MatchOption result
-        (signed_trees is (trees_at ns (left fields.entry)) ≡ None)
-        (λ found. signed_trees is (trees_at ns (left fields.entry)) ≡ Some
-        (Some (tree_at ns found.content) ∷ Some (tree_at ns found.algorithm)
-        ∷ Some (tree_at ns found.signature) ∷ [])) }
+// These fields, if there are no others.
+pub(crate) fn signature_fields(outline: &Outline<'_>, mut fields: Fields<'_>) -> Option<Signature>
+    ensures { (ns : Nodes) → IsStructure (octets_in outline.now) ns → MatchOption result
+        (signature_trees (trees_at ns (left fields.entry)) ≡ None)
+        (λ found. signature_trees (trees_at ns (left fields.entry)) ≡ Some
+        (Some (tree_at ns found.algorithm) ∷ Some (tree_at ns found.signature) ∷ [])) }
 {
-    let content = fields.take_if(fits)?;
     let has_algorithm = begins_with_algorithm(outline, &fields);
     let algorithm = fields.take_if(has_algorithm)?;
     let has_signature = begins_with_leaf(outline, &fields, BIT_STRING);
@@ -43,8 +33,7 @@ pub(crate) fn signed_fields(
     if fields.is_some() {
         return None;
     }
-    Some(Signed {
-        content,
+    Some(Signature {
         algorithm,
         signature,
     })

@@ -3,7 +3,7 @@ ghost use Rattle.std.specs.Prelude.{◌≡◌, ◌∷◌, [], None, Some, MatchO
 ghost use Rattle.asn1_outline.specs.Outlines.{octets_in};
 ghost use Rattle.asn1_outline.specs.Structure.{IsStructure, Nodes, tree_at};
 ghost use Rattle.asn1_certificate.specs.Reading.{Tells, left};
-ghost use Rattle.asn1_certificate.specs.Types.{is_time as is_time_tree, is_validity, validity as validity_tree};
+ghost use Rattle.asn1_certificate.specs.Types.{is_time as is_time_tree, validity as validity_tree};
 
 use crate::fields::Fields;
 use crate::kinds::{is_leaf, sequence};
@@ -59,24 +59,6 @@ pub(crate) fn begins_with_time(outline: &Outline<'_>, fields: &Fields<'_>) -> bo
 {
     match fields.first() {
         Some(index) => is_time(outline, index),
-        None => false,
-    }
-}
-
-// Whether the block at the index is a Validity.
-fn is_period(outline: &Outline<'_>, index: usize) -> bool
-    ensures { (ns : Nodes) → IsStructure (octets_in outline.now) ns → result ≡ is_validity (tree_at ns index) }
-{
-    Validity::at(outline, index).is_some()
-}
-
-// Whether the next field is a Validity.
-pub(crate) fn begins_with_validity(outline: &Outline<'_>, fields: &Fields<'_>) -> bool
-    ensures { (ns : Nodes) → IsStructure (octets_in outline.now) ns
-        → Tells ns is_validity result (left fields.now) }
-{
-    match fields.first() {
-        Some(index) => is_period(outline, index),
         None => false,
     }
 }

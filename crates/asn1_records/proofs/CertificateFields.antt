@@ -6,19 +6,20 @@ use Rattle.asn1_outline.specs.Entries.{IsOutline}
 use Rattle.asn1_outline.specs.declared.entry.Entry.{Entry}
 use Rattle.simple_asn1.specs.Structure.{IsStructure, Nodes, tree_at}
 use Rattle.simple_asn1.specs.Tree.{Tree, Trees}
+use Rattle.asn1_certificate.specs.Parts.{AreFields}
 use Rattle.asn1_certificate.specs.Sequences.{Found, field, is_bits, is_found, is_leaf, no_more, optional, tagged}
 use Rattle.asn1_certificate.specs.Types.{certificate, is_algorithm_identifier, is_extensions, is_name, is_subject_public_key_info, is_tbs_certificate, is_time, is_validity, tbs_certificate, validity}
 use Rattle.asn1_certificate.specs.declared.certificate.Certificate.{Certificate}
 use Rattle.asn1_certificate.specs.declared.certificate.TBSCertificate.{TBSCertificate}
-use Rattle.asn1_records.specs.Certificates.{AreFields, IsCertificate}
+use Rattle.asn1_certificate.specs.declared.certificate.CertificateParts.{CertificateParts}
+use Rattle.asn1_records.specs.Certificates.{IsCertificate}
 use Rattle.asn1_records.specs.Inner.CertificateRecords.{records_in}
 use Rattle.asn1_records.specs.Records.{AreRecords, block_of}
-use Rattle.asn1_records.specs.declared.certificate.Places.{Places}
 use Rattle.asn1_records.proofs.Entries.{AreRecords-outline}
 use Rattle.asn1_records.proofs.FoundFields.{IsRecordAt-typed, IsRecordIfAny-typed, KeyTypes-found, SignedTypes, SignedTypes-found, field-typed, optional-typed, sequence-items}
 
 -- the types of the trees at these places
-pub CertificateTypes-places : (ns : Nodes) (c : Certificate) → certificate (tree_at ns 0) ≡ Some
+CertificateTypes-places : (ns : Nodes) (c : Certificate) → certificate (tree_at ns 0) ≡ Some
     (Some (tree_at ns c.tbs_certificate) ∷ Some (tree_at ns c.signature_algorithm) ∷ Some (tree_at ns c.signature) ∷ [])
     → SignedTypes is_tbs_certificate (tree_at ns c.tbs_certificate) (tree_at ns c.signature_algorithm)
     (tree_at ns c.signature)
@@ -27,7 +28,7 @@ CertificateTypes-places ns c e =
     (tree_at ns c.signature_algorithm) (tree_at ns c.signature) e
 
 -- the types of the fields of what is signed
-pub record TBSTypes (v : Option (Tree ℕ)) (n a i y s k : Tree ℕ) (iu su e : Option (Tree ℕ)) : Type 0 where
+record TBSTypes (v : Option (Tree ℕ)) (n a i y s k : Tree ℕ) (iu su e : Option (Tree ℕ)) : Type 0 where
   pub version : IfSome v (λ b. tagged 0 (is_leaf INTEGER) b ≡ true)
   pub number : is_leaf INTEGER n ≡ true
   pub algorithm : is_algorithm_identifier a ≡ true
@@ -78,7 +79,7 @@ TBSTypes-found whole v n a i y s k iu su x e =
     }
 
 -- the types of the trees at these places
-pub TBSTypes-places : (ns : Nodes) (place : ℕ) (t : TBSCertificate) → tbs_certificate (tree_at ns place) ≡ Some
+TBSTypes-places : (ns : Nodes) (place : ℕ) (t : TBSCertificate) → tbs_certificate (tree_at ns place) ≡ Some
     (option_map (tree_at ns) t.version ∷ Some (tree_at ns t.serial_number) ∷ Some (tree_at ns t.signature)
     ∷ Some (tree_at ns t.issuer) ∷ Some (tree_at ns t.validity) ∷ Some (tree_at ns t.subject)
     ∷ Some (tree_at ns t.subject_public_key_info) ∷ option_map (tree_at ns) t.issuer_unique_id
@@ -105,21 +106,22 @@ ValidityTypes-found whole b c e =
 
 module _ (x : List ℕ) (ns : Nodes) (es : List Entry) (are : AreRecords x ns (map block_of es)) where
   -- the records of the fields of a certificate
-  IsCertificate-records : (p : Places) → IsStructure x ns → AreFields ns p.certificate p.tbs p.validity p.key →
+  IsCertificate-records : (p : CertificateParts) → IsStructure x ns →
+      AreFields ns 0 p.certificate p.tbs_certificate p.validity p.subject_public_key_info →
       IsCertificate x (records_in es p)
   IsCertificate-records p d f =
       let typed = IsRecordAt-typed x ns es are in
       let typed_if_any = IsRecordIfAny-typed x ns es are in
       let c = p.certificate in
-      let t = p.tbs in
+      let t = p.tbs_certificate in
       let v = p.validity in
-      let k = p.key in
+      let k = p.subject_public_key_info in
       let of_c = CertificateTypes-places ns c f.of_certificate in
-      let of_t = TBSTypes-places ns c.tbs_certificate t f.of_tbs_certificate in
+      let of_t = TBSTypes-places ns c.tbs_certificate t f.signed.of_tbs_certificate in
       let (before, after) = ValidityTypes-found (tree_at ns t.validity) (tree_at ns v.not_before)
-      (tree_at ns v.not_after) f.of_validity in
+      (tree_at ns v.not_after) f.signed.of_validity in
       let (algorithm, key) = KeyTypes-found (tree_at ns t.subject_public_key_info) (tree_at ns k.algorithm)
-      (tree_at ns k.subject_public_key) f.of_key in
+      (tree_at ns k.subject_public_key) f.signed.of_key in
       record {
         ns = ns;
         structure = d;
@@ -148,8 +150,9 @@ module _ (x : List ℕ) (ns : Nodes) (es : List Entry) (are : AreRecords x ns (m
       }
 
 -- the records of the fields of a certificate that a document begins with
-pub IsCertificate-found : (x : List ℕ) (es : List Entry) (p : Places) → IsOutline x es →
-    ((ns : Nodes) → IsStructure x ns → AreFields ns p.certificate p.tbs p.validity p.key) →
+pub IsCertificate-found : (x : List ℕ) (es : List Entry) (p : CertificateParts) → IsOutline x es →
+    ((ns : Nodes) → IsStructure x ns →
+    AreFields ns 0 p.certificate p.tbs_certificate p.validity p.subject_public_key_info) →
     IsCertificate x (records_in es p)
 IsCertificate-found x es p o found =
     let (ns, d, are) = AreRecords-outline x es o in

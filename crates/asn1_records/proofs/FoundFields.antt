@@ -9,8 +9,8 @@ use Rattle.asn1_blocks.specs.declared.block.GroupKind.TheVariants.{Sequence, Set
 use Rattle.asn1_outline.specs.declared.entry.Entry.{Entry}
 use Rattle.simple_asn1.specs.Structure.{Nodes, no_node, no_tree, node_tree, nodes_in_order, tree_at}
 use Rattle.simple_asn1.specs.Tree.{Tree, Trees, explicit, group, leaf, more_trees, no_trees, unknown}
-use Rattle.asn1_certificate.specs.Reading.{signed_fields}
-use Rattle.asn1_certificate.specs.Sequences.{Found, field, found_then, is_found, is_leaf, no_more, optional, sequence}
+use Rattle.asn1_certificate.specs.Reading.{signature_fields}
+use Rattle.asn1_certificate.specs.Sequences.{Found, field, found_then, is_leaf, no_more, optional, sequence}
 use Rattle.asn1_certificate.specs.Types.{is_algorithm_identifier, subject_public_key_info}
 use Rattle.asn1_records.specs.Fields.{IsRecordIfAny}
 use Rattle.asn1_records.specs.Inner.FieldRecords.{record_if_any, record_in}
@@ -90,7 +90,7 @@ pub record SignedTypes (is : Tree ℕ → Bool) (b a s : Tree ℕ) : Type 0 wher
   pub signature : is_leaf BIT_STRING s ≡ true
 
 pub SignedTypes-found : (is : Tree ℕ → Bool) (whole b a s : Tree ℕ) →
-    sequence (signed_fields is) whole ≡ Some (Some b ∷ Some a ∷ Some s ∷ []) →
+    sequence (field is signature_fields) whole ≡ Some (Some b ∷ Some a ∷ Some s ∷ []) →
     SignedTypes is b a s
 SignedTypes-found is whole b a s e =
     let from_2 : Trees ℕ → Option Found = field (is_leaf BIT_STRING) no_more in
@@ -110,13 +110,6 @@ KeyTypes-found whole b c e =
     let (t0, cs1, e1) = field-typed is_algorithm_identifier from_1 cs b _ e0 in
     let (t1, cs2, e2) = field-typed (is_leaf BIT_STRING) no_more cs1 c _ e1 in
     (t0, t1)
-
--- a type of which no fields were found is not that of the tree
-pub typed-found : (o : Option Found) → is_found o ≡ true → o ≡ None → ⊥
-typed-found None t e = false≢true t
-typed-found (Some ys) t e =
-    let none : Some ys ≡ None = e in
-    absurd (cc)
 
 -- the record of the entry at an index is that in the list of records
 record_in-map : (es : List Entry) (k : ℕ) → record_in es k ≡ get_or (map block_of es) k no_record

@@ -6,18 +6,19 @@ use Rattle.asn1_outline.specs.Entries.{IsOutline}
 use Rattle.asn1_outline.specs.declared.entry.Entry.{Entry}
 use Rattle.simple_asn1.specs.Structure.{IsStructure, Nodes, tree_at}
 use Rattle.simple_asn1.specs.Tree.{Tree, Trees}
+use Rattle.asn1_certificate.specs.Parts.{AreListFields}
 use Rattle.asn1_certificate.specs.Sequences.{Found, field, is_found, is_leaf, no_more, optional, sequence_of, tagged}
 use Rattle.asn1_certificate.specs.Types.{certificate_list, is_algorithm_identifier, is_extensions, is_name, is_revoked_certificate, is_tbs_cert_list, is_time, tbs_cert_list}
 use Rattle.asn1_certificate.specs.declared.revocation.CertificateList.{CertificateList}
+use Rattle.asn1_certificate.specs.declared.revocation.CertificateListParts.{CertificateListParts}
 use Rattle.asn1_records.specs.Inner.ListRecords.{records_in}
 use Rattle.asn1_records.specs.Records.{AreRecords, block_of}
-use Rattle.asn1_records.specs.RevocationLists.{AreListFields, IsRevocationList}
-use Rattle.asn1_records.specs.declared.revocation_list.Places.{Places}
+use Rattle.asn1_records.specs.RevocationLists.{IsRevocationList}
 use Rattle.asn1_records.proofs.Entries.{AreRecords-outline}
 use Rattle.asn1_records.proofs.FoundFields.{IsRecordAt-typed, IsRecordIfAny-typed, SignedTypes, SignedTypes-found, field-typed, optional-typed, sequence-items}
 
 -- the types of the trees at these places
-pub ListTypes-places : (ns : Nodes) (l : CertificateList) → certificate_list (tree_at ns 0) ≡ Some
+ListTypes-places : (ns : Nodes) (l : CertificateList) → certificate_list (tree_at ns 0) ≡ Some
     (Some (tree_at ns l.tbs_cert_list) ∷ Some (tree_at ns l.signature_algorithm) ∷ Some (tree_at ns l.signature) ∷ [])
     → SignedTypes is_tbs_cert_list (tree_at ns l.tbs_cert_list) (tree_at ns l.signature_algorithm)
     (tree_at ns l.signature)
@@ -65,13 +66,14 @@ TBSListTypes-found whole v a i u n r x e =
 
 module _ (x : List ℕ) (ns : Nodes) (es : List Entry) (are : AreRecords x ns (map block_of es)) where
   -- the records of the fields of a list of revoked certificates
-  IsRevocationList-records : (p : Places) → IsStructure x ns → AreListFields ns p.list p.tbs →
+  IsRevocationList-records : (p : CertificateListParts) → IsStructure x ns →
+      AreListFields ns 0 p.certificate_list p.tbs_cert_list →
       IsRevocationList x (records_in es p)
   IsRevocationList-records p d f =
       let typed = IsRecordAt-typed x ns es are in
       let typed_if_any = IsRecordIfAny-typed x ns es are in
-      let l = p.list in
-      let t = p.tbs in
+      let l = p.certificate_list in
+      let t = p.tbs_cert_list in
       let of_l = ListTypes-places ns l f.of_list in
       let of_t = TBSListTypes-found (tree_at ns l.tbs_cert_list) (option_map (tree_at ns) t.version)
       (tree_at ns t.signature) (tree_at ns t.issuer) (tree_at ns t.this_update)
@@ -98,8 +100,8 @@ module _ (x : List ℕ) (ns : Nodes) (es : List Entry) (are : AreRecords x ns (m
       }
 
 -- the records of the fields of a list of revoked certificates that a document begins with
-pub IsRevocationList-found : (x : List ℕ) (es : List Entry) (p : Places) → IsOutline x es →
-    ((ns : Nodes) → IsStructure x ns → AreListFields ns p.list p.tbs) →
+pub IsRevocationList-found : (x : List ℕ) (es : List Entry) (p : CertificateListParts) → IsOutline x es →
+    ((ns : Nodes) → IsStructure x ns → AreListFields ns 0 p.certificate_list p.tbs_cert_list) →
     IsRevocationList x (records_in es p)
 IsRevocationList-found x es p o found =
     let (ns, d, are) = AreRecords-outline x es o in

@@ -6,20 +6,21 @@ use Rattle.asn1_outline.specs.declared.entry.Entry.{Entry}
 use Rattle.simple_asn1.specs.Structure.{IsStructure, Nodes, tree_at}
 use Rattle.simple_asn1.specs.Tree.{Tree, Trees}
 use Rattle.asn1_certificate.specs.Held.{AreHeld}
+use Rattle.asn1_certificate.specs.Parts.{AreRequestFields}
 use Rattle.asn1_certificate.specs.Sequences.{Found, field, is_found, is_leaf, no_more}
 use Rattle.asn1_certificate.specs.Types.{certification_request, certification_request_info, is_algorithm_identifier, is_certification_request_info, is_name, is_subject_public_key_info, tagged_attributes}
 use Rattle.asn1_certificate.specs.declared.request.CertificationRequest.{CertificationRequest}
 use Rattle.asn1_certificate.specs.declared.request.CertificationRequestInfo.{CertificationRequestInfo}
+use Rattle.asn1_certificate.specs.declared.request.CertificationRequestParts.{CertificationRequestParts}
 use Rattle.asn1_records.specs.Inner.RequestRecords.{records_in}
 use Rattle.asn1_records.specs.Records.{AreRecords, block_of}
-use Rattle.asn1_records.specs.Requests.{AreRequestFields, IsRequest}
-use Rattle.asn1_records.specs.declared.request.Places.{Places}
+use Rattle.asn1_records.specs.Requests.{IsRequest}
 use Rattle.asn1_records.proofs.Entries.{AreRecords-outline}
 use Rattle.asn1_records.proofs.FoundFields.{IsRecordAt-typed, KeyTypes-found, SignedTypes, SignedTypes-found, field-typed, sequence-items}
 use Rattle.asn1_records.proofs.HeldTrees.{AreHeld-held_in, held_in}
 
 -- the types of the trees at these places
-pub RequestTypes-places : (ns : Nodes) (held : Tree ℕ → Trees ℕ) (r : CertificationRequest) →
+RequestTypes-places : (ns : Nodes) (held : Tree ℕ → Trees ℕ) (r : CertificationRequest) →
     certification_request held (tree_at ns 0) ≡ Some
     (Some (tree_at ns r.certification_request_info) ∷ Some (tree_at ns r.signature_algorithm)
     ∷ Some (tree_at ns r.signature) ∷ []) →
@@ -30,7 +31,7 @@ RequestTypes-places ns held r e =
     (tree_at ns r.signature_algorithm) (tree_at ns r.signature) e
 
 -- the types of the fields of what is signed
-pub record InfoTypes (held : Tree ℕ → Trees ℕ) (v s k a : Tree ℕ) : Type 0 where
+record InfoTypes (held : Tree ℕ → Trees ℕ) (v s k a : Tree ℕ) : Type 0 where
   pub version : is_leaf INTEGER v ≡ true
   pub subject : is_name s ≡ true
   pub key : is_subject_public_key_info k ≡ true
@@ -51,7 +52,7 @@ InfoTypes-found held whole v s k a e =
     record { version = t0; subject = t1; key = t2; attributes = t3 }
 
 -- the types of the trees at these places
-pub InfoTypes-places : (ns : Nodes) (held : Tree ℕ → Trees ℕ) (place : ℕ) (i : CertificationRequestInfo) →
+InfoTypes-places : (ns : Nodes) (held : Tree ℕ → Trees ℕ) (place : ℕ) (i : CertificationRequestInfo) →
     certification_request_info held (tree_at ns place) ≡ Some
     (Some (tree_at ns i.version) ∷ Some (tree_at ns i.subject) ∷ Some (tree_at ns i.subject_public_key_info)
     ∷ Some (tree_at ns i.attributes) ∷ []) →
@@ -63,18 +64,18 @@ InfoTypes-places ns held place i e =
 
 module _ (x : List ℕ) (ns : Nodes) (es : List Entry) (are : AreRecords x ns (map block_of es)) where
   -- the records of the fields of a certification request
-  IsRequest-records : (held : Tree ℕ → Trees ℕ) (p : Places) → IsStructure x ns → AreHeld ns held →
-      AreRequestFields ns held p.request p.info p.key →
+  IsRequest-records : (held : Tree ℕ → Trees ℕ) (p : CertificationRequestParts) → IsStructure x ns → AreHeld ns held →
+      AreRequestFields ns held 0 p.certification_request p.certification_request_info p.subject_public_key_info →
       IsRequest x (records_in es p)
   IsRequest-records held p d h f =
       let typed = IsRecordAt-typed x ns es are in
-      let r = p.request in
-      let i = p.info in
-      let k = p.key in
+      let r = p.certification_request in
+      let i = p.certification_request_info in
+      let k = p.subject_public_key_info in
       let of_r = RequestTypes-places ns held r f.of_request in
-      let of_i = InfoTypes-places ns held r.certification_request_info i f.of_info in
+      let of_i = InfoTypes-places ns held r.certification_request_info i f.signed.of_info in
       let (algorithm, key) = KeyTypes-found (tree_at ns i.subject_public_key_info) (tree_at ns k.algorithm)
-      (tree_at ns k.subject_public_key) f.of_key in
+      (tree_at ns k.subject_public_key) f.signed.of_key in
       record {
         ns = ns;
         structure = d;
@@ -99,9 +100,9 @@ module _ (x : List ℕ) (ns : Nodes) (es : List Entry) (are : AreRecords x ns (m
       }
 
 -- the records of the fields of a certification request that a document begins with
-pub IsRequest-found : (x : List ℕ) (es : List Entry) (p : Places) → IsOutline x es →
+pub IsRequest-found : (x : List ℕ) (es : List Entry) (p : CertificationRequestParts) → IsOutline x es →
     ((ns : Nodes) (held : Tree ℕ → Trees ℕ) → IsStructure x ns → AreHeld ns held →
-    AreRequestFields ns held p.request p.info p.key) →
+    AreRequestFields ns held 0 p.certification_request p.certification_request_info p.subject_public_key_info) →
     IsRequest x (records_in es p)
 IsRequest-found x es p o found =
     let (ns, d, are) = AreRecords-outline x es o in

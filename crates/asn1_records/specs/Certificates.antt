@@ -1,7 +1,8 @@
 -- What is answered of a certificate: the records of its fields, by the definitions of RFC 5280's types.
-use Rattle.std.specs.Prelude.{◌≡◌, ℕ, List, [], ◌∷◌, None, Some, option_map}
+use Rattle.std.specs.Prelude.{◌≡◌, ℕ, List, None}
 use Rattle.simple_asn1.specs.Structure.{IsStructure, Nodes, tree_at}
-use Rattle.asn1_certificate.specs.Types.{certificate, subject_public_key_info, tbs_certificate, validity}
+use Rattle.asn1_certificate.specs.Parts.{AreFields}
+use Rattle.asn1_certificate.specs.Types.{certificate}
 use Rattle.asn1_certificate.specs.declared.algorithm.SubjectPublicKeyInfo.{SubjectPublicKeyInfo}
 use Rattle.asn1_certificate.specs.declared.certificate.Certificate.{Certificate}
 use Rattle.asn1_certificate.specs.declared.certificate.TBSCertificate.{TBSCertificate}
@@ -11,22 +12,6 @@ use Rattle.asn1_records.specs.Records.{IsRecordAt, no_record}
 use Rattle.asn1_records.specs.Status.{not_certificate}
 use Rattle.asn1_records.specs.declared.record.CertificateAnswer.{CertificateAnswer}
 
--- where the blocks stand that a certificate, the first block of a document with this structure, has for its fields
-pub record AreFields (ns : Nodes) (c : Certificate) (t : TBSCertificate) (v : Validity) (k : SubjectPublicKeyInfo)
-    : Type 0 where
-  pub of_certificate : certificate (tree_at ns 0) ≡ Some
-      (Some (tree_at ns c.tbs_certificate) ∷ Some (tree_at ns c.signature_algorithm)
-      ∷ Some (tree_at ns c.signature) ∷ [])
-  pub of_tbs_certificate : tbs_certificate (tree_at ns c.tbs_certificate) ≡ Some
-      (option_map (tree_at ns) t.version ∷ Some (tree_at ns t.serial_number) ∷ Some (tree_at ns t.signature)
-      ∷ Some (tree_at ns t.issuer) ∷ Some (tree_at ns t.validity) ∷ Some (tree_at ns t.subject)
-      ∷ Some (tree_at ns t.subject_public_key_info) ∷ option_map (tree_at ns) t.issuer_unique_id
-      ∷ option_map (tree_at ns) t.subject_unique_id ∷ option_map (tree_at ns) t.extensions ∷ [])
-  pub of_validity : validity (tree_at ns t.validity) ≡ Some
-      (Some (tree_at ns v.not_before) ∷ Some (tree_at ns v.not_after) ∷ [])
-  pub of_key : subject_public_key_info (tree_at ns t.subject_public_key_info) ≡ Some
-      (Some (tree_at ns k.algorithm) ∷ Some (tree_at ns k.subject_public_key) ∷ [])
-
 -- the octets are a document that begins with a certificate, and these are the records of its fields
 pub record IsCertificate (octets : List ℕ) (s : CertificateAnswer) : Type 0 where
   pub ns : Nodes
@@ -35,7 +20,7 @@ pub record IsCertificate (octets : List ℕ) (s : CertificateAnswer) : Type 0 wh
   pub t : TBSCertificate
   pub v : Validity
   pub k : SubjectPublicKeyInfo
-  pub fields : AreFields ns c t v k
+  pub fields : AreFields ns 0 c t v k
   pub certificate : IsRecordAt octets ns 0 s.certificate
   pub tbs_certificate : IsRecordAt octets ns c.tbs_certificate s.tbs_certificate
   pub version : IsRecordIfAny octets ns t.version s.version

@@ -1,9 +1,10 @@
 -- What is answered of a certification request: the records of its fields, by the definitions of RFC 2986's types.
-use Rattle.std.specs.Prelude.{◌≡◌, ℕ, List, [], ◌∷◌, None, Some}
+use Rattle.std.specs.Prelude.{◌≡◌, ℕ, List, None}
 use Rattle.simple_asn1.specs.Structure.{IsStructure, Nodes, tree_at}
 use Rattle.simple_asn1.specs.Tree.{Tree, Trees}
 use Rattle.asn1_certificate.specs.Held.{AreHeld}
-use Rattle.asn1_certificate.specs.Types.{certification_request, certification_request_info, subject_public_key_info}
+use Rattle.asn1_certificate.specs.Parts.{AreRequestFields}
+use Rattle.asn1_certificate.specs.Types.{certification_request}
 use Rattle.asn1_certificate.specs.declared.algorithm.SubjectPublicKeyInfo.{SubjectPublicKeyInfo}
 use Rattle.asn1_certificate.specs.declared.request.CertificationRequest.{CertificationRequest}
 use Rattle.asn1_certificate.specs.declared.request.CertificationRequestInfo.{CertificationRequestInfo}
@@ -12,20 +13,8 @@ use Rattle.asn1_records.specs.Records.{IsRecordAt, no_record}
 use Rattle.asn1_records.specs.Status.{not_request}
 use Rattle.asn1_records.specs.declared.record.RequestAnswer.{RequestAnswer}
 
--- where the blocks stand that a certification request, the first block of a document with this structure, has for its
--- fields; held says which trees the attributes hold, whose tag is implicit
-pub record AreRequestFields (ns : Nodes) (held : Tree ℕ → Trees ℕ) (r : CertificationRequest)
-    (i : CertificationRequestInfo) (k : SubjectPublicKeyInfo) : Type 0 where
-  pub of_request : certification_request held (tree_at ns 0) ≡ Some
-      (Some (tree_at ns r.certification_request_info) ∷ Some (tree_at ns r.signature_algorithm)
-      ∷ Some (tree_at ns r.signature) ∷ [])
-  pub of_info : certification_request_info held (tree_at ns r.certification_request_info) ≡ Some
-      (Some (tree_at ns i.version) ∷ Some (tree_at ns i.subject) ∷ Some (tree_at ns i.subject_public_key_info)
-      ∷ Some (tree_at ns i.attributes) ∷ [])
-  pub of_key : subject_public_key_info (tree_at ns i.subject_public_key_info) ≡ Some
-      (Some (tree_at ns k.algorithm) ∷ Some (tree_at ns k.subject_public_key) ∷ [])
-
--- the octets are a document that begins with a certification request, and these are the records of its fields
+-- the octets are a document that begins with a certification request, and these are the records of its fields. Of the
+-- trees that the attributes hold, whose tag is implicit, held says which they are
 pub record IsRequest (octets : List ℕ) (s : RequestAnswer) : Type 0 where
   pub ns : Nodes
   pub structure : IsStructure octets ns
@@ -34,7 +23,7 @@ pub record IsRequest (octets : List ℕ) (s : RequestAnswer) : Type 0 where
   pub r : CertificationRequest
   pub i : CertificationRequestInfo
   pub k : SubjectPublicKeyInfo
-  pub fields : AreRequestFields ns held r i k
+  pub fields : AreRequestFields ns held 0 r i k
   pub certification_request : IsRecordAt octets ns 0 s.certification_request
   pub certification_request_info : IsRecordAt octets ns r.certification_request_info s.certification_request_info
   pub version : IsRecordAt octets ns i.version s.version

@@ -1,7 +1,8 @@
 -- What is answered of a list of revoked certificates: the records of its fields, by the types of RFC 5280.
-use Rattle.std.specs.Prelude.{◌≡◌, ℕ, List, [], ◌∷◌, None, Some, option_map}
+use Rattle.std.specs.Prelude.{◌≡◌, ℕ, List, None}
 use Rattle.simple_asn1.specs.Structure.{IsStructure, Nodes, tree_at}
-use Rattle.asn1_certificate.specs.Types.{certificate_list, tbs_cert_list}
+use Rattle.asn1_certificate.specs.Parts.{AreListFields}
+use Rattle.asn1_certificate.specs.Types.{certificate_list}
 use Rattle.asn1_certificate.specs.declared.revocation.CertificateList.{CertificateList}
 use Rattle.asn1_certificate.specs.declared.revocation.TBSCertList.{TBSCertList}
 use Rattle.asn1_records.specs.Fields.{AnswersFields, IsRecordIfAny}
@@ -9,24 +10,13 @@ use Rattle.asn1_records.specs.Records.{IsRecordAt, no_record}
 use Rattle.asn1_records.specs.Status.{not_revocation_list}
 use Rattle.asn1_records.specs.declared.record.RevocationListAnswer.{RevocationListAnswer}
 
--- where the blocks stand that a list of revoked certificates, the first block of a document with this structure, has
--- for its fields
-pub record AreListFields (ns : Nodes) (l : CertificateList) (t : TBSCertList) : Type 0 where
-  pub of_list : certificate_list (tree_at ns 0) ≡ Some
-      (Some (tree_at ns l.tbs_cert_list) ∷ Some (tree_at ns l.signature_algorithm) ∷ Some (tree_at ns l.signature)
-      ∷ [])
-  pub of_tbs_cert_list : tbs_cert_list (tree_at ns l.tbs_cert_list) ≡ Some
-      (option_map (tree_at ns) t.version ∷ Some (tree_at ns t.signature) ∷ Some (tree_at ns t.issuer)
-      ∷ Some (tree_at ns t.this_update) ∷ option_map (tree_at ns) t.next_update
-      ∷ option_map (tree_at ns) t.revoked_certificates ∷ option_map (tree_at ns) t.crl_extensions ∷ [])
-
 -- the octets are a document that begins with a list of revoked certificates, and these are the records of its fields
 pub record IsRevocationList (octets : List ℕ) (s : RevocationListAnswer) : Type 0 where
   pub ns : Nodes
   pub structure : IsStructure octets ns
   pub l : CertificateList
   pub t : TBSCertList
-  pub fields : AreListFields ns l t
+  pub fields : AreListFields ns 0 l t
   pub certificate_list : IsRecordAt octets ns 0 s.certificate_list
   pub tbs_cert_list : IsRecordAt octets ns l.tbs_cert_list s.tbs_cert_list
   pub version : IsRecordIfAny octets ns t.version s.version

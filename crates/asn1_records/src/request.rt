@@ -1,50 +1,24 @@
 // The fields of a certification request.
-ghost use Rattle.std.specs.Prelude.{◌≡◌, ℕ, None, MatchOption};
-ghost use Rattle.asn1_outline.specs.Outlines.{entries_in, octets_in};
-ghost use Rattle.asn1_outline.specs.Structure.{IsStructure, Nodes, tree_at};
-ghost use Rattle.asn1_certificate.specs.Held.{AreHeld};
-ghost use Rattle.asn1_certificate.specs.Types.{certification_request};
-ghost use Rattle.simple_asn1.specs.Tree.{Tree, Trees};
-ghost use Rattle.asn1_records.specs.Requests.{AnswersRequest, AreRequestFields, HasNoRequestFields};
+ghost use Rattle.std.specs.Prelude.{◌≡◌};
+ghost use Rattle.asn1_outline.specs.Outlines.{entries_in};
+ghost use Rattle.asn1_records.specs.Requests.{AnswersRequest, HasNoRequestFields};
 ghost use Rattle.asn1_records.specs.Inner.RequestRecords.{records_in};
 
 use crate::document_entries::{Fault, outline_of};
 use crate::fields::record_at;
 use crate::record::{NO_BLOCK, RequestAnswer};
 use crate::status::{DONE, NOT_REQUEST};
-use asn1_certificate::algorithm::SubjectPublicKeyInfo;
-use asn1_certificate::request::{CertificationRequest, CertificationRequestInfo};
+use asn1_certificate::request::CertificationRequestParts;
 use asn1_outline::outline::Outline;
 use std::alloc::Global;
 
-// Where the fields of a certification request stand, by the types that have them.
-#[derive(Clone, Copy)]
-struct Places {
-    request: CertificationRequest,
-    info: CertificationRequestInfo,
-    key: SubjectPublicKeyInfo,
-}
-
-// The fields of the certification request that a document begins with.
-fn places_in(outline: &Outline<'_>) -> Option<Places>
-    ensures { (ns : Nodes) (held : Tree ℕ → Trees ℕ) → IsStructure (octets_in outline.now) ns
-        → AreHeld ns held → MatchOption result
-        (certification_request held (tree_at ns 0) ≡ None)
-        (λ found. AreRequestFields ns held found.request found.info found.key) }
+// The records of the fields.
+fn records_of(outline: &Outline<'_>, parts: &CertificationRequestParts) -> RequestAnswer
+    ensures { result ≡ records_in (entries_in outline.now) parts.now }
 {
-    let request = CertificationRequest::at(outline, 0)?;
-    let info = CertificationRequestInfo::at(outline, request.certification_request_info)?;
-    let key = SubjectPublicKeyInfo::at(outline, info.subject_public_key_info)?;
-    Some(Places { request, info, key })
-}
-
-// The records of these fields.
-fn records_of(outline: &Outline<'_>, places: &Places) -> RequestAnswer
-    ensures { result ≡ records_in (entries_in outline.now) places.now }
-{
-    let request = &places.request;
-    let info = &places.info;
-    let key = &places.key;
+    let request = &parts.certification_request;
+    let info = &parts.certification_request_info;
+    let key = &parts.subject_public_key_info;
     RequestAnswer {
         status: DONE,
         offset: 0,
@@ -87,8 +61,8 @@ pub fn request_in(alloc: Global, octets: &[u8]) -> RequestAnswer
         Ok(outline) => outline,
         Err(Fault { status, offset }) => return no_fields(status, offset),
     };
-    match places_in(&outline) {
-        Some(places) => records_of(&outline, &places),
+    match CertificationRequestParts::at(&outline, 0) {
+        Some(parts) => records_of(&outline, &parts),
         None => no_fields(NOT_REQUEST, 0),
     }
 }

@@ -1,43 +1,23 @@
 // The fields of a list of revoked certificates.
-ghost use Rattle.std.specs.Prelude.{◌≡◌, None, MatchOption};
-ghost use Rattle.asn1_outline.specs.Outlines.{entries_in, octets_in};
-ghost use Rattle.asn1_outline.specs.Structure.{IsStructure, Nodes, tree_at};
-ghost use Rattle.asn1_certificate.specs.Types.{certificate_list};
-ghost use Rattle.asn1_records.specs.RevocationLists.{AnswersRevocationList, AreListFields, HasNoListFields};
+ghost use Rattle.std.specs.Prelude.{◌≡◌};
+ghost use Rattle.asn1_outline.specs.Outlines.{entries_in};
+ghost use Rattle.asn1_records.specs.RevocationLists.{AnswersRevocationList, HasNoListFields};
 ghost use Rattle.asn1_records.specs.Inner.ListRecords.{records_in};
 
 use crate::document_entries::{Fault, outline_of};
 use crate::fields::{record_at, record_if_any};
 use crate::record::{NO_BLOCK, RevocationListAnswer};
 use crate::status::{DONE, NOT_REVOCATION_LIST};
-use asn1_certificate::revocation::{CertificateList, TBSCertList};
+use asn1_certificate::revocation::CertificateListParts;
 use asn1_outline::outline::Outline;
 use std::alloc::Global;
 
-// Where the fields of a list of revoked certificates stand, by the types that have them.
-#[derive(Clone, Copy)]
-struct Places {
-    list: CertificateList,
-    tbs: TBSCertList,
-}
-
-// The fields of the list of revoked certificates that a document begins with.
-fn places_in(outline: &Outline<'_>) -> Option<Places>
-    ensures { (ns : Nodes) → IsStructure (octets_in outline.now) ns → MatchOption result
-        (certificate_list (tree_at ns 0) ≡ None)
-        (λ found. AreListFields ns found.list found.tbs) }
+// The records of the fields.
+fn records_of(outline: &Outline<'_>, parts: &CertificateListParts) -> RevocationListAnswer
+    ensures { result ≡ records_in (entries_in outline.now) parts.now }
 {
-    let list = CertificateList::at(outline, 0)?;
-    let tbs = TBSCertList::at(outline, list.tbs_cert_list)?;
-    Some(Places { list, tbs })
-}
-
-// The records of these fields.
-fn records_of(outline: &Outline<'_>, places: &Places) -> RevocationListAnswer
-    ensures { result ≡ records_in (entries_in outline.now) places.now }
-{
-    let list = &places.list;
-    let tbs = &places.tbs;
+    let list = &parts.certificate_list;
+    let tbs = &parts.tbs_cert_list;
     RevocationListAnswer {
         status: DONE,
         offset: 0,
@@ -82,8 +62,8 @@ pub fn revocation_list_in(alloc: Global, octets: &[u8]) -> RevocationListAnswer
         Ok(outline) => outline,
         Err(Fault { status, offset }) => return no_fields(status, offset),
     };
-    match places_in(&outline) {
-        Some(places) => records_of(&outline, &places),
+    match CertificateListParts::at(&outline, 0) {
+        Some(parts) => records_of(&outline, &parts),
         None => no_fields(NOT_REVOCATION_LIST, 0),
     }
 }

@@ -20,7 +20,7 @@ pub returns-in-Some : goal.returns-in-Some
 returns-in-Some c =
     let x = c.args.octets.now in
     let o = c.in-Ok.outline in
-    let found = IsRequest-found x o.entries.items c.in-Some.places c.in-Ok.ensures.document
+    let found = IsRequest-found x o.entries.items c.in-Some.parts c.in-Ok.ensures.document
     (λ ns held d h. c.in-Some.ensures ns held (subst (λ z. IsStructure z ns) (sym c.in-Ok.ensures.lent) d) h) in
     is_one (ap (λ (z : RequestAnswer). z.status) c.records_of.ensures)
     (ap (λ (z : RequestAnswer). z.offset) c.records_of.ensures)

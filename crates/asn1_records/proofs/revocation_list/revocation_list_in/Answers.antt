@@ -19,7 +19,7 @@ pub returns-in-Some : goal.returns-in-Some
 returns-in-Some c =
     let x = c.args.octets.now in
     let o = c.in-Ok.outline in
-    let found = IsRevocationList-found x o.entries.items c.in-Some.places c.in-Ok.ensures.document
+    let found = IsRevocationList-found x o.entries.items c.in-Some.parts c.in-Ok.ensures.document
     (λ ns d. c.in-Some.ensures ns (subst (λ z. IsStructure z ns) (sym c.in-Ok.ensures.lent) d)) in
     is_one (ap (λ (z : RevocationListAnswer). z.status) c.records_of.ensures)
     (ap (λ (z : RevocationListAnswer). z.offset) c.records_of.ensures)

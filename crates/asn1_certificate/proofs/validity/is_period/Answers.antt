@@ -1,7 +1,0 @@
--- For `validity::is_period`: what it returns is right.
-use Rattle.std.proofs.Common.{◌∙◌}
-use Rattle.asn1_certificate.proofs.Steps.{found-is}
-use Rattle.asn1_certificate.proofs.validity.is_period.Goals as goal
-
-pub returns : goal.returns
-returns c ns d = c.is_some.ensures ∙ found-is _ _ _ (c.at.ensures ns d)
