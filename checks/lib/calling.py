@@ -47,7 +47,8 @@ SECTIONS = [
     ("Parts of headers", "simple_asn1", "decode_tag decode_length decode_base127 decode_class encode_tag encode_len"
      " encode_base127 encode_class"),
     ("Laws", "simple_asn1", "law_*"),
-    ("Laws of DER", "asn1_laws", "law_*"),
+    ("Laws of DER", "asn1_laws", "law_departures law_der_is_canonical law_der_is_read law_written_is_der"),
+    ("Laws of certificates", "asn1_laws", "law_certificate_is_signed"),
     ("PEM, base64 and hex digits", "der_forms", "document_of labelled_document_of LabelledDocument FormFault"
      " text_of form_of InputForm Objects PemObject BadEnd to_pem LabelFault"),
     ("Names of object identifiers", "dump_names", "Names OwnNames NamesFault"),

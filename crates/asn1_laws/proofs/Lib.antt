@@ -7,3 +7,4 @@ pub mod WrittenTimes
 pub mod WrittenLeaves
 pub mod Written
 pub mod Refused
+pub mod Signed

@@ -2,3 +2,4 @@ pub mod Refused
 pub mod Spellings
 pub mod DerTrees
 pub mod Laws
+pub mod Signed

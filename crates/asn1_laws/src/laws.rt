@@ -1,5 +1,7 @@
-// Laws over the definitions alone: where DER by X.690 and what this library reads and writes are the same.
+// Laws over the definitions alone: where DER by X.690 and what this library reads and writes are the same, and what is
+// signed of a certificate.
 ghost use Rattle.asn1_laws.specs.Laws.{DerIsCanonical, DerIsRead, WrittenIsDer};
+ghost use Rattle.asn1_laws.specs.Signed.{FieldsAreSigned};
 
 /// A law, with no code. All DER that a slice can hold is read, with three exceptions. A TeletexString, a
 /// UniversalString or a BMPString, which have codes of their own in DER (X.690 8.23), is rejected where it is no UTF-8.
@@ -63,4 +65,23 @@ pub fn law_der_is_canonical()
 /// ```
 pub fn law_written_is_der()
     ensures { WrittenIsDer }
+{}
+
+/// A law, with no code. A document that begins with a Certificate, a CertificateList or a CertificationRequest begins
+/// with a signed triple, whose content is the first field: the TBSCertificate, the TBSCertList or the
+/// CertificationRequestInfo. So the block that `Certificate::at` calls `tbs_certificate` is the one whose octets
+/// `read_signed` returns.
+///
+/// ```rust
+/// use simple_asn1::{TripleErr, read_signed};
+/// use std::alloc::Global;
+///
+/// // What was signed of a certificate: by the law, the octets of its TBSCertificate.
+/// fn tbs_certificate(alloc: Global, certificate: &[u8]) -> Result<Vec<u8>, TripleErr> {
+///     let triple = read_signed(alloc, certificate)?;
+///     Ok(triple.content)
+/// }
+/// ```
+pub fn law_certificate_is_signed()
+    ensures { FieldsAreSigned }
 {}
