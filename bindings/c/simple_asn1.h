@@ -321,10 +321,10 @@ static inline size_t simple_asn1_oid_room(size_t contents)
  * simple_asn1_bits says where the bits of the signature are. */
 simple_asn1_signed_parts simple_asn1_signed(const uint8_t *octets, size_t size);
 
-/* The fields of the certificate that a document begins with, where it is one by RFC 5280, section 4.1; nothing else of
- * it is checked. The records are those that simple_asn1_read writes; of an absent field all numbers are 0. What is
- * inside version and extensions begins behind their header. simple_asn1_time says which moments not_before and
- * not_after are, simple_asn1_text what a text in a name says, and simple_asn1_bits where the bits are. */
+/* The fields of the certificate that a document begins with, where it is one by RFC 5280, section 4.1. No signature,
+ * chain, moment or purpose is checked. The records are those that simple_asn1_read writes; of an absent field all
+ * numbers are 0. What is inside version and extensions begins behind their header. simple_asn1_time says which moments
+ * not_before and not_after are, simple_asn1_text what a text in a name says, and simple_asn1_bits where bits are. */
 simple_asn1_certificate_parts simple_asn1_certificate(const uint8_t *octets, size_t size);
 
 /* The same of a certification request (PKCS #10), by RFC 2986, section 4. The attributes begin behind the header of

@@ -44,7 +44,8 @@ CREATE FUNCTION der_fault(document bytea, strict bool DEFAULT false, OUT fault t
 -- The fields of the certificate that the bytes begin with (RFC 5280, section 4.1). It is null if they begin with something
 -- else. Names, the key, the extensions and what was signed are DER, as it stands in the certificate; the extensions are
 -- their SEQUENCE, or null if there are none. The version is the number that stands there: 2 is v3. Numbers and OBJECT
--- IDENTIFIERs of more than 1,024 contents octets are null. No signature, chain or moment is checked.
+-- IDENTIFIERs of more than 1,024 contents octets are null. No signature, chain, moment or purpose is
+-- checked.
 CREATE FUNCTION der_certificate(document bytea, OUT serial_number numeric, OUT issuer bytea, OUT subject bytea,
                                 OUT not_before timestamptz, OUT not_after timestamptz, OUT version numeric,
                                 OUT public_key_algorithm text, OUT subject_public_key_info bytea,

@@ -11,8 +11,8 @@ from ._fields import Extension, Fields
 class Certificate(Fields):
     """A certificate by its fields (RFC 5280, section 4.1).
 
-    That octets are a certificate is checked, and no more: no signature, no chain and no moment. A document that begins
-    with another block raises Refused, with the status NOT_CERTIFICATE.
+    That octets are a certificate is checked, and no more: no signature, chain, moment or purpose. A document that
+    begins with another block raises Refused, with the status NOT_CERTIFICATE.
     """
 
     _whole = "certificate"

@@ -264,8 +264,8 @@ pub extern "C" fn simple_asn1_signed(alloc: Global, octets: &[u8]) -> SignedAnsw
 /// The records of the fields of the certificate that a document begins with (RFC 5280, 4.1), as [`simple_asn1_read`]
 /// writes them; of an absent field all numbers are 0. `version` and `extensions` are the explicit tags, so that what is
 /// inside them begins behind their header. `NOT_CERTIFICATE` if the document begins with another block; for any other
-/// input the first fault, as [`simple_asn1_read`]. No signature, chain or moment is checked. It takes memory for the
-/// records of all blocks.
+/// input the first fault, as [`simple_asn1_read`]. No signature, chain, moment or purpose is checked. It takes memory
+/// for the records of all blocks.
 #[unsafe(no_mangle)]
 pub extern "C" fn simple_asn1_certificate(alloc: Global, octets: &[u8]) -> CertificateAnswer
     ensures { AnswersCertificate octets.now result }

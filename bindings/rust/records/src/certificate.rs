@@ -5,7 +5,7 @@ use crate::fields::{self, Extension};
 use crate::{Fault, Moment};
 
 /// A certificate by its fields (RFC 5280, section 4.1), which are slices of its bytes. That bytes are a certificate is
-/// checked, and no more: no signature, no chain and no moment.
+/// checked, and no more: no signature, chain, moment or purpose.
 ///
 /// ```no_run
 /// use simple_asn1_records::{Certificate, Fault};
