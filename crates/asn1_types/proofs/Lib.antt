@@ -1,2 +1,4 @@
 mod ListTrees
 mod Encodings
+mod ImplicitTrees
+mod ImplicitTrips

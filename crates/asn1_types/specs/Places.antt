@@ -38,3 +38,7 @@ one_more (n ∷ ns) = min (n + 1) (2 ^ 64 - 1) ∷ ns
 -- as seen from one field before, which is the one that is numbered 0 then
 abbrev pub next : Spot → Spot
 next s = record { offset = s.offset; path = one_more s.path }
+
+-- the same, at another offset
+abbrev pub at_offset : ℕ → Spot → Spot
+at_offset offset s = record { offset = offset; path = s.path }

@@ -8,7 +8,7 @@ ghost use Rattle.asn1_types.specs.declared.TypeErr.TheVariants.{Shape};
 ghost use Rattle.asn1_types.specs.Faults.{group_fault};
 ghost use Rattle.asn1_types.specs.Places.{spot};
 
-use crate::{Asn1Type, Asn1Write, Fields, Place, TypeErr, WriteFields};
+use crate::{Asn1Type, Asn1Write, Constructed, Fields, Place, TypeErr, WriteFields};
 use asn1_blocks::block::ASN1Block;
 use asn1_headers::error::ASN1EncodeErr;
 use std::alloc::Global;
@@ -50,6 +50,29 @@ impl<F: Fields> Asn1Type for Sequence<F> {
     }
 
     ghost distinct = { sequence-distinct F.trees F.distinct_fields };
+}
+
+impl<F: Fields> Constructed for Sequence<F> {
+    ghost use Rattle.std.proofs.Common.{refl};
+
+    ghost kind = { a_sequence };
+
+    ghost held = { λ x. F.trees x.fields };
+
+    ghost held_fault = { F.fields_fault };
+
+    fn read_held(
+        alloc: Global,
+        holder: usize,
+        blocks: &[ASN1Block],
+    ) -> Result<Sequence<F>, TypeErr> {
+        match F::read_fields(alloc, holder, blocks) {
+            Ok(fields) => Ok(Sequence { fields }),
+            Err(e) => Err(e),
+        }
+    }
+
+    ghost is_group = { λ x. refl };
 }
 
 impl<F: WriteFields> Asn1Write for Sequence<F> {
@@ -100,6 +123,25 @@ impl<F: Fields> Asn1Type for Set<F> {
     }
 
     ghost distinct = { set-distinct F.trees F.distinct_fields };
+}
+
+impl<F: Fields> Constructed for Set<F> {
+    ghost use Rattle.std.proofs.Common.{refl};
+
+    ghost kind = { a_set };
+
+    ghost held = { λ x. F.trees x.fields };
+
+    ghost held_fault = { F.fields_fault };
+
+    fn read_held(alloc: Global, holder: usize, blocks: &[ASN1Block]) -> Result<Set<F>, TypeErr> {
+        match F::read_fields(alloc, holder, blocks) {
+            Ok(fields) => Ok(Set { fields }),
+            Err(e) => Err(e),
+        }
+    }
+
+    ghost is_group = { λ x. refl };
 }
 
 impl<F: WriteFields> Asn1Write for Set<F> {

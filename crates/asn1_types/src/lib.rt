@@ -21,7 +21,7 @@ ghost use Rattle.asn1_blocks.specs.Tree.{Tree, shape};
 ghost use Rattle.asn1_blocks.specs.View.{view};
 ghost use Rattle.asn1_headers.specs.declared.error.ASN1EncodeErr.TheVariants.{OutOfMemory as no_memory};
 ghost use Rattle.asn1_types.specs.declared.TypeErr.TheVariants.{Shape};
-ghost use Rattle.asn1_types.specs.Places.{Spot, spot, within, next};
+ghost use Rattle.asn1_types.specs.Places.{Spot, at_offset, spot, within, next};
 
 mod any;
 mod apart;
@@ -31,6 +31,7 @@ mod encoded;
 mod enumerated;
 mod fields;
 mod groups;
+mod implicit;
 mod last_fields;
 mod leaves;
 mod lists;
@@ -50,6 +51,7 @@ pub use crate::defaulted::{DefaultOf, Defaulted, False, Natural};
 pub use crate::enumerated::Enumerated;
 pub use crate::fields::{Apart, End, Field, Fields, Optional, WriteFields};
 pub use crate::groups::{Sequence, Set};
+pub use crate::implicit::{Constructed, Implicit};
 pub use crate::last_fields::LastFields;
 pub use crate::leaves::{BitString, Null, OctetString};
 pub use crate::lists::{SequenceOf, SetOf};
@@ -109,6 +111,17 @@ impl TypeErr {
     {
         match self {
             TypeErr::Shape(place) => TypeErr::Shape(place.next()),
+            TypeErr::OutOfMemory => TypeErr::OutOfMemory,
+        }
+    }
+
+    // The error at another offset.
+    pub(crate) fn at(self, offset: usize) -> TypeErr
+        ensures { (at : Place) → result ≡ Shape at
+            → (inner : Place) × (self ≡ Shape inner) × (spot at ≡ at_offset offset (spot inner)) }
+    {
+        match self {
+            TypeErr::Shape(place) => TypeErr::Shape(place.at(offset)),
             TypeErr::OutOfMemory => TypeErr::OutOfMemory,
         }
     }

@@ -9,7 +9,7 @@ ghost use Rattle.asn1_types.specs.Faults.{group_fault, items_fault};
 ghost use Rattle.asn1_types.specs.Places.{spot};
 ghost use Rattle.asn1_types.specs.Laws.{group-inner, list-distinct};
 
-use crate::{Asn1Type, Asn1Write, Place, TypeErr};
+use crate::{Asn1Type, Asn1Write, Constructed, Place, TypeErr};
 use asn1_blocks::block::ASN1Block;
 use asn1_headers::error::ASN1EncodeErr;
 use std::alloc::Global;
@@ -95,6 +95,29 @@ impl<T: Asn1Type + Drop> Asn1Type for SequenceOf<T> {
     ghost distinct = { λ x y e. list-distinct T.tree T.distinct x y (group-inner a_sequence _ _ e) };
 }
 
+impl<T: Asn1Type + Drop> Constructed for SequenceOf<T> {
+    ghost use Rattle.std.proofs.Common.{refl};
+
+    ghost kind = { a_sequence };
+
+    ghost held = { λ xs. trees_of (map T.tree xs) };
+
+    ghost held_fault = { λ _. items_fault T.tree T.fault 0 };
+
+    fn read_held(
+        alloc: Global,
+        _holder: usize,
+        blocks: &[ASN1Block],
+    ) -> Result<SequenceOf<T>, TypeErr> {
+        match read_all::<T>(alloc, blocks) {
+            Ok(values) => Ok(SequenceOf { values }),
+            Err(e) => Err(e),
+        }
+    }
+
+    ghost is_group = { λ x. refl };
+}
+
 impl<T: Asn1Write + Drop> Asn1Write for SequenceOf<T> {
     fn write(&self, alloc: Global) -> Result<ASN1Block, ASN1EncodeErr> {
         Ok(ASN1Block::Sequence(0, write_all(alloc, &self.values)?))
@@ -145,6 +168,25 @@ impl<T: Asn1Type + Drop> Asn1Type for SetOf<T> {
     }
 
     ghost distinct = { λ x y e. list-distinct T.tree T.distinct x y (group-inner a_set _ _ e) };
+}
+
+impl<T: Asn1Type + Drop> Constructed for SetOf<T> {
+    ghost use Rattle.std.proofs.Common.{refl};
+
+    ghost kind = { a_set };
+
+    ghost held = { λ xs. trees_of (map T.tree xs) };
+
+    ghost held_fault = { λ _. items_fault T.tree T.fault 0 };
+
+    fn read_held(alloc: Global, _holder: usize, blocks: &[ASN1Block]) -> Result<SetOf<T>, TypeErr> {
+        match read_all::<T>(alloc, blocks) {
+            Ok(values) => Ok(SetOf { values }),
+            Err(e) => Err(e),
+        }
+    }
+
+    ghost is_group = { λ x. refl };
 }
 
 impl<T: Asn1Write + Drop> Asn1Write for SetOf<T> {

@@ -5,7 +5,7 @@ ghost use Rattle.asn1_blocks.specs.View.{view};
 ghost use Rattle.asn1_headers.specs.declared.error.ASN1EncodeErr.TheVariants.{OutOfMemory as no_memory};
 ghost use Rattle.asn1_types.specs.declared.TypeErr.TheVariants.{Shape};
 
-use crate::{Asn1Type, Asn1Write, TypeErr};
+use crate::{Asn1Type, Asn1Write, Constructed, TypeErr};
 use asn1_blocks::block::ASN1Block;
 use asn1_headers::error::ASN1EncodeErr;
 use std::alloc::Global;
@@ -84,6 +84,26 @@ impl<S: Named> Asn1Type for S {
     }
 
     ghost distinct = { λ x y e. S.same x y (S.Parts.distinct (S.parts x) (S.parts y) e) };
+}
+
+impl<S: Named> Constructed for S
+where
+    <S as Named>::Parts: Constructed,
+{
+    ghost kind = { S.Parts.kind };
+
+    ghost held = { λ x. S.Parts.held (S.parts x) };
+
+    ghost held_fault = { S.Parts.held_fault };
+
+    fn read_held(alloc: Global, holder: usize, blocks: &[ASN1Block]) -> Result<S, TypeErr> {
+        match <S as Named>::Parts::read_held(alloc, holder, blocks) {
+            Ok(parts) => Ok(S::from_parts(parts)),
+            Err(e) => Err(e.named(S::NAMES)),
+        }
+    }
+
+    ghost is_group = { λ x. S.Parts.is_group (S.parts x) };
 }
 
 impl<S: Named> Asn1Write for S {

@@ -1,6 +1,6 @@
 // Where a block is that is not of its type.
 ghost use Rattle.std.specs.Prelude.{◌≡◌, ℕ, MatchOption, slice_get};
-ghost use Rattle.asn1_types.specs.Places.{spot, here, within, next};
+ghost use Rattle.asn1_types.specs.Places.{spot, here, within, next, at_offset};
 ghost use Rattle.asn1_types.specs.declared.place.Step.TheVariants.{Number, Named};
 
 use std::fmt;
@@ -101,6 +101,16 @@ impl Place {
         Place {
             offset: self.offset,
             path,
+        }
+    }
+
+    // The place at another offset.
+    pub(crate) fn at(self, offset: usize) -> Place
+        ensures { spot result ≡ at_offset offset (spot self) }
+    {
+        Place {
+            offset,
+            path: self.path,
         }
     }
 
