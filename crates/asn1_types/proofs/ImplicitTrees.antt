@@ -13,7 +13,6 @@ use Rattle.asn1_writing.specs.Canonical.{all_canonical, canonical, first_write_f
 use Rattle.asn1_writing.proofs.Placed.{EncodesAll-all_canonical, all_placed, length-le_shortest_encoding, shapes-all_placed}
 use Rattle.asn1_writing.proofs.Shapes.{all_canonical-shapes}
 use Rattle.asn1_writing.proofs.WriteSteps.{first_of-none_of_both}
-use Rattle.simple_asn1.specs.HeldBlocks.{HoldsBlocksOf}
 use Rattle.simple_asn1.proofs.HeldItems.{HoldsBlocksOf-unique}
 use Rattle.asn1_types.specs.ImplicitTrees.{BeginsUnder, HoldsUnder, implicit_tree}
 use Rattle.asn1_types.specs.Laws.{first-same}

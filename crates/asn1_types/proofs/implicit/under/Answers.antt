@@ -1,5 +1,5 @@
 -- For `implicit::under`: what it returns is right (`made`).
-use Rattle.std.proofs.Common.{◌≡◌, ◌≢◌, true, length, sym, ap, ◌∙◌}
+use Rattle.std.proofs.Common.{◌≢◌, true, length, sym, ap, ◌∙◌}
 use Rattle.asn1_headers.specs.declared.header.ASN1Class.TheVariants.{ContextSpecific}
 use Rattle.asn1_blocks.proofs.ReadSteps.{view-Unknown}
 use Rattle.asn1_blocks.specs.Tree.{shape, unknown}

@@ -1,12 +1,11 @@
 -- For `Implicit::round_trip`: what it returns is right (`same`, `own`).
-use Rattle.std.proofs.Common.{◌<◌, ◌^◌, length, subst, ◌∙◌, arith}
+use Rattle.std.proofs.Common.{◌≡◌, ◌<◌, ◌^◌, length, subst, ◌∙◌, arith}
 use Rattle.simple_asn1.specs.Conversions.{Decodes, DecodeFails}
 use Rattle.asn1_types.proofs.ImplicitTrees.{held-distinct}
 use Rattle.asn1_types.proofs.ImplicitTrips.{implicit_reads, trip-decode_fault, trip-encode_fault, trip-octets, trip-same}
 use Rattle.asn1_headers.specs.declared.error.ASN1DecodeErr.{ASN1DecodeErr}
 use Rattle.asn1_types.specs.declared.whole.WholeErr.{WholeErr}
 use Rattle.asn1_types.specs.declared.whole.WholeErr.TheVariants.{Decode}
-use Rattle.std.proofs.Common.{◌≡◌}
 use Rattle.asn1_types.proofs.implicit.Implicit.round_trip.Goals as goal
 
 pub returns-in-Err-clause-own : goal.returns-in-Err-clause-own
