@@ -55,7 +55,7 @@ pub use crate::implicit::{Constructed, Implicit};
 pub use crate::last_fields::LastFields;
 pub use crate::leaves::{BitString, Null, OctetString};
 pub use crate::lists::{SequenceOf, SetOf};
-pub use crate::named::Named;
+pub use crate::named::{Named, NamedFields};
 pub use crate::place::{Path, Place, Step};
 pub use crate::strings::{
     Bmp, BmpString, Ia5, Ia5String, Printable, PrintableString, Teletex, TeletexString, Text,
