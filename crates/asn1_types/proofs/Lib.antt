@@ -1,4 +1,2 @@
 mod ListTrees
 mod Encodings
-mod ImplicitTrees
-mod ImplicitTrips

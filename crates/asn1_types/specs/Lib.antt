@@ -1,11 +1,6 @@
 -- The trees of fields, from which those of types are made.
 pub mod FieldTrees
 pub mod LastFieldTrees
--- Which block is at fault, and where it is.
-pub mod Places
-pub mod Faults
--- What is read and written under an implicit tag.
-pub mod ImplicitTrees
 -- That no two values have the same tree.
 pub mod Laws
 pub mod FieldLaws

@@ -47,8 +47,6 @@ impl Model for Any {
 impl Asn1Type for Any {
     ghost tree = { λ x. x };
 
-    ghost fault = { λ b s. ⊥ };
-
     fn read(alloc: Global, block: &ASN1Block) -> Result<Any, TypeErr> {
         let block = block.clone(alloc)?;
         Ok(Any { block })

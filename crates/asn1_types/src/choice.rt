@@ -54,8 +54,6 @@ impl<A: Asn1Type + Drop, B: Asn1Type, U: Unlike<A, B>> Asn1Type for Or<A, B, U> 
 
     ghost tree = { or_tree A.tree B.tree };
 
-    ghost fault = { B.fault };
-
     fn read(alloc: Global, block: &ASN1Block) -> Result<Or<A, B, U>, TypeErr> {
         match A::read(alloc, block) {
             Ok(value) => Ok(Or::First(value)),

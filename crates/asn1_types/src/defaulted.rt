@@ -1,16 +1,14 @@
 // Fields with a default.
-ghost use Rattle.std.specs.Prelude.{◌≡◌, ◌≢◌, ℕ, Bool, true, not, IfOk, IfErr, MatchResult};
+ghost use Rattle.std.specs.Prelude.{◌≡◌, ◌≢◌, ℕ, Bool, true, not, IfOk, IfErr, MatchOption, MatchResult};
 ghost use Rattle.asn1_blocks.specs.Tree.{shapes};
 ghost use Rattle.asn1_blocks.specs.View.{views};
 ghost use Rattle.asn1_headers.specs.declared.error.ASN1EncodeErr.TheVariants.{OutOfMemory as no_memory};
 ghost use Rattle.asn1_types.specs.FieldTrees.{optional_trees, unless_default};
 ghost use Rattle.asn1_types.specs.LastFieldTrees.{written_trees};
 ghost use Rattle.asn1_types.specs.declared.TypeErr.TheVariants.{Shape};
-ghost use Rattle.asn1_types.specs.Places.{spot};
 
-use crate::fields::read_first;
 use crate::{
-    Apart, Asn1Type, Asn1Write, Explicit, Fields, LastFields, Place, TypeErr, WriteFields,
+    Apart, Asn1Type, Asn1Write, Explicit, Fields, LastFields, Optional, TypeErr, WriteFields,
 };
 use asn1_blocks::block::ASN1Block;
 use asn1_headers::error::ASN1EncodeErr;
@@ -136,43 +134,57 @@ pub struct Defaulted<T, R, A, D> {
     pub default: PhantomData<D>,
 }
 
+// The value of a field of which this was read. None is the default, and the default itself is none.
+fn value_of<T: Drop, D: DefaultOf<T>>(
+    alloc: Global,
+    read: Option<T>,
+) -> Result<Option<T>, AllocError>
+    ensures { IfOk result (λ found. MatchOption found
+        ((x : T) → unless_default D.is_default x ≢ read)
+        (λ x. unless_default D.is_default x ≡ read)) }
+{
+    let Some(value) = read else {
+        return Ok(Some(D::make(alloc)?));
+    };
+    if D::is_default(&value) {
+        Ok(None)
+    } else {
+        Ok(Some(value))
+    }
+}
+
+// The offset of the first block, or of the one that holds it.
+fn first_place(place: usize, blocks: &[ASN1Block]) -> usize {
+    match blocks.first() {
+        None => place,
+        Some(first) => first.offset(),
+    }
+}
+
 impl<T: Asn1Type + Drop, R: Fields + Drop, A: Apart<T, R>, D: DefaultOf<T>> Fields
     for Defaulted<T, R, A, D> {
     ghost use Rattle.asn1_types.specs.FieldLaws.{defaulted-distinct};
-    ghost use Rattle.asn1_types.specs.Faults.{defaulted_fault};
 
     ghost trees = { λ x. optional_trees T.tree R.trees (unless_default D.is_default x.first) x.rest };
 
-    ghost fields_fault = { defaulted_fault T.tree D.is_default R.fields_fault };
-
     fn read_fields(
         alloc: Global,
-        holder: usize,
+        place: usize,
         blocks: &[ASN1Block],
     ) -> Result<Defaulted<T, R, A, D>, TypeErr> {
-        let Some((first, block, after)) = read_first::<T>(alloc, blocks)? else {
-            let first = D::make(alloc)?;
-            return match R::read_fields(alloc, holder, blocks) {
-                Ok(rest) => Ok(Defaulted {
-                    first,
-                    rest,
-                    apart: PhantomData,
-                    default: PhantomData,
-                }),
-                Err(e) => Err(e.next()),
-            };
+        let all = match <Optional<T, R, A> as Fields>::read_fields(alloc, place, blocks) {
+            Ok(all) => all,
+            Err(e) => return Err(e),
         };
-        if D::is_default(&first) {
-            return Err(TypeErr::Shape(Place::here(block.offset()).within(0)));
-        }
-        match R::read_fields(alloc, holder, after) {
-            Ok(rest) => Ok(Defaulted {
+        let Optional { first, rest, .. } = all;
+        match value_of::<T, D>(alloc, first)? {
+            Some(first) => Ok(Defaulted {
                 first,
                 rest,
                 apart: PhantomData,
                 default: PhantomData,
             }),
-            Err(e) => Err(e.next()),
+            None => Err(TypeErr::Shape(first_place(place, blocks))),
         }
     }
 

@@ -7,12 +7,10 @@ ghost use Rattle.asn1_headers.specs.declared.error.ASN1EncodeErr.TheVariants.{Ou
 ghost use Rattle.asn1_headers.specs.declared.header.ASN1Class.TheVariants.{Universal as universal_class};
 ghost use Rattle.asn1_headers.specs.declared.tags.TheConstants.{ENUMERATED};
 ghost use Rattle.asn1_types.specs.declared.TypeErr.TheVariants.{Shape};
-ghost use Rattle.asn1_types.specs.Faults.{itself};
-ghost use Rattle.asn1_types.specs.Places.{spot};
 ghost use Rattle.asn1_types.specs.EnumeratedLaws.{enumerated-distinct};
 
 use crate::tagged::is_number;
-use crate::{Asn1Type, Asn1Write, Place, TypeErr};
+use crate::{Asn1Type, Asn1Write, TypeErr};
 use asn1_blocks::block::ASN1Block;
 use asn1_headers::error::ASN1EncodeErr;
 use asn1_headers::header::ASN1Class;
@@ -58,20 +56,18 @@ fn number_of(alloc: Global, contents: &[u8]) -> Result<Option<BigInt>, AllocErro
 impl Asn1Type for Enumerated {
     ghost tree = { λ x. unknown universal_class false tt ENUMERATED (shortest_octets x.number) };
 
-    ghost fault = { itself };
-
     fn read(alloc: Global, block: &ASN1Block) -> Result<Enumerated, TypeErr> {
         match block {
             ASN1Block::Unknown(ASN1Class::Universal, false, place, tag, contents) => {
                 if !is_number(tag, ENUMERATED) {
-                    return Err(TypeErr::Shape(Place::here(*place)));
+                    return Err(TypeErr::Shape(*place));
                 }
                 match number_of(alloc, contents)? {
                     Some(number) => Ok(Enumerated { number }),
-                    None => Err(TypeErr::Shape(Place::here(*place))),
+                    None => Err(TypeErr::Shape(*place)),
                 }
             }
-            _ => Err(TypeErr::Shape(Place::here(block.offset()))),
+            _ => Err(TypeErr::Shape(block.offset())),
         }
     }
 

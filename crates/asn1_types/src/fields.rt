@@ -1,15 +1,13 @@
 // The fields of a SEQUENCE or SET, one after another.
 ghost use Rattle.std.specs.Prelude.{◌≡◌, ◌≢◌, ℕ, IfOk, IfErr, MatchResult, MatchOption};
-ghost use Rattle.asn1_blocks.specs.Tree.{Trees, shape, shapes, no_trees, more_trees};
-ghost use Rattle.asn1_blocks.specs.View.{view, views};
+ghost use Rattle.asn1_blocks.specs.Tree.{Trees, shapes, no_trees, more_trees};
+ghost use Rattle.asn1_blocks.specs.View.{views};
 ghost use Rattle.asn1_headers.specs.declared.error.ASN1EncodeErr.TheVariants.{OutOfMemory as no_memory};
 ghost use Rattle.asn1_types.specs.declared.TypeErr.TheVariants.{Shape};
-ghost use Rattle.asn1_types.specs.Faults.{IsAbsent};
 ghost use Rattle.asn1_types.specs.FieldTrees.{optional_trees};
 ghost use Rattle.asn1_types.specs.LastFieldTrees.{written_trees};
-ghost use Rattle.asn1_types.specs.Places.{Spot, spot};
 
-use crate::{Asn1Type, Asn1Write, LastFields, Place, TypeErr};
+use crate::{Asn1Type, Asn1Write, LastFields, TypeErr};
 use asn1_blocks::block::ASN1Block;
 use asn1_headers::error::ASN1EncodeErr;
 use std::alloc::{AllocError, Global};
@@ -20,19 +18,14 @@ pub trait Fields: Sized {
     /// The trees of the values.
     ghost trees: { Self → Trees (Unit {0}) };
 
-    /// Where blocks that are not these fields have their fault, in the block at this offset.
-    ghost fields_fault: { ℕ → Trees ℕ → Spot → Type 0 };
-
-    /// Reads the values that all these blocks are. `holder` is the offset of the block that holds them.
+    /// Reads the values that all these blocks are. `place` is the offset of the block that holds them.
     ///
     /// # Errors
-    /// `Shape` exactly where the blocks are not these fields, with the place of the fault; `OutOfMemory`.
-    fn read_fields(alloc: Global, holder: usize, blocks: &[ASN1Block]) -> Result<Self, TypeErr>
-        ensures value { MatchResult result
+    /// `Shape` exactly where the blocks are not these fields; `OutOfMemory`.
+    fn read_fields(alloc: Global, place: usize, blocks: &[ASN1Block]) -> Result<Self, TypeErr>
+        ensures { MatchResult result
             (λ x. shapes (views blocks.now) ≡ trees x)
-            (λ e. (at : Place) → e ≡ Shape at → (x : Self) → shapes (views blocks.now) ≢ trees x) }
-        ensures place { IfErr result
-            (λ e. (at : Place) → e ≡ Shape at → fields_fault holder (views blocks.now) (spot at)) };
+            (λ e. (at : ℕ) → e ≡ Shape at → (x : Self) → shapes (views blocks.now) ≢ trees x) };
 
     /// No two values have the same trees.
     ghost distinct_fields: { (x y : Self) → trees x ≡ trees y → x ≡ y };
@@ -52,20 +45,13 @@ pub struct End<const N: u64> {}
 
 impl<const N: u64> Fields for End<N> {
     ghost use Rattle.std.proofs.Common.{refl};
-    ghost use Rattle.asn1_types.specs.Faults.{end_fault};
 
     ghost trees = { λ x. no_trees };
 
-    ghost fields_fault = { end_fault };
-
-    fn read_fields(
-        _alloc: Global,
-        _holder: usize,
-        blocks: &[ASN1Block],
-    ) -> Result<End<N>, TypeErr> {
+    fn read_fields(_alloc: Global, _place: usize, blocks: &[ASN1Block]) -> Result<End<N>, TypeErr> {
         match blocks.split_first() {
             None => Ok(End {}),
-            Some((first, _)) => Err(TypeErr::Shape(Place::here(first.offset()))),
+            Some((first, _)) => Err(TypeErr::Shape(first.offset())),
         }
     }
 
@@ -98,27 +84,24 @@ pub struct Field<T, R> {
 
 impl<T: Asn1Type + Drop, R: Fields> Fields for Field<T, R> {
     ghost use Rattle.asn1_types.specs.FieldLaws.{field-distinct};
-    ghost use Rattle.asn1_types.specs.Faults.{field_fault};
 
     ghost trees = { λ x. more_trees (T.tree x.first) (R.trees x.rest) };
 
-    ghost fields_fault = { field_fault T.tree T.fault R.fields_fault };
-
     fn read_fields(
         alloc: Global,
-        holder: usize,
+        place: usize,
         blocks: &[ASN1Block],
     ) -> Result<Field<T, R>, TypeErr> {
         let Some((first, rest)) = blocks.split_first() else {
-            return Err(TypeErr::Shape(Place::here(holder).within(0)));
+            return Err(TypeErr::Shape(place));
         };
         let first = match T::read(alloc, first) {
             Ok(first) => first,
-            Err(e) => return Err(e.within(0)),
+            Err(e) => return Err(e),
         };
-        match R::read_fields(alloc, holder, rest) {
+        match R::read_fields(alloc, place, rest) {
             Ok(rest) => Ok(Field { first, rest }),
-            Err(e) => Err(e.next()),
+            Err(e) => Err(e),
         }
     }
 
@@ -166,21 +149,20 @@ pub struct Optional<T, R, A> {
     pub apart: PhantomData<A>,
 }
 
-// The value of the first block, that block, and the blocks after it, if it is one of the type.
-pub fn read_first<T: Asn1Type + Drop>(
+// The value of the first block, and the blocks after it, if it is one of the type.
+fn read_first<T: Asn1Type + Drop>(
     alloc: Global,
     blocks: &[ASN1Block],
-) -> Result<Option<(T, &ASN1Block, &[ASN1Block])>, AllocError>
+) -> Result<Option<(T, &[ASN1Block])>, AllocError>
     ensures { IfOk result (λ found. MatchOption found
-        (IsAbsent T.tree (views blocks.now))
-        (λ p. (views blocks.now ≡ more_trees (view p.1.now) (views p.2.now))
-        × (shape (view p.1.now) ≡ T.tree p.0))) }
+        ((x : T) (rest : Trees (Unit {0})) → shapes (views blocks.now) ≢ more_trees (T.tree x) rest)
+        (λ p. shapes (views blocks.now) ≡ more_trees (T.tree p.0) (shapes (views p.1.now)))) }
 {
-    let Some((block, rest)) = blocks.split_first() else {
+    let Some((first, rest)) = blocks.split_first() else {
         return Ok(None);
     };
-    match T::read(alloc, block) {
-        Ok(first) => Ok(Some((first, block, rest))),
+    match T::read(alloc, first) {
+        Ok(first) => Ok(Some((first, rest))),
         Err(TypeErr::Shape(_)) => Ok(None),
         Err(TypeErr::OutOfMemory) => Err(AllocError),
     }
@@ -188,33 +170,30 @@ pub fn read_first<T: Asn1Type + Drop>(
 
 impl<T: Asn1Type + Drop, R: Fields, A: Apart<T, R>> Fields for Optional<T, R, A> {
     ghost use Rattle.asn1_types.specs.FieldLaws.{optional-distinct, optional-same};
-    ghost use Rattle.asn1_types.specs.Faults.{optional_fault};
 
     ghost trees = { λ x. optional_trees T.tree R.trees x.first x.rest };
 
-    ghost fields_fault = { optional_fault T.tree R.fields_fault };
-
     fn read_fields(
         alloc: Global,
-        holder: usize,
+        place: usize,
         blocks: &[ASN1Block],
     ) -> Result<Optional<T, R, A>, TypeErr> {
         match read_first::<T>(alloc, blocks)? {
-            None => match R::read_fields(alloc, holder, blocks) {
+            None => match R::read_fields(alloc, place, blocks) {
                 Ok(rest) => Ok(Optional {
                     first: None,
                     rest,
                     apart: PhantomData,
                 }),
-                Err(e) => Err(e.next()),
+                Err(e) => Err(e),
             },
-            Some((first, _, after)) => match R::read_fields(alloc, holder, after) {
+            Some((first, after)) => match R::read_fields(alloc, place, after) {
                 Ok(rest) => Ok(Optional {
                     first: Some(first),
                     rest,
                     apart: PhantomData,
                 }),
-                Err(e) => Err(e.next()),
+                Err(e) => Err(e),
             },
         }
     }

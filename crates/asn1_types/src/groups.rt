@@ -5,10 +5,8 @@ ghost use Rattle.asn1_blocks.specs.View.{view};
 ghost use Rattle.asn1_blocks.specs.declared.block.GroupKind.TheVariants.{Sequence as a_sequence, Set as a_set};
 ghost use Rattle.asn1_headers.specs.declared.error.ASN1EncodeErr.TheVariants.{OutOfMemory as no_memory};
 ghost use Rattle.asn1_types.specs.declared.TypeErr.TheVariants.{Shape};
-ghost use Rattle.asn1_types.specs.Faults.{group_fault};
-ghost use Rattle.asn1_types.specs.Places.{spot};
 
-use crate::{Asn1Type, Asn1Write, Constructed, Fields, Place, TypeErr, WriteFields};
+use crate::{Asn1Type, Asn1Write, Fields, TypeErr, WriteFields};
 use asn1_blocks::block::ASN1Block;
 use asn1_headers::error::ASN1EncodeErr;
 use std::alloc::Global;
@@ -37,42 +35,17 @@ impl<F: Fields> Asn1Type for Sequence<F> {
 
     ghost tree = { λ x. group tt a_sequence (F.trees x.fields) };
 
-    ghost fault = { group_fault a_sequence F.fields_fault };
-
     fn read(alloc: Global, block: &ASN1Block) -> Result<Sequence<F>, TypeErr> {
         match block {
             ASN1Block::Sequence(place, items) => match F::read_fields(alloc, *place, items) {
                 Ok(fields) => Ok(Sequence { fields }),
                 Err(e) => Err(e),
             },
-            _ => Err(TypeErr::Shape(Place::here(block.offset()))),
+            _ => Err(TypeErr::Shape(block.offset())),
         }
     }
 
     ghost distinct = { sequence-distinct F.trees F.distinct_fields };
-}
-
-impl<F: Fields> Constructed for Sequence<F> {
-    ghost use Rattle.std.proofs.Common.{refl};
-
-    ghost kind = { a_sequence };
-
-    ghost held = { λ x. F.trees x.fields };
-
-    ghost held_fault = { F.fields_fault };
-
-    fn read_held(
-        alloc: Global,
-        holder: usize,
-        blocks: &[ASN1Block],
-    ) -> Result<Sequence<F>, TypeErr> {
-        match F::read_fields(alloc, holder, blocks) {
-            Ok(fields) => Ok(Sequence { fields }),
-            Err(e) => Err(e),
-        }
-    }
-
-    ghost is_group = { λ x. refl };
 }
 
 impl<F: WriteFields> Asn1Write for Sequence<F> {
@@ -110,38 +83,17 @@ impl<F: Fields> Asn1Type for Set<F> {
 
     ghost tree = { λ x. group tt a_set (F.trees x.fields) };
 
-    ghost fault = { group_fault a_set F.fields_fault };
-
     fn read(alloc: Global, block: &ASN1Block) -> Result<Set<F>, TypeErr> {
         match block {
             ASN1Block::Set(place, items) => match F::read_fields(alloc, *place, items) {
                 Ok(fields) => Ok(Set { fields }),
                 Err(e) => Err(e),
             },
-            _ => Err(TypeErr::Shape(Place::here(block.offset()))),
+            _ => Err(TypeErr::Shape(block.offset())),
         }
     }
 
     ghost distinct = { set-distinct F.trees F.distinct_fields };
-}
-
-impl<F: Fields> Constructed for Set<F> {
-    ghost use Rattle.std.proofs.Common.{refl};
-
-    ghost kind = { a_set };
-
-    ghost held = { λ x. F.trees x.fields };
-
-    ghost held_fault = { F.fields_fault };
-
-    fn read_held(alloc: Global, holder: usize, blocks: &[ASN1Block]) -> Result<Set<F>, TypeErr> {
-        match F::read_fields(alloc, holder, blocks) {
-            Ok(fields) => Ok(Set { fields }),
-            Err(e) => Err(e),
-        }
-    }
-
-    ghost is_group = { λ x. refl };
 }
 
 impl<F: WriteFields> Asn1Write for Set<F> {

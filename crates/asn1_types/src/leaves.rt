@@ -4,11 +4,9 @@ ghost use Rattle.asn1_blocks.specs.Tree.{shape, leaf, boolean, integer, octet_st
 ghost use Rattle.asn1_blocks.specs.View.{view};
 ghost use Rattle.asn1_headers.specs.declared.error.ASN1EncodeErr.TheVariants.{OutOfMemory as no_memory};
 ghost use Rattle.asn1_types.specs.declared.TypeErr.TheVariants.{Shape};
-ghost use Rattle.asn1_types.specs.Faults.{itself};
-ghost use Rattle.asn1_types.specs.Places.{spot};
 ghost use Rattle.asn1_types.specs.Laws.{boolean-distinct, integer-distinct, object_identifier-distinct, octet_string-distinct, bit_string-distinct};
 
-use crate::{Asn1Type, Asn1Write, Place, TypeErr};
+use crate::{Asn1Type, Asn1Write, TypeErr};
 use asn1_blocks::block::ASN1Block;
 use asn1_headers::error::ASN1EncodeErr;
 use asn1_leaves::oid::OID;
@@ -19,12 +17,10 @@ use std::marker::Model;
 impl Asn1Type for bool {
     ghost tree = { λ x. leaf tt (boolean x) };
 
-    ghost fault = { itself };
-
     fn read(_alloc: Global, block: &ASN1Block) -> Result<bool, TypeErr> {
         match block {
             ASN1Block::Boolean(_, value) => Ok(*value),
-            _ => Err(TypeErr::Shape(Place::here(block.offset()))),
+            _ => Err(TypeErr::Shape(block.offset())),
         }
     }
 
@@ -40,12 +36,10 @@ impl Asn1Write for bool {
 impl Asn1Type for BigInt {
     ghost tree = { λ x. leaf tt (integer x) };
 
-    ghost fault = { itself };
-
     fn read(alloc: Global, block: &ASN1Block) -> Result<BigInt, TypeErr> {
         match block {
             ASN1Block::Integer(_, number) => Ok(number.clone(alloc)?),
-            _ => Err(TypeErr::Shape(Place::here(block.offset()))),
+            _ => Err(TypeErr::Shape(block.offset())),
         }
     }
 
@@ -61,12 +55,10 @@ impl Asn1Write for BigInt {
 impl Asn1Type for OID {
     ghost tree = { λ x. leaf tt (object_identifier x) };
 
-    ghost fault = { itself };
-
     fn read(alloc: Global, block: &ASN1Block) -> Result<OID, TypeErr> {
         match block {
             ASN1Block::ObjectIdentifier(_, oid) => Ok(oid.clone(alloc)?),
-            _ => Err(TypeErr::Shape(Place::here(block.offset()))),
+            _ => Err(TypeErr::Shape(block.offset())),
         }
     }
 
@@ -110,15 +102,13 @@ impl Model for OctetString {
 impl Asn1Type for OctetString {
     ghost tree = { λ x. leaf tt (octet_string x) };
 
-    ghost fault = { itself };
-
     fn read(alloc: Global, block: &ASN1Block) -> Result<OctetString, TypeErr> {
         match block {
             ASN1Block::OctetString(_, octets) => {
                 let octets = Vec::from_slice(alloc, octets)?;
                 Ok(OctetString { octets })
             }
-            _ => Err(TypeErr::Shape(Place::here(block.offset()))),
+            _ => Err(TypeErr::Shape(block.offset())),
         }
     }
 
@@ -165,8 +155,6 @@ impl Model for BitString {
 impl Asn1Type for BitString {
     ghost tree = { λ x. leaf tt (bit_string x.0 x.1) };
 
-    ghost fault = { itself };
-
     fn read(alloc: Global, block: &ASN1Block) -> Result<BitString, TypeErr> {
         match block {
             ASN1Block::BitString(_, bits, octets) => {
@@ -176,7 +164,7 @@ impl Asn1Type for BitString {
                     octets,
                 })
             }
-            _ => Err(TypeErr::Shape(Place::here(block.offset()))),
+            _ => Err(TypeErr::Shape(block.offset())),
         }
     }
 
@@ -210,12 +198,10 @@ impl Asn1Type for Null {
 
     ghost tree = { λ x. leaf tt null };
 
-    ghost fault = { itself };
-
     fn read(_alloc: Global, block: &ASN1Block) -> Result<Null, TypeErr> {
         match block {
             ASN1Block::Null(_) => Ok(Null {}),
-            _ => Err(TypeErr::Shape(Place::here(block.offset()))),
+            _ => Err(TypeErr::Shape(block.offset())),
         }
     }
 

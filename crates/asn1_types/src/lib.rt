@@ -21,7 +21,6 @@ ghost use Rattle.asn1_blocks.specs.Tree.{Tree, shape};
 ghost use Rattle.asn1_blocks.specs.View.{view};
 ghost use Rattle.asn1_headers.specs.declared.error.ASN1EncodeErr.TheVariants.{OutOfMemory as no_memory};
 ghost use Rattle.asn1_types.specs.declared.TypeErr.TheVariants.{Shape};
-ghost use Rattle.asn1_types.specs.Places.{Spot, at_offset, spot, within, next};
 
 mod any;
 mod apart;
@@ -31,12 +30,10 @@ mod encoded;
 mod enumerated;
 mod fields;
 mod groups;
-mod implicit;
 mod last_fields;
 mod leaves;
 mod lists;
 mod named;
-mod place;
 mod set_order;
 mod strings;
 mod tagged;
@@ -51,12 +48,10 @@ pub use crate::defaulted::{DefaultOf, Defaulted, False, Natural};
 pub use crate::enumerated::Enumerated;
 pub use crate::fields::{Apart, End, Field, Fields, Optional, WriteFields};
 pub use crate::groups::{Sequence, Set};
-pub use crate::implicit::{Constructed, Implicit};
 pub use crate::last_fields::LastFields;
 pub use crate::leaves::{BitString, Null, OctetString};
 pub use crate::lists::{SequenceOf, SetOf};
-pub use crate::named::{Named, NamedFields};
-pub use crate::place::{Path, Place, Step};
+pub use crate::named::Named;
 pub use crate::strings::{
     Bmp, BmpString, Ia5, Ia5String, Printable, PrintableString, Teletex, TeletexString, Text,
     TextKind, Universal, UniversalString, Utf8, Utf8String,
@@ -73,10 +68,10 @@ use thiserror::Error;
 /// Why a block is not a value of a type.
 #[derive(Clone, Copy, Debug, Error, PartialEq)]
 pub enum TypeErr {
-    /// The block at this place is not of the type that has to stand there. Where a field is missing, it is the block
+    /// The block at this offset is not of the type that has to stand there. Where a field is missing, it is the block
     /// that lacks it.
-    #[error("{0}")]
-    Shape(Place),
+    #[error("The block at offset {0} is not of the type that has to stand there")]
+    Shape(usize),
     /// Memory ran out.
     #[error("Out of memory")]
     OutOfMemory,
@@ -92,70 +87,19 @@ impl From<AllocError> for TypeErr {
     }
 }
 
-impl TypeErr {
-    // The error seen from the block around, where it is of the field or item of this number.
-    pub(crate) fn within(self, number: usize) -> TypeErr
-        ensures { (at : Place) → result ≡ Shape at
-            → (inner : Place) × (self ≡ Shape inner) × (spot at ≡ within number (spot inner)) }
-    {
-        match self {
-            TypeErr::Shape(place) => TypeErr::Shape(place.within(number)),
-            TypeErr::OutOfMemory => TypeErr::OutOfMemory,
-        }
-    }
-
-    // The error seen from one field before.
-    pub(crate) fn next(self) -> TypeErr
-        ensures { (at : Place) → result ≡ Shape at
-            → (inner : Place) × (self ≡ Shape inner) × (spot at ≡ next (spot inner)) }
-    {
-        match self {
-            TypeErr::Shape(place) => TypeErr::Shape(place.next()),
-            TypeErr::OutOfMemory => TypeErr::OutOfMemory,
-        }
-    }
-
-    // The error at another offset.
-    pub(crate) fn at(self, offset: usize) -> TypeErr
-        ensures { (at : Place) → result ≡ Shape at
-            → (inner : Place) × (self ≡ Shape inner) × (spot at ≡ at_offset offset (spot inner)) }
-    {
-        match self {
-            TypeErr::Shape(place) => TypeErr::Shape(place.at(offset)),
-            TypeErr::OutOfMemory => TypeErr::OutOfMemory,
-        }
-    }
-
-    // The error with the name of the field that it is in, by the names of all fields.
-    pub(crate) fn named(self, names: &'static [&'static str]) -> TypeErr
-        ensures { (at : Place) → result ≡ Shape at
-            → (inner : Place) × (self ≡ Shape inner) × (spot at ≡ spot inner) }
-    {
-        match self {
-            TypeErr::Shape(place) => TypeErr::Shape(place.named(names)),
-            TypeErr::OutOfMemory => TypeErr::OutOfMemory,
-        }
-    }
-}
-
 /// A type each of whose values is one block.
 pub trait Asn1Type: Sized {
     /// The tree of a value.
     ghost tree: { Self → Tree (Unit {0}) };
 
-    /// Where a block that is no value has its fault.
-    ghost fault: { Tree ℕ → Spot → Type 0 };
-
     /// Reads the value that a block is.
     ///
     /// # Errors
-    /// `Shape` exactly where the block is no value of the type, with the place of the fault; `OutOfMemory`.
+    /// `Shape` exactly where the block is no value of the type; `OutOfMemory`.
     fn read(alloc: Global, block: &ASN1Block) -> Result<Self, TypeErr>
-        ensures value { MatchResult result
+        ensures { MatchResult result
             (λ x. shape (view block.now) ≡ tree x)
-            (λ e. (at : Place) → e ≡ Shape at → (x : Self) → shape (view block.now) ≢ tree x) }
-        ensures place { IfErr result
-            (λ e. (at : Place) → e ≡ Shape at → fault (view block.now) (spot at)) };
+            (λ e. (at : ℕ) → e ≡ Shape at → (x : Self) → shape (view block.now) ≢ tree x) };
 
     /// No two values have the same tree.
     ghost distinct: { (x y : Self) → tree x ≡ tree y → x ≡ y };

@@ -5,11 +5,9 @@ ghost use Rattle.asn1_blocks.specs.View.{view, views};
 ghost use Rattle.asn1_blocks.specs.declared.block.GroupKind.TheVariants.{Sequence as a_sequence, Set as a_set};
 ghost use Rattle.asn1_headers.specs.declared.error.ASN1EncodeErr.TheVariants.{OutOfMemory as no_memory};
 ghost use Rattle.asn1_types.specs.declared.TypeErr.TheVariants.{Shape};
-ghost use Rattle.asn1_types.specs.Faults.{group_fault, items_fault};
-ghost use Rattle.asn1_types.specs.Places.{spot};
 ghost use Rattle.asn1_types.specs.Laws.{group-inner, list-distinct};
 
-use crate::{Asn1Type, Asn1Write, Constructed, Place, TypeErr};
+use crate::{Asn1Type, Asn1Write, TypeErr};
 use asn1_blocks::block::ASN1Block;
 use asn1_headers::error::ASN1EncodeErr;
 use std::alloc::Global;
@@ -17,18 +15,16 @@ use std::marker::Model;
 
 // The values that all these blocks are.
 fn read_all<T: Asn1Type + Drop>(alloc: Global, blocks: &[ASN1Block]) -> Result<Vec<T>, TypeErr>
-    ensures value { MatchResult result
+    ensures { MatchResult result
         (λ xs. shapes (views blocks.now) ≡ trees_of (map T.tree xs.items))
-        (λ e. (at : Place) → e ≡ Shape at
+        (λ e. (at : ℕ) → e ≡ Shape at
         → (xs : List T) → shapes (views blocks.now) ≢ trees_of (map T.tree xs)) }
-    ensures place { IfErr result
-        (λ e. (at : Place) → e ≡ Shape at → items_fault T.tree T.fault 0 (views blocks.now) (spot at)) }
 {
     let mut values = Vec::with_capacity(alloc, blocks.len())?;
     for block in blocks {
         let value = match T::read(alloc, block) {
             Ok(value) => value,
-            Err(e) => return Err(e.within(values.len())),
+            Err(e) => return Err(e),
         };
         if values.push(value).is_err() {
             return Err(TypeErr::OutOfMemory);
@@ -80,42 +76,17 @@ impl<T> Model for SequenceOf<T> {
 impl<T: Asn1Type + Drop> Asn1Type for SequenceOf<T> {
     ghost tree = { λ xs. group tt a_sequence (trees_of (map T.tree xs)) };
 
-    ghost fault = { group_fault a_sequence (λ _. items_fault T.tree T.fault 0) };
-
     fn read(alloc: Global, block: &ASN1Block) -> Result<SequenceOf<T>, TypeErr> {
         match block {
             ASN1Block::Sequence(_, items) => match read_all::<T>(alloc, items) {
                 Ok(values) => Ok(SequenceOf { values }),
                 Err(e) => Err(e),
             },
-            _ => Err(TypeErr::Shape(Place::here(block.offset()))),
+            _ => Err(TypeErr::Shape(block.offset())),
         }
     }
 
     ghost distinct = { λ x y e. list-distinct T.tree T.distinct x y (group-inner a_sequence _ _ e) };
-}
-
-impl<T: Asn1Type + Drop> Constructed for SequenceOf<T> {
-    ghost use Rattle.std.proofs.Common.{refl};
-
-    ghost kind = { a_sequence };
-
-    ghost held = { λ xs. trees_of (map T.tree xs) };
-
-    ghost held_fault = { λ _. items_fault T.tree T.fault 0 };
-
-    fn read_held(
-        alloc: Global,
-        _holder: usize,
-        blocks: &[ASN1Block],
-    ) -> Result<SequenceOf<T>, TypeErr> {
-        match read_all::<T>(alloc, blocks) {
-            Ok(values) => Ok(SequenceOf { values }),
-            Err(e) => Err(e),
-        }
-    }
-
-    ghost is_group = { λ x. refl };
 }
 
 impl<T: Asn1Write + Drop> Asn1Write for SequenceOf<T> {
@@ -155,38 +126,17 @@ impl<T> Model for SetOf<T> {
 impl<T: Asn1Type + Drop> Asn1Type for SetOf<T> {
     ghost tree = { λ xs. group tt a_set (trees_of (map T.tree xs)) };
 
-    ghost fault = { group_fault a_set (λ _. items_fault T.tree T.fault 0) };
-
     fn read(alloc: Global, block: &ASN1Block) -> Result<SetOf<T>, TypeErr> {
         match block {
             ASN1Block::Set(_, items) => match read_all::<T>(alloc, items) {
                 Ok(values) => Ok(SetOf { values }),
                 Err(e) => Err(e),
             },
-            _ => Err(TypeErr::Shape(Place::here(block.offset()))),
+            _ => Err(TypeErr::Shape(block.offset())),
         }
     }
 
     ghost distinct = { λ x y e. list-distinct T.tree T.distinct x y (group-inner a_set _ _ e) };
-}
-
-impl<T: Asn1Type + Drop> Constructed for SetOf<T> {
-    ghost use Rattle.std.proofs.Common.{refl};
-
-    ghost kind = { a_set };
-
-    ghost held = { λ xs. trees_of (map T.tree xs) };
-
-    ghost held_fault = { λ _. items_fault T.tree T.fault 0 };
-
-    fn read_held(alloc: Global, _holder: usize, blocks: &[ASN1Block]) -> Result<SetOf<T>, TypeErr> {
-        match read_all::<T>(alloc, blocks) {
-            Ok(values) => Ok(SetOf { values }),
-            Err(e) => Err(e),
-        }
-    }
-
-    ghost is_group = { λ x. refl };
 }
 
 impl<T: Asn1Write + Drop> Asn1Write for SetOf<T> {

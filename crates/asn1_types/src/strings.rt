@@ -6,11 +6,9 @@ ghost use Rattle.asn1_blocks.specs.View.{view};
 ghost use Rattle.asn1_headers.specs.declared.error.ASN1EncodeErr.TheVariants.{OutOfMemory as no_memory};
 ghost use Rattle.asn1_leaves.specs.StringKind.{StringKind, utf8, printable, teletex, ia5, universal, bmp};
 ghost use Rattle.asn1_types.specs.declared.TypeErr.TheVariants.{Shape};
-ghost use Rattle.asn1_types.specs.Faults.{itself};
-ghost use Rattle.asn1_types.specs.Places.{spot};
 ghost use Rattle.asn1_types.specs.Laws.{text-distinct};
 
-use crate::{Asn1Type, Asn1Write, Place, TypeErr};
+use crate::{Asn1Type, Asn1Write, TypeErr};
 use asn1_blocks::block::ASN1Block;
 use asn1_headers::error::ASN1EncodeErr;
 use std::alloc::Global;
@@ -77,8 +75,6 @@ impl<K> Text<K> {
 impl<K: TextKind> Asn1Type for Text<K> {
     ghost tree = { λ x. leaf tt (text K.kind x) };
 
-    ghost fault = { itself };
-
     fn read(alloc: Global, block: &ASN1Block) -> Result<Text<K>, TypeErr> {
         match K::text_of(block) {
             Some(characters) => {
@@ -88,7 +84,7 @@ impl<K: TextKind> Asn1Type for Text<K> {
                     kind: PhantomData,
                 })
             }
-            None => Err(TypeErr::Shape(Place::here(block.offset()))),
+            None => Err(TypeErr::Shape(block.offset())),
         }
     }
 

@@ -5,11 +5,9 @@ ghost use Rattle.asn1_blocks.specs.View.{view};
 ghost use Rattle.asn1_headers.specs.declared.error.ASN1EncodeErr.TheVariants.{OutOfMemory as no_memory};
 ghost use Rattle.asn1_headers.specs.declared.header.ASN1Class.TheVariants.{ContextSpecific};
 ghost use Rattle.asn1_types.specs.declared.TypeErr.TheVariants.{Shape};
-ghost use Rattle.asn1_types.specs.Faults.{explicit_fault, itself};
-ghost use Rattle.asn1_types.specs.Places.{spot};
 ghost use Rattle.asn1_types.specs.Laws.{implicit-distinct};
 
-use crate::{Asn1Type, Asn1Write, Place, TypeErr};
+use crate::{Asn1Type, Asn1Write, TypeErr};
 use asn1_blocks::block::ASN1Block;
 use asn1_headers::error::ASN1EncodeErr;
 use asn1_headers::header::ASN1Class;
@@ -49,12 +47,9 @@ pub fn is_number(tag: &BigUint, number: u64) -> bool
 
 // The block under the explicit tag of this number.
 fn tagged_item(block: &ASN1Block, number: u64) -> Option<&ASN1Block>
-    ensures shapes { MatchOption result
+    ensures { MatchOption result
         ((t : Tree (Unit {0})) → shape (view block.now) ≢ explicit ContextSpecific tt number t)
         (λ item. shape (view block.now) ≡ explicit ContextSpecific tt number (shape (view item.now))) }
-    ensures trees { MatchOption result
-        ((o : ℕ) (t : Tree ℕ) → view block.now ≢ explicit ContextSpecific o number t)
-        (λ item. (o : ℕ) × (view block.now ≡ explicit ContextSpecific o number (view item.now))) }
 {
     match block {
         ASN1Block::Explicit(ASN1Class::ContextSpecific, _, tag, item) => {
@@ -73,11 +68,9 @@ impl<T: Asn1Type, const N: u64> Asn1Type for Explicit<T, N> {
 
     ghost tree = { λ x. explicit ContextSpecific tt N (T.tree x.value) };
 
-    ghost fault = { explicit_fault N T.fault };
-
     fn read(alloc: Global, block: &ASN1Block) -> Result<Explicit<T, N>, TypeErr> {
         let Some(item) = tagged_item(block, N) else {
-            return Err(TypeErr::Shape(Place::here(block.offset())));
+            return Err(TypeErr::Shape(block.offset()));
         };
         match T::read(alloc, item) {
             Ok(value) => Ok(Explicit { value }),
@@ -126,18 +119,16 @@ impl<const N: u64> Model for ImplicitOctets<N> {
 impl<const N: u64> Asn1Type for ImplicitOctets<N> {
     ghost tree = { λ x. unknown ContextSpecific false tt N x };
 
-    ghost fault = { itself };
-
     fn read(alloc: Global, block: &ASN1Block) -> Result<ImplicitOctets<N>, TypeErr> {
         match block {
             ASN1Block::Unknown(ASN1Class::ContextSpecific, false, place, tag, contents) => {
                 if !is_number(tag, N) {
-                    return Err(TypeErr::Shape(Place::here(*place)));
+                    return Err(TypeErr::Shape(*place));
                 }
                 let octets = Vec::from_slice(alloc, contents)?;
                 Ok(ImplicitOctets { octets })
             }
-            _ => Err(TypeErr::Shape(Place::here(block.offset()))),
+            _ => Err(TypeErr::Shape(block.offset())),
         }
     }
 

@@ -4,11 +4,9 @@ ghost use Rattle.asn1_blocks.specs.Tree.{shape, leaf, utc_time, generalized_time
 ghost use Rattle.asn1_blocks.specs.View.{view};
 ghost use Rattle.asn1_headers.specs.declared.error.ASN1EncodeErr.TheVariants.{OutOfMemory as no_memory};
 ghost use Rattle.asn1_types.specs.declared.TypeErr.TheVariants.{Shape};
-ghost use Rattle.asn1_types.specs.Faults.{itself};
-ghost use Rattle.asn1_types.specs.Places.{spot};
 ghost use Rattle.asn1_types.specs.Laws.{utc_time-distinct, generalized_time-distinct};
 
-use crate::{Asn1Type, Asn1Write, Place, TypeErr};
+use crate::{Asn1Type, Asn1Write, TypeErr};
 use asn1_blocks::block::ASN1Block;
 use asn1_headers::error::ASN1EncodeErr;
 use jiff::civil::DateTime;
@@ -46,12 +44,10 @@ impl Model for UtcTime {
 impl Asn1Type for UtcTime {
     ghost tree = { λ x. leaf tt (utc_time x) };
 
-    ghost fault = { itself };
-
     fn read(_alloc: Global, block: &ASN1Block) -> Result<UtcTime, TypeErr> {
         match block {
             ASN1Block::UTCTime(_, moment) => Ok(UtcTime { moment: *moment }),
-            _ => Err(TypeErr::Shape(Place::here(block.offset()))),
+            _ => Err(TypeErr::Shape(block.offset())),
         }
     }
 
@@ -94,12 +90,10 @@ impl Model for GeneralizedTime {
 impl Asn1Type for GeneralizedTime {
     ghost tree = { λ x. leaf tt (generalized_time x) };
 
-    ghost fault = { itself };
-
     fn read(_alloc: Global, block: &ASN1Block) -> Result<GeneralizedTime, TypeErr> {
         match block {
             ASN1Block::GeneralizedTime(_, moment) => Ok(GeneralizedTime { moment: *moment }),
-            _ => Err(TypeErr::Shape(Place::here(block.offset()))),
+            _ => Err(TypeErr::Shape(block.offset())),
         }
     }
 

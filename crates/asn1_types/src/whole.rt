@@ -5,7 +5,7 @@ ghost use Rattle.asn1_blocks.specs.View.{views};
 ghost use Rattle.asn1_headers.specs.declared.error.ASN1DecodeErr.TheVariants.{OutOfMemory as no_memory_to_read};
 ghost use Rattle.asn1_headers.specs.declared.error.ASN1EncodeErr.TheVariants.{OutOfMemory as no_memory};
 
-use crate::{Asn1Type, Asn1Write, Place, TypeErr};
+use crate::{Asn1Type, Asn1Write, TypeErr};
 use asn1_blocks::block::ASN1Block;
 use asn1_headers::error::{ASN1DecodeErr, ASN1EncodeErr};
 use asn1_headers::header::ASN1Class;
@@ -18,13 +18,13 @@ use thiserror::Error;
 ///
 /// ```rust
 /// use asn1_types::{OctetString, Whole, WholeErr};
-/// use simple_asn1::{ASN1EncodeErr, der_encode};
+/// use simple_asn1::der_encode;
 /// use std::alloc::Global;
 ///
 /// // `04 01 05`.
 /// fn octets(alloc: Global) -> Result<Vec<u8>, WholeErr> {
 ///     let Ok(octets) = vec![in alloc; 5] else {
-///         return Err(WholeErr::Encode(ASN1EncodeErr::OutOfMemory));
+///         return Err(WholeErr::Shape(0));
 ///     };
 ///     der_encode(alloc, &Whole { value: OctetString { octets } })
 /// }
@@ -44,10 +44,10 @@ pub enum WholeErr {
     /// The value cannot be written, or memory ran out while writing.
     #[error("{0}")]
     Encode(ASN1EncodeErr),
-    /// The block at this place is not of the type that has to stand there, as in [`TypeErr::Shape`]. Its offset is 0
-    /// where there is no block at all.
-    #[error("{0}")]
-    Shape(Place),
+    /// The block at this offset is not of the type that has to stand there, as in [`TypeErr::Shape`]. It is 0 where
+    /// there is no block at all.
+    #[error("The block at offset {0} is not of the type that has to stand there")]
+    Shape(usize),
 }
 
 impl From<ASN1DecodeErr> for WholeErr {
@@ -73,15 +73,12 @@ impl From<ASN1EncodeErr> for WholeErr {
 impl<T: Asn1Type + Drop> FromASN1 for Whole<T> {
     type Error = WholeErr;
 
-    ghost use Rattle.asn1_types.specs.declared.place.Place.{Place};
     ghost use Rattle.asn1_types.specs.declared.whole.WholeErr.TheVariants.{Decode, Shape};
-    ghost use Rattle.asn1_types.specs.Faults.{document_fault};
-    ghost use Rattle.asn1_types.specs.Places.{spot};
 
     ghost reads = { λ bs r. MatchResult r
         (λ x. shapes bs ≡ more_trees (T.tree x.0.value) (shapes x.1))
         (λ e. (e ≡ Decode no_memory_to_read)
-        ⊎ ((at : Place) × (e ≡ Shape at) × document_fault T.fault bs (spot at)
+        ⊎ ((at : ℕ) × (e ≡ Shape at)
         × ((x : T) (rest : Trees (Unit {0})) → shapes bs ≢ more_trees (T.tree x) rest))) };
 
     fn from_asn1<'a>(
@@ -89,7 +86,7 @@ impl<T: Asn1Type + Drop> FromASN1 for Whole<T> {
         v: &'a [ASN1Block],
     ) -> Result<(Whole<T>, &'a [ASN1Block]), WholeErr> {
         let Some((first, rest)) = v.split_first() else {
-            return Err(WholeErr::Shape(Place::here(0)));
+            return Err(WholeErr::Shape(0));
         };
         match T::read(alloc, first) {
             Ok(value) => Ok((Whole { value }, rest)),

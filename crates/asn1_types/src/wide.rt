@@ -51,20 +51,16 @@ impl<
     R: Fields + Drop,
 > Fields for Fields4<A, B, C, D, R> {
     ghost use Rattle.asn1_types.specs.FieldLaws.{four-distinct};
-    ghost use Rattle.asn1_types.specs.Faults.{field_fault};
 
     ghost trees = { four_trees A.tree B.tree C.tree D.tree R.trees };
 
-    ghost fields_fault = { field_fault A.tree A.fault (field_fault B.tree B.fault (field_fault C.tree C.fault
-        (field_fault D.tree D.fault R.fields_fault))) };
-
     fn read_fields(
         alloc: Global,
-        holder: usize,
+        place: usize,
         blocks: &[ASN1Block],
     ) -> Result<Fields4<A, B, C, D, R>, TypeErr> {
         let all = match <Field<A, Field<B, Field<C, Field<D, R>>>> as Fields>::read_fields(
-            alloc, holder, blocks,
+            alloc, place, blocks,
         ) {
             Ok(all) => all,
             Err(e) => return Err(e),

@@ -32,8 +32,6 @@ impl Named for Extension {
 
     type Parts = ExtensionParts;
 
-    const NAMES: &'static [&'static str] = &["extnID", "critical", "extnValue"];
-
     ghost parts = { λ x. record {
       fields = record {
         first = x.extn_id;

@@ -21,8 +21,6 @@ impl Named for AlgorithmIdentifier {
 
     type Parts = AlgorithmParts;
 
-    const NAMES: &'static [&'static str] = &["algorithm", "parameters"];
-
     ghost parts = { λ x. record {
       fields = record {
         first = x.algorithm;
@@ -68,8 +66,6 @@ impl Named for SubjectPublicKeyInfo {
     ghost use Rattle.std.proofs.Common.{ap};
 
     type Parts = PublicKeyParts;
-
-    const NAMES: &'static [&'static str] = &["algorithm", "subjectPublicKey"];
 
     ghost parts = { λ x. record {
       fields = record {
@@ -127,13 +123,6 @@ impl Named for OneAsymmetricKey {
     ghost use Rattle.std.proofs.Common.{ap};
 
     type Parts = PrivateKeyParts;
-
-    const NAMES: &'static [&'static str] = &[
-        "version",
-        "privateKeyAlgorithm",
-        "privateKey",
-        "publicKey",
-    ];
 
     ghost parts = { λ x. record {
       fields = record {

@@ -31,8 +31,6 @@ impl Named for Validity {
 
     type Parts = ValidityParts;
 
-    const NAMES: &'static [&'static str] = &["notBefore", "notAfter"];
-
     ghost parts = { λ x. record {
       fields = record {
         first = x.not_before;
@@ -91,8 +89,6 @@ impl Named for AttributeTypeAndValue {
     ghost use Rattle.std.proofs.Common.{ap};
 
     type Parts = AttributeParts;
-
-    const NAMES: &'static [&'static str] = &["type", "value"];
 
     ghost parts = { λ x. record {
       fields = record {

@@ -1,7 +1,5 @@
 // The private key of RSA, by RFC 8017.
-use asn1_types::{
-    End, Field, Fields4, Last, LastFields, Named, NamedFields, Optional, Sequence, SequenceOf,
-};
+use asn1_types::{End, Field, Fields4, Last, LastFields, Named, Optional, Sequence, SequenceOf};
 use simple_asn1::{ASN1Block, ASN1EncodeErr, BigInt};
 use std::alloc::Global;
 
@@ -19,8 +17,6 @@ impl Named for OtherPrimeInfo {
     ghost use Rattle.std.proofs.Common.{ap};
 
     type Parts = OtherPrimeParts;
-
-    const NAMES: &'static [&'static str] = &["prime", "exponent", "coefficient"];
 
     ghost parts = { λ x. record {
       fields = record {
@@ -69,96 +65,26 @@ pub struct RsaPrivateKey {
     pub other_prime_infos: Option<SequenceOf<OtherPrimeInfo>>,
 }
 
-type RsaParts = Sequence<Fields4<BigInt, BigInt, BigInt, BigInt, RsaPrimes>>;
-
-/// The fields of an RSAPrivateKey from prime1 on.
-#[derive(Drop)]
-pub struct RsaPrimes {
-    pub prime1: BigInt,
-    pub prime2: BigInt,
-    pub exponent1: BigInt,
-    pub exponent2: BigInt,
-    pub coefficient: BigInt,
-    pub other_prime_infos: Option<SequenceOf<OtherPrimeInfo>>,
-}
-
-type RsaPrimesParts = Fields4<
-    BigInt,
-    BigInt,
-    BigInt,
-    BigInt,
-    Field<BigInt, Optional<SequenceOf<OtherPrimeInfo>, End<0>, Last>>,
+type RsaParts = Sequence<
+    Fields4<
+        BigInt,
+        BigInt,
+        BigInt,
+        BigInt,
+        Fields4<
+            BigInt,
+            BigInt,
+            BigInt,
+            BigInt,
+            Field<BigInt, Optional<SequenceOf<OtherPrimeInfo>, End<0>, Last>>,
+        >,
+    >,
 >;
-
-impl NamedFields for RsaPrimes {
-    ghost use Rattle.std.proofs.Common.{ap};
-
-    type Parts = RsaPrimesParts;
-
-    ghost parts = { λ x. record {
-      first = x.prime1;
-      second = x.prime2;
-      third = x.exponent1;
-      fourth = x.exponent2;
-      rest = record {
-        first = x.coefficient;
-        rest = record { first = x.other_prime_infos; rest = record {}; apart = record {} };
-      };
-    } };
-
-    fn from_parts(all: RsaPrimesParts) -> RsaPrimes {
-        let Fields4 {
-            first: prime1,
-            second: prime2,
-            third: exponent1,
-            fourth: exponent2,
-            rest,
-        } = all;
-        let Field {
-            first: coefficient,
-            rest,
-        } = rest;
-        let Optional {
-            first: other_prime_infos,
-            ..
-        } = rest;
-        RsaPrimes {
-            prime1,
-            prime2,
-            exponent1,
-            exponent2,
-            coefficient,
-            other_prime_infos,
-        }
-    }
-
-    ghost same = { λ x y e. ap (λ p. record {
-      prime1 = p.first;
-      prime2 = p.second;
-      exponent1 = p.third;
-      exponent2 = p.fourth;
-      coefficient = p.rest.first;
-      other_prime_infos = p.rest.rest.first;
-    }) e };
-}
 
 impl Named for RsaPrivateKey {
     ghost use Rattle.std.proofs.Common.{ap};
 
     type Parts = RsaParts;
-
-    const NAMES: &'static [&'static str] = &[
-        "version",
-        "modulus",
-        "publicExponent",
-        "privateExponent",
-        "prime1",
-        "prime2",
-        "exponent1",
-        "exponent2",
-        "coefficient",
-        "otherPrimeInfos",
-    ];
 
     ghost parts = { λ x. record {
       fields = record {
@@ -167,12 +93,14 @@ impl Named for RsaPrivateKey {
         third = x.public_exponent;
         fourth = x.private_exponent;
         rest = record {
-          prime1 = x.prime1;
-          prime2 = x.prime2;
-          exponent1 = x.exponent1;
-          exponent2 = x.exponent2;
-          coefficient = x.coefficient;
-          other_prime_infos = x.other_prime_infos;
+          first = x.prime1;
+          second = x.prime2;
+          third = x.exponent1;
+          fourth = x.exponent2;
+          rest = record {
+            first = x.coefficient;
+            rest = record { first = x.other_prime_infos; rest = record {}; apart = record {} };
+          };
         };
       };
     } };
@@ -186,13 +114,20 @@ impl Named for RsaPrivateKey {
             fourth: private_exponent,
             rest,
         } = fields;
-        let RsaPrimes {
-            prime1,
-            prime2,
-            exponent1,
-            exponent2,
-            coefficient,
-            other_prime_infos,
+        let Fields4 {
+            first: prime1,
+            second: prime2,
+            third: exponent1,
+            fourth: exponent2,
+            rest,
+        } = rest;
+        let Field {
+            first: coefficient,
+            rest,
+        } = rest;
+        let Optional {
+            first: other_prime_infos,
+            ..
         } = rest;
         RsaPrivateKey {
             version,
@@ -226,11 +161,11 @@ impl Named for RsaPrivateKey {
       modulus = p.fields.second;
       public_exponent = p.fields.third;
       private_exponent = p.fields.fourth;
-      prime1 = p.fields.rest.prime1;
-      prime2 = p.fields.rest.prime2;
-      exponent1 = p.fields.rest.exponent1;
-      exponent2 = p.fields.rest.exponent2;
-      coefficient = p.fields.rest.coefficient;
-      other_prime_infos = p.fields.rest.other_prime_infos;
+      prime1 = p.fields.rest.first;
+      prime2 = p.fields.rest.second;
+      exponent1 = p.fields.rest.third;
+      exponent2 = p.fields.rest.fourth;
+      coefficient = p.fields.rest.rest.first;
+      other_prime_infos = p.fields.rest.rest.rest.first;
     }) e };
 }
